@@ -1,0 +1,17 @@
+//! The functions that document 01 lists, compiled from the Rust's own text and run on sheets.
+//!
+//! `Sheet::load` asks questions 1 to 5, `analyze` is the Rust alone, `answer` adds what the observers see.
+
+mod answer;
+mod listing;
+mod outside;
+mod sheet;
+mod verifier;
+
+// The cut text names this path.
+use outside::instruction_effects;
+
+pub use answer::{answer, record, request, Answer, Budget, Closed, Outcome, Table, NAMES};
+pub use listing::listing;
+pub use sheet::{Sheet, LIMITS};
+pub use verifier::{analyze, fresh, sizes, successors, Facts, Spent};
