@@ -3,6 +3,9 @@
 //! `Sheet::load` asks questions 1 to 5, `analyze` is the Rust alone, `answer` adds what the observers see.
 
 mod answer;
+pub mod draft;
+pub mod generate;
+pub mod inputs;
 mod listing;
 mod outside;
 mod sheet;

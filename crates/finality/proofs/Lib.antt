@@ -1,0 +1,12 @@
+pub mod Joins
+pub mod Potential
+pub mod Invariant
+pub mod Final
+pub mod Fuel
+pub mod Work
+pub mod Steps
+pub mod Demand
+pub mod Metered
+pub mod Lawful
+pub mod Cells
+pub mod Memory

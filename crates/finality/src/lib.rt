@@ -1,0 +1,1 @@
+// Demand 3, proved about the definitions of crate `model`. There is no code here: the theorems are in proofs/.
