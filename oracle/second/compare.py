@@ -74,13 +74,22 @@ def read_mutants():
 
 
 def mutated(source, old, new):
+    """The source with one line changed: the only one that reads so, in the function named before "::" if any."""
     lines = source.split('\n')
-    places = [i for i, line in enumerate(lines) if line.strip() == old.strip()]
-    if len(places) != 1:
-        sys.exit('mutants.txt: %d lines read %r' % (len(places), old.strip()))
+    inside, _, old = old.rpartition(' :: ')
+    first, last = body(lines, inside) if inside else (0, len(lines))
+    places = [i for i in range(first, last) if lines[i].strip() == old]
+    if len(places) != 1 or old == new:
+        sys.exit('mutants.txt: %d lines read %r' % (len(places), old))
     indent = len(lines[places[0]]) - len(lines[places[0]].lstrip())
-    lines[places[0]] = ' ' * indent + new.strip()
+    lines[places[0]] = ' ' * indent + new.replace('\\n', '\n')
     return '\n'.join(lines)
+
+
+def body(lines, function):
+    first = next(i for i, line in enumerate(lines) if line.lstrip().startswith('def %s(' % function))
+    last = next((i for i in range(first + 1, len(lines)) if lines[i][:1].strip()), len(lines))
+    return first, last
 
 
 def told_apart(facts, batch):
@@ -89,15 +98,16 @@ def told_apart(facts, batch):
         try:
             if not agrees(facts, record, listing):
                 return number
-        except (ArithmeticError, LookupError, TypeError, ValueError, struct.error):
+        except (ArithmeticError, AssertionError, LookupError, TypeError, ValueError, struct.error):
             return number
     return None
 
 
 def mutants():
     source, batch, wrong, told, never = open(SOURCE).read(), list(read_batch(sys.stdin.buffer)), 0, 0, 0
-    for name, old, new, reason in read_mutants():
-        number = told_apart(load(mutated(source, old, new), name), batch)
+    changed = [(name, mutated(source, old, new), reason) for name, old, new, reason in read_mutants()]
+    for name, text, reason in changed:
+        number = told_apart(load(text, name), batch)
         told, never = told + (number is not None), never + (number is None)
         if (number is None) != (reason is not None):
             wrong += 1

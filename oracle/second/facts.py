@@ -1,7 +1,7 @@
 """Document 01 implemented a second time, from its text and for comparison alone.
 
 It shares nothing with the oracle but the bytes of a sheet. A fact is a pair (kind, value) as in "Tables", a written
-slot a span of whole numbers. Each line that mutants.txt changes stands here once.
+slot a span of whole numbers. mutants.txt changes one line at a time.
 """
 import struct
 
@@ -247,8 +247,7 @@ def closure(sheet, edges, seeds, mask, budget):
 def constant_seeds(sheet):
     for op, _, _, b, c in sheet.code:
         if op == MAP_NEW:
-            yield b
-            yield b + 1
+            yield from (b, b + 1)
         elif op in (ARRAY_NEW, SLICE_NEW, PTR_NEW, QUEUE_NEW, INDEX_CHECK):
             yield b
         elif op == SLICE_APPEND:
@@ -270,8 +269,7 @@ def container_seeds(sheet):
         elif op in (MAP_GET, MAP_ITER_NEXT, MAP_LEN, QUEUE_RECV, SELECT_RECV, QUEUE_LEN, QUEUE_CAP):
             yield b
         elif op == MAP_ITER_INIT:
-            yield a
-            yield b
+            yield from (a, b)
 
 
 # Join
@@ -332,7 +330,7 @@ def constant_written(sheet, pc, slot, read):
 def folded(op, left, right):
     """"Shl and Or fold only two facts from 0 to 2^64 − 1.\""""
     if left[0] != 2 or right[0] != 2:
-        return UNKNOWN
+        return UNKNOWN  # of a Conflict too
     if op == OR:
         return (2, left[1] | right[1])
     if right[1] >= 64:
@@ -352,16 +350,16 @@ def container_written(sheet, pc, slot, read):
     if op == QUEUE_NEW and slot == a and note == QUEUE_NOTE:
         return (QUEUE, first * 65536)
     if op == MAP_ITER_INIT and slot == a:
-        kind, value = read(b)
-        if kind in (MAP, ITERATOR):
-            return (ITERATOR, value)
-        return CONFLICT if kind == 1 else UNKNOWN
+        return iterator_of(read(b), (MAP, ITERATOR))
     if op == MAP_ITER_NEXT and b <= slot < b + 7:
-        kind, value = read(b)
-        if kind == ITERATOR:
-            return (ITERATOR, value)
-        return CONFLICT if kind == 1 else UNKNOWN
+        return iterator_of(read(b), (ITERATOR,))
     return copied(sheet.code[pc], slot, read) or UNKNOWN
+
+
+def iterator_of(fact, kinds):
+    if fact[0] in kinds:
+        return (ITERATOR, fact[1])
+    return CONFLICT if fact == CONFLICT else UNKNOWN
 
 
 def checked(fact):
@@ -396,7 +394,7 @@ class Table:
 
 
 def transfer(sheet, analysis, table, constants, pc, row):
-    place = table.place
+    place, out = table.place, list(row)
 
     def read(slot):
         return row[place[slot]] if slot in place else UNKNOWN
@@ -405,7 +403,6 @@ def transfer(sheet, analysis, table, constants, pc, row):
     spans = spans_at(sheet, pc)
     if analysis is INDEX:
         spans = checked_span(sheet, pc, read(instruction[3])) or spans
-    out = list(row)
     for i, slot in enumerate(table.slots):
         if holds(spans, slot):
             out[i] = analysis.written(sheet, pc, slot, read)
@@ -432,22 +429,24 @@ def param_facts(sheet, table, row, budget):
     if slot is None:
         return
     for width, kind, first, second in sheet.params:
-        if kind != 0:
-            budget.take_bytes(len(sheet.layouts[first]))
-            if kind == 1:
-                budget.take_bytes(len(sheet.layouts[second]))
-            if slot in table.place:
-                row[table.place[slot]] = (MAP, first * 65536 + second) if kind == 1 else (QUEUE, first * 65536)
+        used = ((), (first, second), (first,))[kind]
+        for layout in used:
+            budget.take_bytes(len(sheet.layouts[layout]))
+        fact = (None, (MAP, first * 65536 + second), (QUEUE, first * 65536))[kind]
+        if fact is not None and slot in table.place:
+            row[table.place[slot]] = fact
         slot += width
 
 
 def charge_notes(sheet, budget):
-    for (op, _, _, _, _), (note, first, second) in zip(sheet.code, sheet.notes):
+    for (op, *_), (note, first, second) in zip(sheet.code, sheet.notes):
+        used = ()
         if op == MAP_NEW and note == MAP_NEW_NOTE:
-            budget.take_bytes(len(sheet.layouts[first]))
-            budget.take_bytes(len(sheet.layouts[second]))
+            used = (first, second)
         if op == QUEUE_NEW and note == QUEUE_NOTE:
-            budget.take_bytes(len(sheet.layouts[first]))
+            used = (first,)
+        for layout in used:
+            budget.take_bytes(len(sheet.layouts[layout]))
 
 
 def run(sheet, analysis, slots, flow, constants, budget):
@@ -464,6 +463,7 @@ def run(sheet, analysis, slots, flow, constants, budget):
     while listed:
         pc = listed.pop()
         table.pops += 1
+        assert table.pops <= sheet.n * (1 + 2 * len(slots))  # a mistake could keep the run from ending
         budget.take_work(len(slots))
         out = transfer(sheet, analysis, table, constants, pc, rows[pc])
         for target in flow[pc]:
@@ -520,18 +520,18 @@ def table_bytes(table):
 def listing(data):
     if len(data) > 65536:
         return 'too large\n'
-    budget, closed = Budget(FRESH, FRESH), []
+    budget, closed, stop = Budget(FRESH, FRESH), [], None
     try:
         sheet = read_sheet(data)
         if sheet.n > 256 or sheet.locals > 4096:
             return 'too large\n'
         tables = call(sheet, budget, closed)
-    except Stop as stop:
-        if any(s > 32 for s, _, _ in closed):
-            return 'too large\n'
-        return 'refused %d\n' % stop.number
+    except Stop as raised:
+        stop = raised
     if any(s > 32 for s, _, _ in closed):
         return 'too large\n'
+    if stop:
+        return 'refused %d\n' % stop.number
     shows = (constant_text, lambda _, fact: 'checked %d' % fact[1], container_text)
     parts = [part(sheet, *each) for each in zip(('constant', 'index', 'container'), tables, shows)]
     return ''.join(parts) + 'left %d %d\n' % (budget.bytes, budget.work)

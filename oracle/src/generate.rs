@@ -1,7 +1,7 @@
 //! Sheets and budgets by seed: the same seed and number give the same sheet and budget.
 
 use crate::answer::{answer, Budget, Outcome};
-use crate::draft::{line, Draft, Line, Param, Writes};
+use crate::draft::{imm, line, Draft, Line, Param, Writes};
 use crate::sheet::LIMITS;
 use crate::verifier::fresh;
 
@@ -51,8 +51,19 @@ pub struct Shape {
     odd_range: u64,
     odd_note: u64,
     odd_slot: u64,
-    params: bool,
+    start: Start,
+    budget: fn(&mut Rng, &[u8]) -> Budget,
     damaged: bool,
+}
+
+/// What the first four instructions do.
+#[derive(PartialEq)]
+enum Start {
+    Anything,
+    /// Slots 1 and 2 are Checked by the numbers that slot 0 is loaded with.
+    Checked,
+    /// Two containers, made on two ways, meet in one slot.
+    Joined,
 }
 
 const PLAIN: Shape = Shape {
@@ -64,7 +75,8 @@ const PLAIN: Shape = Shape {
     odd_range: 10,
     odd_note: 10,
     odd_slot: 5,
-    params: true,
+    start: Start::Anything,
+    budget: any_budget,
     damaged: false,
 };
 
@@ -91,12 +103,12 @@ pub const SHAPES: &[Shape] = &[
     Shape { name: "high slots", ops: COPIES, lines: (1, 6), locals: (65529, 65535), odd_slot: 0, ..PLAIN },
     Shape { name: "visitors", err: 40, ..PLAIN },
     Shape { name: "ranges", odd_range: 80, locals: (2, 9), ..PLAIN },
-    Shape { name: "slot sets", ops: SLOT_SETS, lines: (4, 12), locals: (2, 9), odd_note: 40, ..PLAIN },
-    Shape { name: "layouts", ops: LAYOUTS, lines: (3, 12), locals: (2, 9), ..PLAIN },
+    Shape { name: "slot sets", ops: SLOT_SETS, lines: (2, 8), locals: (3, 7), odd_note: 40, start: Start::Checked, ..PLAIN },
+    Shape { name: "layouts", ops: LAYOUTS, lines: (1, 8), locals: (2, 9), start: Start::Joined, ..PLAIN },
     Shape { name: "parameters", ops: LAYOUTS, lines: (1, 4), locals: (1, 8), ..PLAIN },
     Shape { name: "folds", ops: FOLDS, lines: (4, 14), locals: (2, 4), odd_slot: 1, odd_range: 2, ..PLAIN },
-    Shape { name: "checks", ops: CHECKS, lines: (4, 12), locals: (2, 4), odd_slot: 1, ..PLAIN },
-    Shape { name: "closures", ops: CLOSURES, lines: (3, 14), locals: (3, 12), odd_slot: 2, ..PLAIN },
+    Shape { name: "checks", ops: CHECKS, lines: (2, 10), locals: (3, 5), odd_slot: 1, start: Start::Checked, ..PLAIN },
+    Shape { name: "closures", ops: CLOSURES, lines: (6, 18), locals: (3, 7), odd_slot: 2, budget: at_charge, ..PLAIN },
     Shape { name: "long", lines: (20, 60), locals: (4, 12), err: 1, odd_range: 4, ..PLAIN },
     Shape { name: "damaged", lines: (0, 4), damaged: true, ..PLAIN },
 ];
@@ -107,7 +119,7 @@ pub fn generated(seed: u64, number: u64) -> (Vec<u8>, Budget) {
     let mut rng = Rng::new(seed, number);
     let draft = draft(&mut rng, shape);
     let sheet = if shape.damaged { damaged(&mut rng, draft) } else { draft.bytes() };
-    let budget = budget(&mut rng, &sheet);
+    let budget = (shape.budget)(&mut rng, &sheet);
     (sheet, budget)
 }
 
@@ -116,7 +128,7 @@ pub fn large(seed: u64, number: u64) -> Vec<u8> {
     let mut rng = Rng::new(seed, number);
     let shape = match number % 3 {
         0 => Shape { name: "many instructions", lines: (150, 400), locals: (3, 5), err: 0, odd_range: 2, ..PLAIN },
-        1 => Shape { name: "many slots", ops: COPIES, lines: (20, 40), locals: (40, 64), err: 0, ..PLAIN },
+        1 => Shape { name: "many slots", ops: COPIES, lines: (50, 80), locals: (64, 80), err: 0, ..PLAIN },
         _ => Shape { name: "both", lines: (60, 120), locals: (16, 32), err: 0, odd_range: 2, ..PLAIN },
     };
     draft(&mut rng, &shape).bytes()
@@ -128,15 +140,31 @@ fn draft(rng: &mut Rng, shape: &Shape) -> Draft {
     draft.layouts = (0..rng.below(5)).map(|_| layout(rng)).collect();
     draft.constants = (0..rng.below(6)).map(|_| (u8::from(!rng.percent(15)), wide_value(rng))).collect();
     draft.lines = (0..n).map(|pc| any_line(rng, shape, &draft, pc as i64, n as i64)).collect();
-    if shape.params {
-        add_params(rng, &mut draft);
-    }
+    let start = start(rng, &shape.start, &draft);
+    draft.lines.splice(0..0, start);
+    add_params(rng, &mut draft);
     draft
+}
+
+fn start(rng: &mut Rng, start: &Start, draft: &Draft) -> Vec<Line> {
+    match start {
+        Start::Anything => Vec::new(),
+        Start::Checked => {
+            let lens = [0, 1, 1, 2, 3, 65535, 65535, 32768, 21846, 65536, -1];
+            let mut check = |slot| [imm(1, 0, rng.pick(&lens)), line(121, slot, 0, 0)];
+            [check(1), check(2)].concat()
+        }
+        Start::Joined => {
+            let op = rng.pick(&[89, 96]);
+            let mut made = || with_note(rng, &PLAIN, draft, line(op, 0, 1, 0));
+            vec![imm(58, 1, 3), made(), imm(57, 0, 2), made()]
+        }
+    }
 }
 
 /// Short and of few kinds, so that equal contents under different numbers are common; sometimes empty.
 fn layout(rng: &mut Rng) -> Vec<u8> {
-    (0..rng.pick(&[0, 1, 1, 1, 2, 2, 3])).map(|_| rng.pick(&[0, 0, 1, 5])).collect()
+    (0..rng.pick(&[0, 0, 1, 1, 1, 2, 2, 3])).map(|_| rng.pick(&[0, 0, 1, 5])).collect()
 }
 
 /// Values around which LoadConst, the folds and IndexCheck change what they do.
@@ -154,9 +182,12 @@ fn slot(rng: &mut Rng, shape: &Shape, locals: u16) -> u16 {
     if rng.percent(shape.odd_slot) || locals == 0 {
         return rng.pick(&[locals, locals.saturating_add(1), 65535, 65534, 65530]);
     }
-    // Of many slots the last few: there CopyN and ranges reach past 65,535.
-    let reach = if locals > 1000 { 8 } else { u64::from(locals) };
-    locals - 1 - rng.below(reach) as u16
+    // Of many slots the last few, where CopyN and ranges reach past 65,535, and the first, to which they do not wrap.
+    match locals {
+        0..1000 => rng.below(u64::from(locals)) as u16,
+        _ if rng.percent(40) => rng.below(4) as u16,
+        _ => locals - 1 - rng.below(8) as u16,
+    }
 }
 
 fn any_line(rng: &mut Rng, shape: &Shape, draft: &Draft, pc: i64, n: i64) -> Line {
@@ -173,6 +204,7 @@ fn any_line(rng: &mut Rng, shape: &Shape, draft: &Draft, pc: i64, n: i64) -> Lin
     }
     match op {
         2 => b = rng.below(draft.constants.len() as u64 + 2) as u16,
+        6 | 8 if shape.start == Start::Checked && rng.percent(60) => b = rng.pick(&[1, 2]),
         4 => c = copy_count(rng),
         124 => c = if rng.percent(5) { rng.next() as u16 } else { (target - pc - 1) as u16 },
         _ => {}
@@ -348,11 +380,11 @@ fn damage_layout(rng: &mut Rng, draft: &mut Draft, kind: u64) {
 }
 
 /// Fresh, wide, small, or such that a charge is one short or just covered.
-fn budget(rng: &mut Rng, sheet: &[u8]) -> Budget {
+fn any_budget(rng: &mut Rng, sheet: &[u8]) -> Budget {
     match rng.below(10) {
         0..=3 => fresh(),
         4 => Budget { bytes: wide_amount(rng), work: wide_amount(rng) },
-        5 => Budget { bytes: rng.below(400), work: rng.below(40) },
+        5 => Budget { bytes: rng.below(4000), work: rng.below(200) },
         _ => short(rng, sheet),
     }
 }
@@ -383,6 +415,12 @@ fn short(rng: &mut Rng, sheet: &[u8]) -> Budget {
     };
     let enough = amount - spent.remaining + spent.requested;
     limited(rng.pick(&[amount, enough - 1, enough]))
+}
+
+/// Some charge of the run, one short of it or just enough for it.
+fn at_charge(rng: &mut Rng, sheet: &[u8]) -> Budget {
+    let budgets = boundaries(sheet);
+    if budgets.is_empty() { fresh() } else { rng.pick(&budgets) }
 }
 
 /// Every charge of the run that is not 0: a budget one short of it and one that just covers it.

@@ -63,6 +63,10 @@ pub fn cases() -> Vec<Case> {
         case("Or of a Conflict is Unknown", or_of_conflict(), Cell(0, 5, 1, 0, 0)),
         case("a later parameter without container", two_params_at_one_slot(), Cell(2, 0, 0, 2, 65536)),
         case("a map in MapIterNext's b is Unknown", iter_next_of_map(), Cell(2, 2, 0, 0, 0)),
+        case("MapIterNext covers the slot 6 above b", iter_next_at(1), Cell(2, 3, 7, 3, 65536)),
+        case("MapIterNext leaves the slot 7 above b", iter_next_at(1), Cell(2, 3, 8, 0, 0)),
+        case("MapIterNext does not wrap at 65,536", iter_next_at(65531), Cell(2, 3, 0, 0, 0)),
+        case("CopyN does not wrap at 65,536", copy_n_at_end(), Cell(0, 2, 2, 0, 0)),
     ]
 }
 
@@ -165,6 +169,24 @@ fn iter_next_of_map() -> Draft {
     Draft { layouts: vec![vec![0]], ..Draft::of(2, code) }
 }
 
+/// An iterator in slot b, and MapIterNext of it with a visitor that errs; slots 0, 7 and 8 are tracked.
+fn iter_next_at(b: u16) -> Draft {
+    let code = vec![
+        line(89, 9, 10, 0).noted(1, 1, 0),
+        line(94, b, 9, 0),
+        line(95, 9, b, 0).erring(),
+        line(90, 10, 0, 0),
+        line(90, 10, 7, 0),
+        line(90, 10, 8, 0),
+    ];
+    Draft { layouts: vec![vec![], vec![3]], ..Draft::of(65535, code) }
+}
+
+/// Slot 2 would lie in a CopyN from 65,530 on, with the source 9, if it wrapped.
+fn copy_n_at_end() -> Draft {
+    Draft::of(65535, vec![imm(1, 9, 7), line(4, 65530, 1, 10).erring(), line(121, 0, 9, 0), line(121, 0, 2, 0)])
+}
+
 /// Every kind of charge in one sheet.
 fn rich() -> Draft {
     let code = vec![
@@ -234,6 +256,42 @@ pub fn short(step: usize) -> impl Iterator<Item = Request> {
     lengths().map(|sheet| (sheet, fresh())).chain(ones).chain(twos)
 }
 
+/// One damage each of a sheet that has something of everything, for refusals 3 to 5; unused layout numbers do none.
+fn damages() -> Vec<Vec<u8>> {
+    let rich = rich();
+    let y = rich.layouts.len() as u16;
+    let mut drafts = Vec::new();
+    let mut damage = |change: &dyn Fn(&mut Draft)| {
+        let mut draft = rich.clone();
+        change(&mut draft);
+        drafts.push(draft.bytes());
+    };
+    damage(&|draft| draft.lines[0].note.0 = 4);
+    damage(&|draft| draft.constants[0].0 = 2);
+    damage(&|draft| draft.params[0].1 = 3);
+    damage(&|draft| draft.layouts[0][0] = 6);
+    for (line, _) in rich.lines.iter().enumerate() {
+        damage(&|draft| draft.lines[line].note.1 = y);
+        damage(&|draft| draft.lines[line].note.2 = y);
+    }
+    for (param, _) in rich.params.iter().enumerate() {
+        damage(&|draft| draft.params[param].2 = y);
+        damage(&|draft| draft.params[param].3 = y);
+    }
+    let whole = rich.bytes();
+    drafts.extend([whole[..whole.len() - 1].to_vec(), [&whole[..], &[0]].concat()]);
+    let counts = (0..rich.lines.len()).map(|i| rich.write_counts_at() + 2 * i);
+    let lengths = (0..rich.layouts.len()).map(|i| rich.layout_lengths_at() + 2 * i);
+    for place in counts.chain(lengths) {
+        for byte in [whole[place].wrapping_add(1), whole[place].wrapping_sub(1)] {
+            let mut sheet = whole.clone();
+            sheet[place] = byte;
+            drafts.push(sheet);
+        }
+    }
+    drafts
+}
+
 /// Each size at its limit and one past it, and the limits of the program `facts`.
 pub fn limits() -> Vec<Vec<u8>> {
     let worked = worked().bytes();
@@ -265,14 +323,14 @@ pub fn limits() -> Vec<Vec<u8>> {
     sheets
 }
 
-/// A good sheet of this many bytes: one instruction, constants of 9 bytes and layouts of 2.
+/// A good sheet of this many bytes: one instruction (15), constants (9 each), ranges (6 each) and a layout for the rest.
 fn sized(length: usize) -> Vec<u8> {
-    let rest = length - 55;
-    let constants = (0..9).find(|odd| (rest - 9 * odd) % 2 == 0).unwrap() + 4000;
-    let layouts = vec![vec![]; 1000];
-    let kinds = rest - 9 * constants - 2 * layouts.len() - 2;
-    let all = layouts.into_iter().chain([vec![0; kinds.min(16384)]]).collect();
-    Draft { constants: vec![(1, 7); constants], layouts: all, ..Draft::of(1, vec![line(121, 0, 0, 0)]) }.bytes()
+    let constants = vec![(1, 7); 4000];
+    let rest = length - 40 - 15 - 9 * constants.len();
+    let ranges = rest / 6 - 1;
+    let layout = vec![0; rest - 6 * ranges - 2];
+    let line = line(121, 0, 0, 0).writing(&vec![(9, 1); ranges]);
+    Draft { constants, layouts: vec![layout], ..Draft::of(1, vec![line]) }.bytes()
 }
 
 /// Cases, readings, limits and the boundaries of two sheets: what every comparison begins with.
@@ -286,6 +344,7 @@ pub fn fixed() -> Vec<Request> {
     out.push((worked().bytes(), Budget { bytes: 0, work: 0 }));
     // "n 0, L 1, bytes 0: 7 with stage 3, requested 1, remaining 0"
     out.push((Draft::of(1, vec![]).bytes(), Budget { bytes: 0, ..fresh() }));
+    out.extend(damages().into_iter().map(with(fresh())));
     out.extend(limits().into_iter().map(with(fresh())));
     out.extend(lengths().map(with(fresh())));
     out

@@ -10,3 +10,7 @@ pub mod Metered
 pub mod Lawful
 pub mod Cells
 pub mod Memory
+pub mod Marks
+pub mod Places
+pub mod Closure
+pub mod Call

@@ -1,17 +1,19 @@
 -- Demand 3 of a run's rows is demand 3 of its tables as they lie in memory.
 -- Assumes nothing.
 use mathlib.Core.Path.{_≡_, refl, sym, ap, ap₂, _∙_}
-use mathlib.Core.List.{List, [], _∷_, map, List·Memᴰ as Member}
+use mathlib.Core.List.{List, [], _∷_, _++_, map, List·Memᴰ as Member}
 use mathlib.Core.Option.{Option, none, some}
-use Prim.Native.Nat.{ℕ, zero, suc, _*_, _<_, suc-le-suc}
+use Prim.Native.Nat.{ℕ, zero, suc, _+_, _*_, _≤_, _<_, suc-le-suc}
+use native.Mathlib.Nat.{mul-le-mul-right}
 use native.Mathlib.Omega.{arith}
-use lib.ListN.{length, getD, take, drop}
+use lib.ListN.{length, getD, take, drop, replicate, length-drop}
+use lib.Seq.{take-append-le, drop-append-le}
 use Rattle.model.specs.Fact.{Fact, unknown, conflict, known, kind, value, Row, joinRow}
 use Rattle.model.specs.Run.{Analysis, rowAt}
 use Rattle.model.specs.Tables.{presentByte, presentBytes, rowCells, cells, factOf, factsOf, tableRow}
 use Rattle.model.specs.Demand.{Reachable, Present, Settled, Final, Shows, SettledTable, FinalTable}
 use Rattle.finality.proofs.Invariant.{none-some}
-use Rattle.finality.proofs.Cells.{present-at, cells-part}
+use Rattle.finality.proofs.Cells.{present-at, length-cells, cells-part}
 
 fact-back : (f : Fact) → factOf (kind f) (value f) ≡ f
 unfolding factOf kind value
@@ -30,43 +32,87 @@ present-below [] p r e = absurd (none-some r e)
 present-below (o ∷ os) zero r e = omega arith
 present-below (o ∷ os) (suc p) r e = suc-le-suc (present-below os p r e)
 
+-- ---- tables with zeros behind them
+
+-- past the end a table of bytes reads 0 all the same
+zeros-read : (k p : ℕ) → _≡_ {A = ℕ} (getD (replicate k 0) p 0) 0
+zeros-read zero p = refl
+zeros-read (suc k) zero = refl
+zeros-read (suc k) (suc p) = zeros-read k p
+
+padded-read : (xs : List ℕ) (k p : ℕ) → getD (xs ++ replicate k 0) p 0 ≡ getD xs p 0
+padded-read [] k p = zeros-read k p
+padded-read (x ∷ xs) k zero = refl
+padded-read (x ∷ xs) k (suc p) = padded-read xs k p
+
+-- what lies inside a table is not touched by what lies behind it
+padded-part : (xs ys : List ℕ) (at s : ℕ) → at + s ≤ length xs → take s (drop at (xs ++ ys)) ≡ take s (drop at xs)
+padded-part xs ys at s h =
+    let inside : at ≤ length xs = omega arith in
+    let rest : s ≤ length (drop at xs) = omega (arith, length-drop at xs) in
+    rw (drop-append-le, take-append-le)
+
+row-inside : (p n s : ℕ) → p < n → p * s + s ≤ n * s
+row-inside p n s h = omega (arith, mul-le-mul-right s h)
+
+-- ---- rows and tables
+
 -- the present byte is 1 exactly where there is a row
-pub shown : (rows : List (Option Row)) (p : ℕ) (r : Row) → rowAt rows p ≡ some r → Shows (presentBytes rows) p
+pub shown : (rows : List (Option Row)) (k p : ℕ) (r : Row) → rowAt rows p ≡ some r → Shows (presentBytes rows ++ replicate k 0) p
 unfolding presentByte
-shown rows p r e = rw (present-at rows p, e)
+shown rows k p r e = rw (padded-read (presentBytes rows) k p, present-at rows p, e)
 
 shown-row : (o : Option Row) → presentByte o ≡ 1 → (r : Row) × (o ≡ some r)
 unfolding presentByte
 shown-row none e = let z : _≡_ {A = ℕ} 0 1 = cc in absurd (omega arith)
 shown-row (some r) e = (r, refl)
 
-pub row-shown : (rows : List (Option Row)) (p : ℕ) → Shows (presentBytes rows) p → Present rows p
-row-shown rows p e = shown-row (rowAt rows p) (sym (present-at rows p) ∙ e)
+pub row-shown : (rows : List (Option Row)) (k p : ℕ) → Shows (presentBytes rows ++ replicate k 0) p → Present rows p
+row-shown rows k p e = shown-row (rowAt rows p) (sym (padded-read (presentBytes rows) k p ∙ present-at rows p) ∙ e)
 
-module _ (s : ℕ) (rows : List (Option Row)) (sized : (p : ℕ) (r : Row) → rowAt rows p ≡ some r → length r ≡ s) where
+module _ (s : ℕ) (rows : List (Option Row)) (sized : (p : ℕ) (r : Row) → rowAt rows p ≡ some r → length r ≡ s) (ks vs : List ℕ) where
+  cells-at : (f : Fact → ℕ) (ys : List ℕ) (p : ℕ) (r : Row) → rowAt rows p ≡ some r → take s (drop (p * s) (cells f s rows ++ ys)) ≡ map f r
+  unfolding rowCells
+  cells-at f ys p r e =
+      let below : p < length rows = present-below rows p r e in
+      padded-part (cells f s rows) ys (p * s) s (rw (length-cells f s rows sized) (row-inside p (length rows) s below))
+      ∙ cells-part f s rows p sized below
+      ∙ ap (rowCells f s) e
+
   -- the row of an instruction is the part of both tables from p × s
-  pub row-part : (p : ℕ) (r : Row) → rowAt rows p ≡ some r → tableRow s (cells kind s rows) (cells value s rows) p ≡ r
-  unfolding tableRow rowCells
-  row-part p r e =
-      rw (cells-part kind s rows p sized (present-below rows p r e), cells-part value s rows p sized (present-below rows p r e), e) (facts-back r)
+  pub row-part : (p : ℕ) (r : Row) → rowAt rows p ≡ some r → tableRow s (cells kind s rows ++ ks) (cells value s rows ++ vs) p ≡ r
+  unfolding tableRow
+  row-part p r e = rw (cells-at kind ks p r e, cells-at value vs p r e) (facts-back r)
 
-module _ (a : Analysis) (rows : List (Option Row)) (f : Final a rows) where
-  part : (p : ℕ) (r : Row) → rowAt rows p ≡ some r → tableRow (a .s) (cells kind (a .s) rows) (cells value (a .s) rows) p ≡ r
-  part = row-part (a .s) rows (f .row-length)
+-- Final rows are final tables, with any number of zero present bytes and anything behind the kinds and the values.
+module _ (a : Analysis) (rows : List (Option Row)) (f : Final a rows) (k : ℕ) (ks vs : List ℕ) where
+  present : List ℕ
+  present = presentBytes rows ++ replicate k 0
 
-  settled-table : (p : ℕ) → Present rows p → (q : ℕ) → Member q (a .successors p)
-      → SettledTable a (presentBytes rows) (cells kind (a .s) rows) (cells value (a .s) rows) p q
+  kinds : List ℕ
+  kinds = cells kind (a .s) rows ++ ks
+
+  values : List ℕ
+  values = cells value (a .s) rows ++ vs
+
+  part : (p : ℕ) (r : Row) → rowAt rows p ≡ some r → tableRow (a .s) kinds values p ≡ r
+  unfolding kinds values
+  part = row-part (a .s) rows (f .row-length) ks vs
+
+  settled-table : (p : ℕ) → Present rows p → (q : ℕ) → Member q (a .successors p) → SettledTable a present kinds values p q
+  unfolding present
   settled-table p x q m =
-      let k : Settled a rows p (x .0) q = f .settled p (x .0) (x .1) q m in record {
-        shows = shown rows q (k .row) (k .present);
-        carried = rw (part p (x .0) (x .1)) (k .carried);
-        unchanged = rw (part p (x .0) (x .1), part q (k .row) (k .present)) (k .unchanged);
+      let h : Settled a rows p (x .0) q = f .settled p (x .0) (x .1) q m in record {
+        shows = shown rows k q (h .row) (h .present);
+        carried = rw (part p (x .0) (x .1)) (h .carried);
+        unchanged = rw (part p (x .0) (x .1), part q (h .row) (h .present)) (h .unchanged);
       }
 
-  pub final-table : FinalTable a (presentBytes rows) (cells kind (a .s) rows) (cells value (a .s) rows)
+  pub final-table : FinalTable a (presentBytes rows ++ replicate k 0) (cells kind (a .s) rows ++ ks) (cells value (a .s) rows ++ vs)
+  unfolding present kinds values
   final-table = record {
-    only-reachable = λ p e. f .only-reachable p (row-shown rows p e);
-    all-reachable = λ p w. let x : Present rows p = f .all-reachable p w in shown rows p (x .0) (x .1);
-    settled = λ p e q m. settled-table p (row-shown rows p e) q m;
-    row-length = λ p e. let x : Present rows p = row-shown rows p e in rw (part p (x .0) (x .1)) (f .row-length p (x .0) (x .1));
+    only-reachable = λ p e. f .only-reachable p (row-shown rows k p e);
+    all-reachable = λ p w. let x : Present rows p = f .all-reachable p w in shown rows k p (x .0) (x .1);
+    settled = λ p e q m. settled-table p (row-shown rows k p e) q m;
+    row-length = λ p e. let x : Present rows p = row-shown rows k p e in rw (part p (x .0) (x .1)) (f .row-length p (x .0) (x .1));
   }

@@ -39,6 +39,10 @@ pub given : {A : Type 0} (a : A) (budget : VerifierResources) {b : A} {left : Ve
 unfolding give
 given a budget e = cc
 
+pub left-given : {A : Type 0} (a : A) (budget : VerifierResources) {b : A} {left : VerifierResources} → give a budget ≡ ok b left → budget ≡ left
+unfolding give
+left-given a budget e = cc
+
 -- ---- that it finishes
 
 -- a part that finishes, whatever the budget

@@ -14,7 +14,7 @@ use Rattle.model.specs.Closure.{Marked, mark, unmarked, trackedSlots}
 use Rattle.model.specs.Fact.{Fact, unknown}
 use Rattle.model.specs.Run.{Analysis, finished, bound, run}
 use Rattle.model.specs.Analyses.{Analysed, Facts, analysis, lengthFacts, chargeMatrix, firstRow, chargeFlow}
-use Rattle.model.specs.Call.{Table, tables}
+use Rattle.model.specs.Call.{Table, tables, filledTable}
 use Rattle.model.specs.Lookup.{ascends}
 use Rattle.model.specs.Demand.{Final, FinalTable, Demand3}
 use Rattle.model.specs.declared.VerifierResources.{VerifierResources}
@@ -60,14 +60,15 @@ pub record Made (which : AnalysisKind) (sheet : List ℕ) (lengthFact : ℕ → 
   pub ran : run (analysisOf which sheet lengthFact a) (a .started .work) ≡ finished (a .rows) (a .pops) (after .work)
   pub bytes : after .bytes ≡ a .started .bytes
 
--- Demand 3 of an analysis of a call: of its run, of its rows, and of its tables in memory.
+-- Demand 3 of an analysis of a call: of its slots, of its run, of its rows, and of its tables in memory.
 pub record Demanded (which : AnalysisKind) (sheet : List ℕ) (lengthFact : ℕ → Fact) (a : Analysed) : Type 0 where
   pub slots : TrackedExactly which sheet (a .slots)
   pub run : Demand3 (analysisOf which sheet lengthFact a) (a .started .work)
   pub pops : a .pops ≤ bound (analysisOf which sheet lengthFact a)
   pub rows : 0 < codeCount sheet → 0 < length (a .slots) → Final (analysisOf which sheet lengthFact a) (a .rows)
-  pub memory : 0 < codeCount sheet → 0 < length (a .slots)
-      → FinalTable (analysisOf which sheet lengthFact a) (tables a .present) (tables a .kinds) (tables a .values)
+  -- of the tables as they lie in what was lent, whatever that held before
+  pub memory : (old : Table) → 0 < codeCount sheet → 0 < length (a .slots)
+      → FinalTable (analysisOf which sheet lengthFact a) (filledTable (tables a) old .present) (filledTable (tables a) old .kinds) (filledTable (tables a) old .values)
 
 -- ---- the three
 
