@@ -1,8 +1,9 @@
 """Compares the oracle's answers with those of facts.py, whole or with one line changed.
 
-  agree < BATCH       every record and listing of a batch; prints the number compared
-  mutants < BATCH     each mistake of mutants.txt is told apart by the batch, but those marked as never
-  coverage < RECORDS  what the recorded answers cover
+  agree < BATCH             every record and listing of a batch; prints the number compared
+  mutants [SHARE] < BATCH   each mistake of mutants.txt is told apart by the batch, but those marked as never, which
+                            are tried on the first SHARE records
+  coverage < RECORDS        what the recorded answers cover
 """
 import collections
 import os
@@ -41,9 +42,12 @@ def read_batch(stream):
         yield record, stream.read(length).decode()
 
 
-def agrees(facts, record, listing):
-    return facts.answer(record.sheet, record.bytes, record.work) == record.answer \
-        and facts.listing(record.sheet) == listing
+def same_answer(facts, record, _):
+    return facts.answer(record.sheet, record.bytes, record.work) == record.answer
+
+
+def same_listing(facts, record, listing):
+    return facts.listing(record.sheet) == listing
 
 
 def agree():
@@ -51,7 +55,7 @@ def agree():
     different, compared = [], 0
     for record, listing in read_batch(sys.stdin.buffer):
         compared += 1
-        if not agrees(facts, record, listing):
+        if not (same_answer(facts, record, listing) and same_listing(facts, record, listing)):
             different.append((record, listing))
     if not different:
         print('%d sheets with budgets: both implementations agree' % compared)
@@ -93,28 +97,28 @@ def body(lines, function):
 
 
 def told_apart(facts, batch):
-    """The number of the first record that tells this implementation from the oracle, or None."""
-    for number, (record, listing) in enumerate(batch):
-        try:
-            if not agrees(facts, record, listing):
+    """The number of a record that tells this implementation from the oracle, or None; answers are asked first."""
+    for same in (same_answer, same_listing):
+        for number, (record, listing) in enumerate(batch):
+            try:
+                if not same(facts, record, listing):
+                    return number
+            except (ArithmeticError, AssertionError, LookupError, TypeError, ValueError, struct.error):
                 return number
-        except (ArithmeticError, AssertionError, LookupError, TypeError, ValueError, struct.error):
-            return number
     return None
 
 
-def mutants():
-    source, batch, wrong, told, never = open(SOURCE).read(), list(read_batch(sys.stdin.buffer)), 0, 0, 0
+def mutants(share=None):
+    source, batch = open(SOURCE).read(), list(read_batch(sys.stdin.buffer))
     changed = [(name, mutated(source, old, new), reason) for name, old, new, reason in read_mutants()]
+    told, never, wrong = 0, 0, 0
     for name, text, reason in changed:
-        number = told_apart(load(text, name), batch)
+        number = told_apart(load(text, name), batch[:int(share)] if reason and share else batch)
         told, never = told + (number is not None), never + (number is None)
         if (number is None) != (reason is not None):
             wrong += 1
             print('not told apart:' if number is None else 'told apart after all, by record %d:' % number, name)
-        if '--list' in sys.argv:
-            print('%6s  %s' % ('never' if number is None else number, name))
-    print('%d mistakes told apart by %d sheets, %d marked as never' % (told, len(batch), never))
+    print('%d mistakes told apart by %d sheets, %d that no sheet can tell apart' % (told, len(batch), never))
     return 1 if wrong else 0
 
 
@@ -142,4 +146,4 @@ def sizes_of(record):
 
 
 if __name__ == '__main__':
-    sys.exit({'agree': agree, 'mutants': mutants, 'coverage': coverage}[sys.argv[1]]())
+    sys.exit({'agree': agree, 'mutants': mutants, 'coverage': coverage}[sys.argv[1]](*sys.argv[2:]))

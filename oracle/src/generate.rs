@@ -90,6 +90,7 @@ const BRANCHES: &[u8] = &[57, 58, 58, 59, 59, 124, 124, 1, 1, 1, 121, 121, 3, 64
 const COPIES: &[u8] = &[4, 4, 4, 3, 1, 1, 121, 121, 5, 89, 96, 58, 91, 97];
 const SLOT_SETS: &[u8] = &[6, 6, 8, 8, 8, 5, 7, 1, 1, 121, 121, 121, 58, 3];
 const LAYOUTS: &[u8] = &[89, 89, 89, 96, 96, 94, 94, 95, 95, 3, 4, 58, 59, 57, 124, 91, 98];
+const VISITORS: &[u8] = &[1, 2, 3, 4, 5, 6, 6, 7, 8, 8, 49, 53, 57, 58, 64, 89, 91, 94, 95, 96, 98, 121, 124, 0];
 const FOLDS: &[u8] = &[1, 2, 2, 2, 53, 53, 53, 49, 49, 49, 121, 13, 58, 3];
 const CHECKS: &[u8] = &[1, 1, 2, 2, 121, 121, 121, 5, 6, 58, 59, 57, 3];
 const CLOSURES: &[u8] = &[3, 3, 3, 4, 49, 53, 94, 94, 13, 5, 6, 87, 89, 121, 91, 90];
@@ -101,9 +102,17 @@ pub const SHAPES: &[Shape] = &[
     Shape { name: "tiny", lines: (0, 2), locals: (0, 2), ..PLAIN },
     Shape { name: "copies", ops: COPIES, lines: (2, 9), odd_slot: 12, ..PLAIN },
     Shape { name: "high slots", ops: COPIES, lines: (1, 6), locals: (65529, 65535), odd_slot: 0, ..PLAIN },
-    Shape { name: "visitors", err: 40, ..PLAIN },
+    Shape { name: "visitors", ops: VISITORS, err: 40, locals: (3, 7), start: Start::Checked, ..PLAIN },
     Shape { name: "ranges", odd_range: 80, locals: (2, 9), ..PLAIN },
-    Shape { name: "slot sets", ops: SLOT_SETS, lines: (2, 8), locals: (3, 7), odd_note: 40, start: Start::Checked, ..PLAIN },
+    Shape {
+        name: "slot sets",
+        ops: SLOT_SETS,
+        lines: (2, 8),
+        locals: (3, 7),
+        odd_note: 40,
+        start: Start::Checked,
+        ..PLAIN
+    },
     Shape { name: "layouts", ops: LAYOUTS, lines: (1, 8), locals: (2, 9), start: Start::Joined, ..PLAIN },
     Shape { name: "parameters", ops: LAYOUTS, lines: (1, 4), locals: (1, 8), ..PLAIN },
     Shape { name: "folds", ops: FOLDS, lines: (4, 14), locals: (2, 4), odd_slot: 1, odd_range: 2, ..PLAIN },
@@ -128,7 +137,7 @@ pub fn large(seed: u64, number: u64) -> Vec<u8> {
     let mut rng = Rng::new(seed, number);
     let shape = match number % 3 {
         0 => Shape { name: "many instructions", lines: (150, 400), locals: (3, 5), err: 0, odd_range: 2, ..PLAIN },
-        1 => Shape { name: "many slots", ops: COPIES, lines: (50, 80), locals: (64, 80), err: 0, ..PLAIN },
+        1 => Shape { name: "many slots", ops: COPIES, lines: (90, 120), locals: (64, 68), err: 0, ..PLAIN },
         _ => Shape { name: "both", lines: (60, 120), locals: (16, 32), err: 0, odd_range: 2, ..PLAIN },
     };
     draft(&mut rng, &shape).bytes()
@@ -170,12 +179,20 @@ fn layout(rng: &mut Rng) -> Vec<u8> {
 /// Values around which LoadConst, the folds and IndexCheck change what they do.
 fn wide_value(rng: &mut Rng) -> i64 {
     let near = [0, 1, 2, 3, 7, 9, 62, 63, 64, 65, 65535, 65536, -1, -2, i64::MAX, i64::MIN, 1 << 62, 1 << 32];
-    if rng.percent(10) { rng.next() as i64 } else { rng.pick(&near) }
+    if rng.percent(10) {
+        rng.next() as i64
+    } else {
+        rng.pick(&near)
+    }
 }
 
 fn imm_value(rng: &mut Rng) -> i32 {
     let near = [0, 1, 2, 3, 7, 7, 9, 9, 63, 64, 65535, 65536, -1, -1, i32::MAX, i32::MIN];
-    if rng.percent(10) { rng.next() as i32 } else { rng.pick(&near) }
+    if rng.percent(10) {
+        rng.next() as i32
+    } else {
+        rng.pick(&near)
+    }
 }
 
 fn slot(rng: &mut Rng, shape: &Shape, locals: u16) -> u16 {
@@ -216,7 +233,11 @@ fn any_line(rng: &mut Rng, shape: &Shape, draft: &Draft, pc: i64, n: i64) -> Lin
 }
 
 fn copy_count(rng: &mut Rng) -> u16 {
-    if rng.percent(6) { rng.pick(&[65535, 65534, 40000, 300]) } else { rng.below(5) as u16 }
+    if rng.percent(6) {
+        rng.pick(&[65535, 65534, 40000, 300])
+    } else {
+        rng.below(5) as u16
+    }
 }
 
 fn with_note(rng: &mut Rng, shape: &Shape, draft: &Draft, line: Line) -> Line {
@@ -420,7 +441,11 @@ fn short(rng: &mut Rng, sheet: &[u8]) -> Budget {
 /// Some charge of the run, one short of it or just enough for it.
 fn at_charge(rng: &mut Rng, sheet: &[u8]) -> Budget {
     let budgets = boundaries(sheet);
-    if budgets.is_empty() { fresh() } else { rng.pick(&budgets) }
+    if budgets.is_empty() {
+        fresh()
+    } else {
+        rng.pick(&budgets)
+    }
 }
 
 /// Every charge of the run that is not 0: a budget one short of it and one that just covers it.

@@ -10,7 +10,7 @@ use crate::verifier::{fresh, successors};
 pub type Request = (Vec<u8>, Budget);
 
 pub const RECORDED_SEED: u64 = 1;
-const RECORDED_GENERATED: u64 = 4000;
+const RECORDED_GENERATED: u64 = 5000;
 const RECORDED_LARGE: u64 = 9;
 const RECORDED_LONGEST: usize = 20_000;
 
@@ -221,8 +221,7 @@ fn lengths() -> impl Iterator<Item = Vec<u8>> {
 }
 
 /// One opcode of each class: branches, loads, copies, folds, seeds and writers that the rules tell apart.
-const CLASSES: &[u8] =
-    &[1, 2, 3, 4, 5, 6, 8, 13, 49, 53, 57, 58, 124, 64, 87, 89, 90, 91, 94, 95, 96, 121, 0];
+const CLASSES: &[u8] = &[1, 2, 3, 4, 5, 6, 8, 13, 49, 53, 57, 58, 124, 64, 87, 89, 90, 91, 94, 95, 96, 121, 0];
 
 /// Instructions of all classes with fields 0 to 2.
 pub const SINGLES: usize = CLASSES.len() * 27;
@@ -254,6 +253,15 @@ pub fn short(step: usize) -> impl Iterator<Item = Request> {
     let pairs = (0..SINGLES * SINGLES).step_by(step);
     let twos = pairs.map(|i| (script(vec![single(i / SINGLES), single(i % SINGLES)]), fresh()));
     lengths().map(|sheet| (sheet, fresh())).chain(ones).chain(twos)
+}
+
+/// Every opcode byte between a load and a use, once with its own ranges and once with a visitor that errs.
+fn every_byte() -> impl Iterator<Item = Vec<u8>> {
+    (0..=255).flat_map(|op| {
+        let own = line(op, 0, 1, 2).noted(if op == 89 { 1 } else { 2 }, 0, 0);
+        [own.clone(), own.erring()]
+            .map(|middle| script(vec![imm(1, 0, 7), middle, line(121, 1, 0, 0), line(5, 2, 0, 1), line(90, 2, 0, 0)]))
+    })
 }
 
 /// One damage each of a sheet that has something of everything, for refusals 3 to 5; unused layout numbers do none.
@@ -344,6 +352,7 @@ pub fn fixed() -> Vec<Request> {
     out.push((worked().bytes(), Budget { bytes: 0, work: 0 }));
     // "n 0, L 1, bytes 0: 7 with stage 3, requested 1, remaining 0"
     out.push((Draft::of(1, vec![]).bytes(), Budget { bytes: 0, ..fresh() }));
+    out.extend(every_byte().map(with(fresh())));
     out.extend(damages().into_iter().map(with(fresh())));
     out.extend(limits().into_iter().map(with(fresh())));
     out.extend(lengths().map(with(fresh())));

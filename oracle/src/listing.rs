@@ -28,7 +28,8 @@ pub fn listing(bytes: &[u8]) -> String {
     };
     let show: [&dyn Fn(u8, u64) -> String; 3] =
         [&constant, &|_, len| format!("checked {len}"), &|kind, value| container(&sheet.module.layouts, kind, value)];
-    let mut out: String = NAMES.iter().zip(tables).zip(show).map(|((name, table), show)| part(name, table, show)).collect();
+    let mut out: String =
+        NAMES.iter().zip(tables).zip(show).map(|((name, table), show)| part(name, table, show)).collect();
     out += &format!("left {} {}\n", answer.left.bytes, answer.left.work);
     out
 }

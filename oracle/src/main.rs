@@ -1,11 +1,11 @@
 //! The commands; README.md says what each reads and writes.
 
-use oracle::inputs::{fixed, recorded, short, wrong_case, Request};
+use oracle::inputs::{fixed, recorded, short, worked, wrong_case, Request};
 use oracle::{answer, generate::generated, generate::large, listing, record, request, sizes, Budget};
 use std::io::{self, BufReader, BufWriter, Read, Write};
 use std::process::ExitCode;
 
-const USAGE: &str = "oracle facts | full BYTES WORK | batch | records | sizes | cases
+const USAGE: &str = "oracle facts | full BYTES WORK | batch | records | sizes | cases | worked
        | inputs (recorded | fixed | short STEP | generated SEED FIRST COUNT | large SEED COUNT)";
 
 /// Successor record, dependency, constant fact, index fact, container fact, mark, work slot.
@@ -39,6 +39,7 @@ fn run(words: &[&str]) -> io::Result<bool> {
             out
         })?,
         ["records"] => answer_all(record)?,
+        ["worked"] => io::stdout().write_all(&worked().bytes())?,
         ["sizes"] => return Ok(sizes_agree()),
         ["cases"] => return Ok(cases_agree()),
         ["inputs", list @ ..] => return inputs(list),

@@ -97,11 +97,10 @@ fn stages(
     let cfg = FunctionCfg::build(func, resources).map_err(spent_at(1))?;
     let dependencies = FactDependencyGraph::build(func, resources).map_err(spent_at(2))?;
     closing(tracked_constant_slots, &dependencies, resources);
-    let constant =
-        ConstantFactAnalysis::analyze(func, module, &cfg, &dependencies, resources).map_err(spent_at(3))?;
+    let constant = ConstantFactAnalysis::analyze(func, module, &cfg, &dependencies, resources).map_err(spent_at(3))?;
     closing(tracked_index_check_slots, &dependencies, resources);
-    let index = IndexCheckAnalysis::analyze(func, module, &cfg, &dependencies, &constant, resources)
-        .map_err(spent_at(4))?;
+    let index =
+        IndexCheckAnalysis::analyze(func, module, &cfg, &dependencies, &constant, resources).map_err(spent_at(4))?;
     closing(tracked_container_slots, &dependencies, resources);
     let container =
         ContainerLayoutAnalysis::analyze(func, module, &cfg, &dependencies, resources).map_err(spent_at(5))?;

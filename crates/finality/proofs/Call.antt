@@ -24,7 +24,7 @@ use Rattle.model.specs.CallDemand.{analysisOf, Made, Demanded, CallDemand}
 use Rattle.model.specs.declared.VerifierResources.{VerifierResources}
 use Rattle.model.specs.declared.AnalysisKind.{AnalysisKind}
 use Rattle.model.specs.declared.AnalysisKind.the-variants.{Constant, IndexCheck, Container}
-use Rattle.finality.proofs.Metered.{bound-parts, then-parts, given, left-given, Finishes, bound-finishes, then-finishes, give-finishes, bytes-finish, work-finishes, each-finishes}
+use Rattle.model.proofs.Metered.{bound-parts, then-parts, given, left-given, Finishes, bound-finishes, then-finishes, give-finishes, bytes-finish, work-finishes, each-finishes}
 use Rattle.finality.proofs.Lawful.{entry-length, demand}
 use Rattle.finality.proofs.Closure.{closure-finishes, closure-exact}
 use Rattle.finality.proofs.Memory.{final-table}

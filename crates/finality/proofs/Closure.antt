@@ -19,7 +19,7 @@ use Rattle.model.specs.CallDemand.{Tracked, seed, source, TrackedExactly}
 use Rattle.model.specs.declared.VerifierResources.{VerifierResources}
 use Rattle.model.specs.declared.Instruction.{Instruction}
 use Rattle.model.specs.declared.AnalysisKind.{AnalysisKind}
-use Rattle.finality.proofs.Metered.{then-parts, bound-parts, given, Finishes, bound-finishes, then-finishes, give-finishes, bytes-finish, work-finishes}
+use Rattle.model.proofs.Metered.{then-parts, bound-parts, given, Finishes, bound-finishes, then-finishes, give-finishes, bytes-finish, work-finishes}
 use Rattle.finality.proofs.Marks.{IsSet, Grows, grows-self, grows-on, mark-grows, mark-sets, mark-only, weight, mark-weight, unmarked-weight}
 use Rattle.finality.proofs.Places.{places-ascend, places-only, places-all}
 

@@ -6,21 +6,12 @@ use mathlib.Core.List.{List, [], _∷_}
 use Prim.Native.Nat.{ℕ, zero, suc, _+_, _*_, _≤_, _<_}
 use native.Mathlib.Nat.{suc-inj}
 use native.Mathlib.Omega.{arith}
-use lib.Dec.{T, eqb, eqb→eq, eqb-refl}
+use lib.Dec.{eqb}
 use lib.ListN.{length}
 use Rattle.model.specs.Fact.{Fact, unknown, conflict, known, kind, value, Row, differs, rowDiffers, join, joinRow}
+use Rattle.model.proofs.Equality.{eqb-self, eqb-path}
 
--- ---- tests
-
-pub T-true : (b : Bool) → T b → b ≡ true
-T-true true t = refl
-T-true false t = absurd t
-
-pub eqb-self : (n : ℕ) → eqb n n ≡ true
-eqb-self n = T-true (eqb n n) (eqb-refl n)
-
-pub eqb-path : (m n : ℕ) → eqb m n ≡ true → m ≡ n
-eqb-path m n e = eqb→eq m n (rw e tt)
+-- ---- facts and rows that do not differ
 
 -- a fact is its kind and its value
 pub fact-path : (f g : Fact) → kind f ≡ kind g → value f ≡ value g → f ≡ g
@@ -37,7 +28,7 @@ fact-path (known l w) (known l′ w′) k v = ap₂ known (suc-inj (suc-inj k)) 
 
 pub differs-self : (f : Fact) → differs f f ≡ false
 unfolding differs
-differs-self f = rw (eqb-self (kind f), eqb-self (value f))
+differs-self f = simp eqb-self
 
 pub differs-false : (f g : Fact) → differs f g ≡ false → f ≡ g
 unfolding differs

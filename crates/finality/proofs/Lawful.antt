@@ -15,7 +15,7 @@ use Rattle.model.specs.Sheet.{codeCount, instruction, layout, paramWidth, param
 use Rattle.model.specs.Count.{sum}
 use Rattle.model.specs.Successors.{Branch, fallThrough, jump, conditional, forLoop, leave, branch, contains, push, pushValid, pushFallthrough, jumpTarget, forLoopTarget, branchSuccessors, successors, sheetSuccessors}
 use Rattle.model.specs.Charges.{ok}
-use Rattle.model.specs.Fact.{Fact, unknown, Row, equalNumbers, equalContent, equalLayouts, equalContainers, equalKnown}
+use Rattle.model.specs.Fact.{Fact, unknown, Row, equalNumbers, equalLayouts, equalContainers, equalKnown}
 use Rattle.model.specs.Transfer.{eachCell, put, indexChecked, constantTransfer, indexTransfer, containerTransfer, transferRow}
 use Rattle.model.specs.Parameters.{paramStart, paramFact, paramRow, seedParam, seedParams}
 use Rattle.model.specs.Analyses.{unknownRow, analysis, containerRow, firstRow}
@@ -24,8 +24,8 @@ use Rattle.model.specs.declared.VerifierResources.{VerifierResources}
 use Rattle.model.specs.declared.Instruction.{Instruction}
 use Rattle.model.specs.declared.AnalysisKind.{AnalysisKind}
 use Rattle.model.specs.declared.AnalysisKind.the-variants.{Constant, IndexCheck, Container}
-use Rattle.finality.proofs.Joins.{eqb-self}
-use Rattle.finality.proofs.Metered.{bound-parts, then-parts, given}
+use Rattle.model.proofs.Equality.{eqb-self, content-self}
+use Rattle.model.proofs.Metered.{bound-parts, then-parts, given}
 use Rattle.finality.proofs.Demand.{demand3}
 
 -- ---- successors lie below n
@@ -95,11 +95,6 @@ transfer-length Container sheet slots lengthFact pc row h = cells-length _ slots
 numbers-self : (k v : ℕ) → equalNumbers k v k v ≡ true
 unfolding equalNumbers
 numbers-self k v = rw (eqb-self k, eqb-self v)
-
-content-self : (xs : List ℕ) → equalContent xs xs ≡ true
-unfolding equalContent
-content-self [] = refl
-content-self (x ∷ xs) = rw (eqb-self x, content-self xs)
 
 known-self : (which : AnalysisKind) (sheet : List ℕ) (k v : ℕ) → equalKnown which sheet k v k v ≡ true
 unfolding equalKnown equalContainers equalLayouts

@@ -6,7 +6,6 @@ pub mod Fuel
 pub mod Work
 pub mod Steps
 pub mod Demand
-pub mod Metered
 pub mod Lawful
 pub mod Cells
 pub mod Memory

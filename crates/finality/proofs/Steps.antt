@@ -9,7 +9,7 @@ use lib.Arith.{lt→nleb}
 use lib.Dec.{T, leb, le→leb}
 use Rattle.model.specs.Fact.{Row}
 use Rattle.model.specs.Run.{Analysis, State, finished, overdrawn, next, ended, rowAt, visits, carry, popped, charged, pop, step}
-use Rattle.finality.proofs.Joins.{T-true}
+use Rattle.model.proofs.Equality.{T-true}
 
 pub T-false : (b : Bool) → T (not b) → b ≡ false
 T-false true t = absurd t
