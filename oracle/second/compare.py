@@ -86,7 +86,7 @@ def mutated(source, old, new):
     if len(places) != 1 or old == new:
         sys.exit('mutants.txt: %d lines read %r' % (len(places), old))
     indent = len(lines[places[0]]) - len(lines[places[0]].lstrip())
-    lines[places[0]] = ' ' * indent + new.replace('\\n', '\n')
+    lines[places[0]] = ' ' * indent + new
     return '\n'.join(lines)
 
 

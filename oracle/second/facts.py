@@ -132,7 +132,7 @@ def targets(pc, instruction):
 
 
 def successors(sheet):
-    """"Targets outside 0..n−1 are dropped, an equal second one too.\""""
+    # "Targets outside 0..n−1 are dropped, an equal second one too."
     flow = []
     for pc, instruction in enumerate(sheet.code):
         inside = [target for target in targets(pc, instruction) if 0 <= target < sheet.n]
@@ -166,7 +166,7 @@ def spans_at(sheet, pc):
 
 
 def checked_span(sheet, pc, fact):
-    """"SlotSet and SlotSetN whose b is Checked len write exactly a up to a + len × e", or None."""
+    # "SlotSet and SlotSetN whose b is Checked len write exactly a up to a + len × e"; None for all else.
     op, flags, a, _, _ = sheet.code[pc]
     if op not in (SLOT_SET, SLOT_SET_N) or fact[0] != 2:
         return None
@@ -287,7 +287,7 @@ def equal_numbers(sheet):
 
 
 def equal_layouts(sheet):
-    """"Layouts are equal by length and content\""""
+    # "Layouts are equal by length and content"
     def equal(old, new):
         if old[0] != new[0]:
             return False
@@ -328,7 +328,7 @@ def constant_written(sheet, pc, slot, read):
 
 
 def folded(op, left, right):
-    """"Shl and Or fold only two facts from 0 to 2^64 − 1.\""""
+    # "Shl and Or fold only two facts from 0 to 2^64 − 1."
     if left[0] != 2 or right[0] != 2:
         return UNKNOWN  # of a Conflict too
     if op == OR:
