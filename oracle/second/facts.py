@@ -472,7 +472,7 @@ def run(sheet, analysis, slots, flow, constants, budget):
             if joined != old:
                 rows[target] = joined
                 listed.append(target)
-    return table
+    return table  # "The empty list ends the run"
 
 
 def call(sheet, budget, closed):

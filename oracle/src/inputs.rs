@@ -67,6 +67,8 @@ pub fn cases() -> Vec<Case> {
         case("MapIterNext leaves the slot 7 above b", iter_next_at(1), Cell(2, 3, 8, 0, 0)),
         case("MapIterNext does not wrap at 65,536", iter_next_at(65531), Cell(2, 3, 0, 0, 0)),
         case("CopyN does not wrap at 65,536", copy_n_at_end(), Cell(0, 2, 2, 0, 0)),
+        case("equal layouts keep the old number", made_twice(89, 1, vec![2, 3]), Cell(2, 4, 0, 2, 65537)),
+        case("empty layouts are equal", made_twice(96, 2, vec![]), Cell(2, 4, 0, 4, 65536)),
     ]
 }
 
@@ -185,6 +187,13 @@ fn iter_next_at(b: u16) -> Draft {
 /// Slot 2 would lie in a CopyN from 65,530 on, with the source 9, if it wrapped.
 fn copy_n_at_end() -> Draft {
     Draft::of(65535, vec![imm(1, 9, 7), line(4, 65530, 1, 10).erring(), line(121, 0, 9, 0), line(121, 0, 2, 0)])
+}
+
+/// One container from layout 1 and then one from layout 0, of equal content, arrive at instruction 4.
+fn made_twice(op: u8, note: u8, layout: Vec<u8>) -> Draft {
+    let made = |number| line(op, 0, 1, 0).noted(note, number, number);
+    let code = vec![imm(58, 1, 3), made(0), imm(57, 0, 2), made(1), line(64, 0, 0, 0)];
+    Draft { layouts: vec![layout.clone(), layout], ..Draft::of(2, code) }
 }
 
 /// Every kind of charge in one sheet.
