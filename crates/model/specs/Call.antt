@@ -55,12 +55,14 @@ unfoldable pub workListRoom : ℕ → ℕ → ℕ → Bool
 workListRoom n s room = eqb n 0 || eqb s 0 || leb (n * (1 + 2 * s)) room
 
 -- "8. Are slots and the row scratch at least s long, present n, kinds and values n × s, and .. the work list n × (1 + 2 × s)?"
+unfoldable pub roomFor : ℕ → Table → List ℕ → List ℕ → List ℕ → ℕ → Bool
+roomFor n table rowKinds rowValues workList s =
+    leb s (length (table .slots)) && leb s (length rowKinds) && leb s (length rowValues) && leb n (length (table .present)) && leb (n * s) (length (table .kinds))
+    && leb (n * s) (length (table .values)) && workListRoom n s (length workList)
+
+-- question 8 of an analysis, with its own output and the shared scratch
 unfoldable pub tableRoom : List ℕ → Lent → AnalysisKind → ℕ → Bool
-tableRoom sheet lent which s =
-    leb s (length (tableOf lent which .slots)) && leb s (length (lent .rowKinds)) && leb s (length (lent .rowValues))
-    && leb (codeCount sheet) (length (tableOf lent which .present))
-    && leb (codeCount sheet * s) (length (tableOf lent which .kinds)) && leb (codeCount sheet * s) (length (tableOf lent which .values))
-    && workListRoom (codeCount sheet) s (length (lent .workList))
+tableRoom sheet lent which s = roomFor (codeCount sheet) (tableOf lent which) (lent .rowKinds) (lent .rowValues) (lent .workList) s
 
 -- ---- the call
 
@@ -198,6 +200,6 @@ analyzed sheet budget lent = resultOf budget lent (call sheet budget lent)
 
 unfoldable pub callCompute : Unit {0}
 unfolding sheetCompute analysesCompute tablesCompute
-    tableOf closureRoom workListRoom tableRoom callEnd afterSix afterFive call counts answer resources countsGiven answerNumbered
+    tableOf closureRoom workListRoom roomFor tableRoom callEnd afterSix afterFive call counts answer resources countsGiven answerNumbered
     tables zeros filled zeroTable filledTable scratchZero lentAfter result resultOf analyzed
 callCompute = tt
