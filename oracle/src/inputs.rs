@@ -264,6 +264,38 @@ pub fn short(step: usize) -> impl Iterator<Item = Request> {
     lengths().map(|sheet| (sheet, fresh())).chain(ones).chain(twos)
 }
 
+/// Shl and Or of every two of these numbers, and IndexCheck of what they give.
+fn folds() -> impl Iterator<Item = Vec<u8>> {
+    let numbers = [0, 1, 3, 63, 64, 65535, i64::MAX as i128, 1 << 63, (1 << 64) - 1, -1, i64::MIN as i128];
+    let pairs = numbers.into_iter().flat_map(move |left| numbers.map(|right| (left, right)));
+    pairs.flat_map(|(left, right)| [53, 49].map(|op| fold(op, left, right)))
+}
+
+fn fold(op: u8, left: i128, right: i128) -> Vec<u8> {
+    let mut draft = Draft::of(5, vec![]);
+    put_number(&mut draft, 0, left);
+    put_number(&mut draft, 1, right);
+    draft.lines.extend([line(op, 2, 0, 1), line(121, 4, 2, 0), line(5, 3, 0, 4)]);
+    draft.bytes()
+}
+
+/// LoadConst into a slot; numbers from 2^63 up are folded with the help of slots 2 and 3.
+fn put_number(draft: &mut Draft, slot: u16, value: i128) {
+    let mut load = |slot, value| {
+        draft.constants.push((1, value));
+        draft.lines.push(line(2, slot, draft.constants.len() as u16 - 1, 0));
+    };
+    if let Ok(value) = i64::try_from(value) {
+        return load(slot, value);
+    }
+    load(2, 1);
+    load(3, 63);
+    draft.lines.push(line(53, slot, 2, 3));
+    let rest = (value - (1 << 63)) as i64;
+    draft.constants.push((1, rest));
+    draft.lines.extend([line(2, 3, draft.constants.len() as u16 - 1, 0), line(49, slot, slot, 3)]);
+}
+
 /// Every opcode byte between a load and a use, once with its own ranges and once with a visitor that errs.
 fn every_byte() -> impl Iterator<Item = Vec<u8>> {
     (0..=255).flat_map(|op| {
@@ -361,6 +393,7 @@ pub fn fixed() -> Vec<Request> {
     out.push((worked().bytes(), Budget { bytes: 0, work: 0 }));
     // "n 0, L 1, bytes 0: 7 with stage 3, requested 1, remaining 0"
     out.push((Draft::of(1, vec![]).bytes(), Budget { bytes: 0, ..fresh() }));
+    out.extend(folds().map(with(fresh())));
     out.extend(every_byte().map(with(fresh())));
     out.extend(damages().into_iter().map(with(fresh())));
     out.extend(limits().into_iter().map(with(fresh())));
