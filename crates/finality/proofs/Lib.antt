@@ -13,3 +13,4 @@ pub mod Marks
 pub mod Places
 pub mod Closure
 pub mod Call
+pub mod Lent

@@ -3,7 +3,8 @@
 use mathlib.Core.Path.{_≡_}
 use mathlib.Core.Bool.{Bool, true, false}
 use mathlib.Core.List.{List, [], _∷_, List·Memᴰ}
-use Prim.Native.Nat.{ℕ, _≤_, _<_}
+use mathlib.Core.Option.{some}
+use Prim.Native.Nat.{ℕ, _+_, _*_, _≤_, _<_}
 use lib.Dec.{eqb}
 use lib.Bits.{bitAnd}
 use lib.ListN.{length}
@@ -14,9 +15,10 @@ use Rattle.model.specs.Closure.{Marked, mark, unmarked, trackedSlots}
 use Rattle.model.specs.Fact.{Fact, unknown}
 use Rattle.model.specs.Run.{Analysis, finished, bound, run}
 use Rattle.model.specs.Analyses.{Analysed, Facts, analysis, lengthFacts, chargeMatrix, firstRow, chargeFlow}
-use Rattle.model.specs.Call.{Table, tables, filledTable}
+use Rattle.model.specs.Call.{Table, Lent, CallEnd, completed, call, tables, filledTable}
 use Rattle.model.specs.Lookup.{ascends}
 use Rattle.model.specs.Demand.{Final, FinalTable, Demand3}
+use Rattle.model.specs.declared.Counts.{Counts}
 use Rattle.model.specs.declared.VerifierResources.{VerifierResources}
 use Rattle.model.specs.declared.AnalysisKind.{AnalysisKind}
 use Rattle.model.specs.declared.AnalysisKind.the-variants.{Constant, IndexCheck, Container}
@@ -86,3 +88,18 @@ pub record CallDemand (sheet : List ℕ) (budget : VerifierResources) (facts : F
   pub constants : Demanded Constant sheet (λ pc. unknown) (facts .constants)
   pub index : Demanded IndexCheck sheet (lengthFacts sheet (facts .constants)) (facts .index)
   pub containers : Demanded Container sheet (λ pc. unknown) (facts .containers)
+
+-- ---- the lent memory
+
+-- Demand 3 of one analysis' answer and output: the bound on pops always, and with n and s above zero the lent tables are final.
+pub record TableDemand (which : AnalysisKind) (sheet : List ℕ) (lengthFact : ℕ → Fact) (a : Analysed) (given : Counts) (table : Table) : Type 0 where
+  pub pops : given .pops ≤ codeCount sheet * (1 + 2 * given .tracked)
+  pub final : 0 < codeCount sheet → 0 < given .tracked → FinalTable (analysisOf which sheet lengthFact a) (table .present) (table .kinds) (table .values)
+
+-- Demand 3 as a caller sees it: of an answer with facts, and of what is lent afterwards. The facts are those of the call itself.
+pub record LentDemand (sheet : List ℕ) (budget : VerifierResources) (before : Lent) (constant index container : Counts) (left : VerifierResources) (after : Lent) : Type 0 where
+  pub facts : Facts
+  pub ended : call sheet budget before ≡ some (completed facts left)
+  pub constants-final : TableDemand Constant sheet (λ pc. unknown) (facts .constants) constant (after .constants)
+  pub index-final : TableDemand IndexCheck sheet (lengthFacts sheet (facts .constants)) (facts .index) index (after .index)
+  pub containers-final : TableDemand Container sheet (λ pc. unknown) (facts .containers) container (after .containers)
