@@ -104,7 +104,7 @@ known-self Container sheet k v = rw (eqb-self k, content-self (layout sheet (v /
 
 -- ---- the first row has s facts
 
-unknown-length : (slots : List ℕ) → length (unknownRow slots) ≡ length slots
+pub unknown-length : (slots : List ℕ) → length (unknownRow slots) ≡ length slots
 unfolding unknownRow
 unknown-length slots = length-replicate (length slots) unknown
 
