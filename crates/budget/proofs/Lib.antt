@@ -1,0 +1,2 @@
+-- Equal charges in a row
+pub mod Row

@@ -1,0 +1,25 @@
+-- `budget::metered` meets its contract: the two cases are the definition's.
+-- Assumes nothing.
+use mathlib.Core.Path.{sym, ap}
+use borrow.Author.Needs.{needs}
+use Rattle.model.specs.Charges.{inStage}
+use Rattle.budget.specs.Metering.{asSpent}
+use Rattle.budget.proofs.metered.Statement.{statement}
+use Rattle.budget.proofs.metered.Tie as tie
+
+enum-known-charge : tie.Need-enum-known-charge
+enum-known-charge c = search needs
+
+enum-known-charge-2 : tie.Need-enum-known-charge-2
+enum-known-charge-2 c = search needs
+
+returns : tie.Need-returns
+unfolding inStage asSpent
+returns c stage = sym (ap (inStage stage (c .before .before .before .args .resources)) (c .before .charge .given .1))
+
+returns-2 : tie.Need-returns-2
+unfolding inStage asSpent
+returns-2 c stage = sym (ap (inStage stage (c .before .before .before .args .resources)) (c .before .charge2 .given .1))
+
+pub metered-spec : {M : Type 1} → statement M
+metered-spec = tie.close (tie.spec enum-known-charge enum-known-charge-2 returns returns-2)

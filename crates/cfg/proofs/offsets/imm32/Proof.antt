@@ -1,0 +1,71 @@
+-- `cfg::offsets::imm32` meets its contract: below the half the bits are the number; from it up the law of the upper half gives it.
+-- Assumes nothing.
+use mathlib.Core.Path.{_∙_}
+use Prim.Native.Nat.{_+_, _*_}
+use native.Mathlib.Omega.{arith}
+use borrow.Author.Needs.{needs}
+use borrow.Author.Tests.{le-ltb}
+use mir.Syntax.{w32}
+use Rattle.model.specs.Successors.{signed, imm32}
+use Rattle.cfg.proofs.Signed.{read, difference-fits, narrow-fits, narrow-is}
+use Rattle.cfg.proofs.offsets.imm32.Statement.{statement}
+use Rattle.cfg.proofs.offsets.imm32.Tie as tie
+
+cast-bits : tie.Need-cast-bits
+cast-bits c = search needs
+
+cast-bits-2 : tie.Need-cast-bits-2
+cast-bits-2 c = search needs
+
+mul-bits : tie.Need-mul-bits
+mul-bits c = search needs
+
+add-bits : tie.Need-add-bits
+add-bits c = search needs
+
+cast-result : tie.Need-cast-result
+cast-result c = search needs
+
+returns : tie.Need-returns
+unfolding signed imm32
+returns c = read w32 (c .before .before .before .args .inst .b + 65536 * c .before .before .before .args .inst .c)
+
+cast-result-2 : tie.Need-cast-result-2
+cast-result-2 c = search needs
+
+sub-result : tie.Need-sub-result
+sub-result c =
+    difference-fits
+    w32
+    4294967295
+    (c .before .before .before .args .inst .b + 65536 * c .before .before .before .args .inst .c)
+    (omega arith)
+    (omega arith)
+    (omega arith)
+
+cast-result-3 : tie.Need-cast-result-3
+cast-result-3 c =
+    narrow-fits
+    w32
+    4294967295
+    (c .before .before .before .args .inst .b + 65536 * c .before .before .before .args .inst .c)
+    (omega arith)
+    (omega arith)
+    (omega arith)
+
+returns-2 : tie.Need-returns-2
+unfolding signed imm32
+returns-2 c =
+    narrow-is
+    w32
+    4294967295
+    (c .before .before .before .args .inst .b + 65536 * c .before .before .before .args .inst .c)
+    (omega arith)
+    (omega arith)
+    (omega arith)
+    ∙ simp (le-ltb _ _ (c .if1 .left))
+
+pub imm32-spec : {M : Type 1} → statement M
+imm32-spec =
+    tie.close
+    (tie.spec cast-bits cast-bits-2 mul-bits add-bits cast-result returns cast-result-2 sub-result cast-result-3 returns-2)

@@ -1,0 +1,31 @@
+-- `cfg::push_fallthrough_successor` meets its contract: the next instruction is a target from 0 up.
+-- Assumes nothing.
+use mathlib.Core.Path.{sym, ap, _∙_}
+use lib.IntN.{pos}
+use borrow.Author.Needs.{needs}
+use borrow.Author.Tests.{le-ltb}
+use Prim.Native.Nat.{_+_}
+use native.Mathlib.Omega.{arith}
+use Rattle.model.specs.Successors.{pushFallthrough, asRecord}
+use Rattle.cfg.proofs.Pushes.{past-end, inside}
+use Rattle.cfg.proofs.push_fallthrough_successor.Statement.{statement}
+use Rattle.cfg.proofs.push_fallthrough_successor.Tie as tie
+
+add-next : tie.Need-add-next
+add-next c = search needs
+
+returns : tie.Need-returns
+unfolding pushFallthrough
+returns c targets e = e ∙ sym (ap asRecord (past-end (c .before .args .n) targets (pos (c .before .args .pc + 1)) (c .if1 .taken)))
+
+push-requires : tie.Need-push-requires
+push-requires c κs = search needs
+
+returns-2 : tie.Need-returns-2
+unfolding pushFallthrough
+returns-2 c targets e =
+    c .push .ensures targets e
+    ∙ sym (ap asRecord (inside (c .before .before .args .n) targets (pos (c .before .before .args .pc + 1)) (le-ltb (c .before .before .args .pc + 1) 0 (omega arith)) (c .before .if1 .left)))
+
+pub push-fallthrough-successor-spec : {M : Type 1} → statement M
+push-fallthrough-successor-spec = tie.close (tie.spec add-next returns push-requires returns-2)

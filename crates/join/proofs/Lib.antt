@@ -1,0 +1,11 @@
+-- Joins of two cells, by the tests of the code
+pub mod Cells
+-- Containers, by kind and layouts
+pub mod Layouts
+-- A row that a loop joins from the left
+pub mod Fill
+pub mod Changes
+pub mod Joined
+pub mod Joining
+-- For callers: rows that lie in the tables
+pub mod Encoding

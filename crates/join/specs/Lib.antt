@@ -1,0 +1,2 @@
+-- What the join of a row asks and leaves
+pub mod Rows

@@ -1,0 +1,53 @@
+-- `memory::width_8::copy_u8` meets its contract, by the law of loops that copy. Assumes nothing.
+use Prim.Native.Nat.{_-_}
+use lib.ListN.{length, getD}
+use mathlib.Core.Path.{refl}
+use Rattle.memory.proofs.Turned.{Turned, start, turn, copied}
+use native.Mathlib.Omega.{arith}
+use Rattle.memory.proofs.width_8.copy_u8.Statement.{statement}
+use Rattle.memory.proofs.width_8.copy_u8.Tie as tie
+
+abbrev Inv-loop : tie.InvT-loop
+Inv-loop from to₀ i₀ to i = Turned (λ j. getD from j 0) to₀ to i
+
+abbrev μ-loop : tie.MeasureT-loop
+μ-loop from to₀ i₀ to i = length to₀ - i
+
+loop-holds : tie.Need-loop-holds Inv-loop μ-loop
+loop-holds c = start _ _
+
+shared-slice-read-to : tie.Need-shared-slice-read-to Inv-loop μ-loop
+shared-slice-read-to c = omega arith
+
+slice-write-to : tie.Need-slice-write-to Inv-loop μ-loop
+slice-write-to c = omega arith
+
+add-i : tie.Need-add-i Inv-loop μ-loop
+add-i c = omega arith
+
+loop-less : tie.Need-loop-less Inv-loop μ-loop
+loop-less c = omega arith
+
+loop-again : tie.Need-loop-again Inv-loop μ-loop
+loop-again c = turn (c .before .before .loop .inv) (c .before .loop-test .taken) refl
+
+same-length : tie.Need-same-length Inv-loop μ-loop
+same-length c = c .before .loop .inv .long
+
+returns : tie.Need-returns Inv-loop μ-loop
+returns c = copied (c .before .before .pre) (c .before .loop .inv) (c .loop-test .left)
+
+pub copy-u8-spec : {M : Type 1} → statement M
+copy-u8-spec =
+    tie.close
+    (tie.spec
+    Inv-loop
+    μ-loop
+    loop-holds
+    shared-slice-read-to
+    slice-write-to
+    add-i
+    loop-less
+    loop-again
+    same-length
+    returns)

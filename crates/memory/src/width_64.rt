@@ -1,0 +1,27 @@
+// 64-bit numbers.
+ghost use mathlib.Core.Path.{_≡_};
+ghost use lib.ListN.{length};
+ghost use Rattle.model.specs.Call.{zeros};
+
+// Every element becomes zero.
+pub fn clear_u64(out: &mut [u64])
+    ensures { λ r. ⌜ now (out .exit) ≡ zeros (now (out .entry)) ⌝ }
+{
+    let mut i = 0;
+    while i < out.len() {
+        out[i] = 0;
+        i += 1;
+    }
+}
+
+// The elements of from, in as many places.
+pub fn copy_u64(from: &[u64], to: &mut [u64])
+    requires { ⌜ length (now from) ≡ length (now to) ⌝ }
+    ensures { λ r. ⌜ now (to .exit) ≡ now (from .entry) ⌝ }
+{
+    let mut i = 0;
+    while i < to.len() {
+        to[i] = from[i];
+        i += 1;
+    }
+}

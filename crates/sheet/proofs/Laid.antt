@@ -1,0 +1,106 @@
+-- Question 3: "arrays without gaps", and the whole sheet.
+-- Assumes nothing.
+use mathlib.Core.Path.{_≡_, refl, sym, subst}
+use mathlib.Core.List.{List}
+use Prim.Native.Nat.{ℕ, _+_, _*_, _<_}
+use native.Mathlib.Omega.{arith}
+use lib.ListN.{length}
+use Rattle.model.specs.Sheet.{size, sheetLength, codeAt}
+use Rattle.model.specs.Sheet.{codeCount, rangeCount, constantCount, paramCount, layoutCount}
+use Rattle.model.specs.Sheet.{noteKindsAt, noteAsAt, noteBsAt, writeCountsAt, rangeStartsAt, rangeLengthsAt, constantKindsAt, constantValuesAt}
+use Rattle.model.specs.Sheet.{paramWidthsAt, paramKindsAt, paramAsAt, paramBsAt, layoutLengthsAt, slotKindsAt}
+use Rattle.sheet.specs.Sizes.{placesOf, sizesOf}
+use Rattle.sheet.specs.Measured.{Measured}
+use Rattle.sheet.specs.declared.Places.{Places}
+use Rattle.sheet.specs.declared.Sizes.{Sizes}
+use Rattle.sheet.proofs.Limited.{Limited}
+
+-- each array begins where the one before it ends, and the last ends with the sheet
+pub record Laid (whole : ℕ) (s : Sizes) : Type 0 where
+  pub note-kinds : s .places .«note_kinds» ≡ 40 + 8 * s .«code_count»
+  pub note-as : s .places .«note_as» ≡ s .places .«note_kinds» + s .«code_count»
+  pub note-bs : s .places .«note_bs» ≡ s .places .«note_as» + 2 * s .«code_count»
+  pub write-counts : s .places .«write_counts» ≡ s .places .«note_bs» + 2 * s .«code_count»
+  pub range-starts : s .places .«range_starts» ≡ s .places .«write_counts» + 2 * s .«code_count»
+  pub range-lengths : s .places .«range_lengths» ≡ s .places .«range_starts» + 2 * s .«range_count»
+  pub constant-kinds : s .places .«constant_kinds» ≡ s .places .«range_lengths» + 4 * s .«range_count»
+  pub constant-values : s .places .«constant_values» ≡ s .places .«constant_kinds» + s .«constant_count»
+  pub param-widths : s .places .«param_widths» ≡ s .places .«constant_values» + 8 * s .«constant_count»
+  pub param-kinds : s .places .«param_kinds» ≡ s .places .«param_widths» + 2 * s .«param_count»
+  pub param-as : s .places .«param_as» ≡ s .places .«param_kinds» + s .«param_count»
+  pub param-bs : s .places .«param_bs» ≡ s .places .«param_as» + 2 * s .«param_count»
+  pub layout-lengths : s .places .«layout_lengths» ≡ s .places .«param_bs» + 2 * s .«param_count»
+  pub slot-kinds : s .places .«slot_kinds» ≡ s .places .«layout_lengths» + 2 * s .«layout_count»
+  pub ends : whole ≡ s .places .«slot_kinds» + s .«slot_kind_count»
+
+of-sheet : (sheet : List ℕ) → Laid (sheetLength sheet) (sizesOf sheet)
+unfolding sizesOf placesOf codeAt noteKindsAt noteAsAt noteBsAt writeCountsAt rangeStartsAt rangeLengthsAt constantKindsAt constantValuesAt
+    paramWidthsAt paramKindsAt paramAsAt paramBsAt layoutLengthsAt slotKindsAt sheetLength
+of-sheet sheet = record {
+  note-kinds = refl;
+  note-as = refl;
+  note-bs = refl;
+  write-counts = refl;
+  range-starts = refl;
+  range-lengths = refl;
+  constant-kinds = refl;
+  constant-values = refl;
+  param-widths = refl;
+  param-kinds = refl;
+  param-as = refl;
+  param-bs = refl;
+  layout-lengths = refl;
+  slot-kinds = refl;
+  ends = refl;
+}
+
+pub laid-by : (sheet : List ℕ) {sizes : Sizes} → sizes ≡ sizesOf sheet → Laid (sheetLength sheet) sizes
+laid-by sheet e = subst (λ (s : Sizes). Laid (sheetLength sheet) s) (sym e) (of-sheet sheet)
+
+pub laid : {sheet : List ℕ} {sizes : Sizes} → Measured sheet sizes → Laid (length sheet) sizes
+laid {sheet} m = rw (m .long) (laid-by sheet (m .are))
+
+-- within their limits the sizes give a short sheet, so that no sum of them wraps
+pub short : {whole : ℕ} {s : Sizes} → Limited s → Laid whole s → s .places .«slot_kinds» + s .«slot_kind_count» < 1048576
+short l p = omega arith
+
+-- ---- the places as they are computed, from the sizes as they are read
+
+-- with the sizes of one kind added up
+abbrev placed : ℕ → ℕ → ℕ → ℕ → ℕ → Places
+placed n w k p y = record {
+  «note_kinds» = 40 + 8 * n;
+  «note_as» = 40 + 9 * n;
+  «note_bs» = 40 + 11 * n;
+  «write_counts» = 40 + 13 * n;
+  «range_starts» = 40 + 15 * n;
+  «range_lengths» = 40 + 15 * n + 2 * w;
+  «constant_kinds» = 40 + 15 * n + 6 * w;
+  «constant_values» = 40 + 15 * n + 6 * w + k;
+  «param_widths» = 40 + 15 * n + 6 * w + 9 * k;
+  «param_kinds» = 40 + 15 * n + 6 * w + 9 * k + 2 * p;
+  «param_as» = 40 + 15 * n + 6 * w + 9 * k + 3 * p;
+  «param_bs» = 40 + 15 * n + 6 * w + 9 * k + 5 * p;
+  «layout_lengths» = 40 + 15 * n + 6 * w + 9 * k + 7 * p;
+  «slot_kinds» = 40 + 15 * n + 6 * w + 9 * k + 7 * p + 2 * y;
+}
+
+pub placed-is : (sheet : List ℕ) {n w k p y : ℕ} → n ≡ size sheet 0 → w ≡ size sheet 1 → k ≡ size sheet 2 → p ≡ size sheet 3 → y ≡ size sheet 4 → placed n w k p y ≡ placesOf sheet
+unfolding placesOf codeCount rangeCount constantCount paramCount layoutCount codeAt noteKindsAt noteAsAt noteBsAt writeCountsAt rangeStartsAt rangeLengthsAt constantKindsAt constantValuesAt
+    paramWidthsAt paramKindsAt paramAsAt paramBsAt layoutLengthsAt slotKindsAt
+placed-is sheet {n} {w} {k} {p} {y} en ew ek ep ey =
+    let e0 : 40 + 8 * n ≡ noteKindsAt sheet = omega arith in
+    let e1 : 40 + 9 * n ≡ noteAsAt sheet = omega arith in
+    let e2 : 40 + 11 * n ≡ noteBsAt sheet = omega arith in
+    let e3 : 40 + 13 * n ≡ writeCountsAt sheet = omega arith in
+    let e4 : 40 + 15 * n ≡ rangeStartsAt sheet = omega arith in
+    let e5 : 40 + 15 * n + 2 * w ≡ rangeLengthsAt sheet = omega arith in
+    let e6 : 40 + 15 * n + 6 * w ≡ constantKindsAt sheet = omega arith in
+    let e7 : 40 + 15 * n + 6 * w + k ≡ constantValuesAt sheet = omega arith in
+    let e8 : 40 + 15 * n + 6 * w + 9 * k ≡ paramWidthsAt sheet = omega arith in
+    let e9 : 40 + 15 * n + 6 * w + 9 * k + 2 * p ≡ paramKindsAt sheet = omega arith in
+    let e10 : 40 + 15 * n + 6 * w + 9 * k + 3 * p ≡ paramAsAt sheet = omega arith in
+    let e11 : 40 + 15 * n + 6 * w + 9 * k + 5 * p ≡ paramBsAt sheet = omega arith in
+    let e12 : 40 + 15 * n + 6 * w + 9 * k + 7 * p ≡ layoutLengthsAt sheet = omega arith in
+    let e13 : 40 + 15 * n + 6 * w + 9 * k + 7 * p + 2 * y ≡ slotKindsAt sheet = omega arith in
+    cc

@@ -1,0 +1,156 @@
+// A reader for each field of a sheet.
+ghost use mathlib.Core.Path.{_≡_};
+ghost use Prim.Native.Nat.{_+_, _*_, _<_, _≤_};
+ghost use lib.ListN.{length};
+ghost use Rattle.model.specs.Bytes.{byte};
+ghost use Rattle.model.specs.Sheet.{instruction, noteKind, noteA, noteB, writeCount, rangesOf, rangeStart, rangeLength};
+ghost use Rattle.model.specs.Sheet.{constantKind, constantBits, paramWidth, paramKind, paramA, paramB, layoutLength, slotKindsAt};
+ghost use Rattle.sheet.specs.Measured.{Measured};
+use crate::Sizes;
+use crate::bytes::byte_at;
+use crate::bytes::byte_in;
+use crate::bytes::u16_at;
+use crate::bytes::u16_in;
+use crate::bytes::u32_in;
+use crate::bytes::u64_in;
+use model::Instruction;
+
+// The instruction at pc: op, flags, a, b, c.
+pub fn instruction_at(sheet: &[u8], pc: usize) -> Instruction
+    requires { ⌜ 40 + 8 * pc + 8 ≤ length (now sheet) ⌝ }
+    ensures { λ r. ⌜ r ≡ instruction (now (sheet .entry)) pc ⌝ }
+{
+    let at = 40 + 8 * pc;
+    Instruction {
+        op: byte_at(sheet, at),
+        flags: byte_at(sheet, at + 1),
+        a: u16_at(sheet, at + 2),
+        b: u16_at(sheet, at + 4),
+        c: u16_at(sheet, at + 6),
+    }
+}
+
+// The kind of the note at pc.
+pub fn note_kind_at(sheet: &[u8], sizes: Sizes, pc: usize) -> u8
+    requires { ⌜ Measured (now sheet) sizes × (pc < sizes .«code_count») ⌝ }
+    ensures { λ r. ⌜ r ≡ noteKind (now (sheet .entry)) pc ⌝ }
+{
+    byte_in(sheet, sizes.places.note_kinds, pc)
+}
+
+// The layout A of the note at pc.
+pub fn note_a_at(sheet: &[u8], sizes: Sizes, pc: usize) -> u16
+    requires { ⌜ Measured (now sheet) sizes × (pc < sizes .«code_count») ⌝ }
+    ensures { λ r. ⌜ r ≡ noteA (now (sheet .entry)) pc ⌝ }
+{
+    u16_in(sheet, sizes.places.note_as, pc)
+}
+
+// The layout B of the note at pc.
+pub fn note_b_at(sheet: &[u8], sizes: Sizes, pc: usize) -> u16
+    requires { ⌜ Measured (now sheet) sizes × (pc < sizes .«code_count») ⌝ }
+    ensures { λ r. ⌜ r ≡ noteB (now (sheet .entry)) pc ⌝ }
+{
+    u16_in(sheet, sizes.places.note_bs, pc)
+}
+
+// The write count at pc; 65,535 says that the effect visitor erred.
+pub fn write_count_at(sheet: &[u8], sizes: Sizes, pc: usize) -> u16
+    requires { ⌜ Measured (now sheet) sizes × (pc < sizes .«code_count») ⌝ }
+    ensures { λ r. ⌜ r ≡ writeCount (now (sheet .entry)) pc ⌝ }
+{
+    u16_in(sheet, sizes.places.write_counts, pc)
+}
+
+// How many ranges the instruction at pc takes: none where the effect visitor erred.
+pub fn ranges_of(sheet: &[u8], sizes: Sizes, pc: usize) -> u16
+    requires { ⌜ Measured (now sheet) sizes × (pc < sizes .«code_count») ⌝ }
+    ensures { λ r. ⌜ r ≡ rangesOf (now (sheet .entry)) pc ⌝ }
+{
+    let count = write_count_at(sheet, sizes, pc);
+    if count == 65535 { 0 } else { count }
+}
+
+// The first slot of write range i.
+pub fn range_start_at(sheet: &[u8], sizes: Sizes, i: usize) -> u16
+    requires { ⌜ Measured (now sheet) sizes × (i < sizes .«range_count») ⌝ }
+    ensures { λ r. ⌜ r ≡ rangeStart (now (sheet .entry)) i ⌝ }
+{
+    u16_in(sheet, sizes.places.range_starts, i)
+}
+
+// How many slots write range i has.
+pub fn range_length_at(sheet: &[u8], sizes: Sizes, i: usize) -> u32
+    requires { ⌜ Measured (now sheet) sizes × (i < sizes .«range_count») ⌝ }
+    ensures { λ r. ⌜ r ≡ rangeLength (now (sheet .entry)) i ⌝ }
+{
+    u32_in(sheet, sizes.places.range_lengths, i)
+}
+
+// The kind of constant i.
+pub fn constant_kind_at(sheet: &[u8], sizes: Sizes, i: usize) -> u8
+    requires { ⌜ Measured (now sheet) sizes × (i < sizes .«constant_count») ⌝ }
+    ensures { λ r. ⌜ r ≡ constantKind (now (sheet .entry)) i ⌝ }
+{
+    byte_in(sheet, sizes.places.constant_kinds, i)
+}
+
+// The 64 bits of constant i.
+pub fn constant_bits_at(sheet: &[u8], sizes: Sizes, i: usize) -> u64
+    requires { ⌜ Measured (now sheet) sizes × (i < sizes .«constant_count») ⌝ }
+    ensures { λ r. ⌜ r ≡ constantBits (now (sheet .entry)) i ⌝ }
+{
+    u64_in(sheet, sizes.places.constant_values, i)
+}
+
+// The width of parameter i.
+pub fn param_width_at(sheet: &[u8], sizes: Sizes, i: usize) -> u16
+    requires { ⌜ Measured (now sheet) sizes × (i < sizes .«param_count») ⌝ }
+    ensures { λ r. ⌜ r ≡ paramWidth (now (sheet .entry)) i ⌝ }
+{
+    u16_in(sheet, sizes.places.param_widths, i)
+}
+
+// The kind of parameter i.
+pub fn param_kind_at(sheet: &[u8], sizes: Sizes, i: usize) -> u8
+    requires { ⌜ Measured (now sheet) sizes × (i < sizes .«param_count») ⌝ }
+    ensures { λ r. ⌜ r ≡ paramKind (now (sheet .entry)) i ⌝ }
+{
+    byte_in(sheet, sizes.places.param_kinds, i)
+}
+
+// The layout A of parameter i.
+pub fn param_a_at(sheet: &[u8], sizes: Sizes, i: usize) -> u16
+    requires { ⌜ Measured (now sheet) sizes × (i < sizes .«param_count») ⌝ }
+    ensures { λ r. ⌜ r ≡ paramA (now (sheet .entry)) i ⌝ }
+{
+    u16_in(sheet, sizes.places.param_as, i)
+}
+
+// The layout B of parameter i.
+pub fn param_b_at(sheet: &[u8], sizes: Sizes, i: usize) -> u16
+    requires { ⌜ Measured (now sheet) sizes × (i < sizes .«param_count») ⌝ }
+    ensures { λ r. ⌜ r ≡ paramB (now (sheet .entry)) i ⌝ }
+{
+    u16_in(sheet, sizes.places.param_bs, i)
+}
+
+// The length of layout i; a number from y up names no layout and has length 0.
+pub fn layout_length_at(sheet: &[u8], sizes: Sizes, i: usize) -> u16
+    requires { ⌜ Measured (now sheet) sizes ⌝ }
+    ensures { λ r. ⌜ r ≡ layoutLength (now (sheet .entry)) i ⌝ }
+{
+    if i < sizes.layout_count {
+        u16_in(sheet, sizes.places.layout_lengths, i)
+    } else {
+        0
+    }
+}
+
+// Slot kind i of the q.
+pub fn slot_kind_at(sheet: &[u8], sizes: Sizes, i: usize) -> u8
+    requires { ⌜ Measured (now sheet) sizes × (i < sizes .«slot_kind_count») ⌝ }
+    ensures { λ r. ⌜ r ≡ byte (now (sheet .entry)) (slotKindsAt (now (sheet .entry)) + i) ⌝ }
+{
+    byte_in(sheet, sizes.places.slot_kinds, i)
+}
