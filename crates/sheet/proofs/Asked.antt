@@ -1,14 +1,14 @@
 -- Questions 1 to 5 in order: what a refusal says, and what none says.
 -- Assumes nothing.
 use mathlib.Core.Path.{_≡_, refl}
-use mathlib.Core.Bool.{Bool, true, false}
+use mathlib.Core.Bool.{Bool, true, false, not}
 use mathlib.Core.List.{List}
 use mathlib.Core.Option.{Option, none, some}
 use Prim.Native.Nat.{ℕ, _+_, _≤_, _<_}
 use native.Mathlib.Omega.{arith}
 use lib.Dec.{leb, eqb}
 use lib.ListN.{length}
-use borrow.Author.Tests.{le-leb, lt-leb, eqb-true, eq-eqb, ne-eqb}
+use borrow.Author.Tests.{le-leb, lt-leb, eqb-true, eq-eqb, ne-eqb, not-true, not-false}
 use Rattle.model.specs.Sheet.{limits, withinLimits, sheetLength, sumsMatch, kindsNamed, ask, sheetRefusal}
 use Rattle.model.specs.Sheet.{codeCount, rangeCount, layoutCount, slotKindCount, firstRange, rangesOf, layoutStart, layoutLength}
 use Rattle.sheet.specs.Sizes.{sizesOf}
@@ -105,14 +105,15 @@ module _ {sheet : List ℕ} {sizes : Sizes} (m : Measured sheet sizes) where
   unfolding sheetCheck sheetRefusal ask
   asked-two = let l = laid m in let h : 40 ≤ length sheet = omega arith in rw (le-leb 40 _ h, m .within, eq-eqb _ _ (m .long), m .are)
 
-  pub refused-4 : sumsMatch sheet ≡ false → Refused 4 ≡ sheetCheck sheet
+  -- by the tests that the code makes
+  pub refused-4 : not (sumsMatch sheet) ≡ true → Refused 4 ≡ sheetCheck sheet
   unfolding checkOf ask
-  refused-4 unequal = rw (asked-two, unequal)
+  refused-4 unequal = rw (asked-two, not-true (sumsMatch sheet) unequal)
 
-  pub refused-5 : sumsMatch sheet ≡ true → kindsNamed sheet ≡ false → Refused 5 ≡ sheetCheck sheet
+  pub refused-5 : not (sumsMatch sheet) ≡ false → not (kindsNamed sheet) ≡ true → Refused 5 ≡ sheetCheck sheet
   unfolding checkOf ask
-  refused-5 sums unnamed = rw (asked-two, sums, unnamed)
+  refused-5 sums unnamed = rw (asked-two, not-false (sumsMatch sheet) sums, not-true (kindsNamed sheet) unnamed)
 
-  pub unrefused : sumsMatch sheet ≡ true → kindsNamed sheet ≡ true → Accepts sizes ≡ sheetCheck sheet
+  pub unrefused : not (sumsMatch sheet) ≡ false → not (kindsNamed sheet) ≡ false → Accepts sizes ≡ sheetCheck sheet
   unfolding checkOf ask
-  unrefused sums kinds = rw (asked-two, sums, kinds)
+  unrefused sums kinds = rw (asked-two, not-false (sumsMatch sheet) sums, not-false (kindsNamed sheet) kinds)

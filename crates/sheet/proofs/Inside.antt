@@ -6,6 +6,7 @@ use Prim.Native.Nat.{ℕ, _+_, _*_, _≤_, _<_}
 use native.Mathlib.Omega.{arith}
 use lib.ListN.{length}
 use Rattle.model.specs.Bytes.{byte, u16, u32, u64}
+use Rattle.model.specs.Sheet.{instruction, codeAt}
 use Rattle.model.specs.Sheet.{noteKind, noteA, noteB, writeCount, rangeStart, rangeLength, constantKind, constantBits, paramWidth, paramKind, paramA, paramB}
 use borrow.Author.Tests.{lt-ltb, le-ltb}
 use Rattle.model.specs.Sheet.{layoutLength, slotKindsAt}
@@ -13,6 +14,11 @@ use Rattle.sheet.specs.Sizes.{placesOf, sizesOf}
 use Rattle.sheet.specs.Measured.{Measured}
 use Rattle.sheet.specs.declared.Sizes.{Sizes}
 use Rattle.sheet.proofs.Laid.{laid}
+
+pub instruction-is : (sheet : List ℕ) (pc : ℕ) {op flags a b c : ℕ} → op ≡ byte sheet (40 + 8 * pc) → flags ≡ byte sheet (40 + 8 * pc + 1) → a ≡ u16 sheet (40 + 8 * pc + 2)
+    → b ≡ u16 sheet (40 + 8 * pc + 4) → c ≡ u16 sheet (40 + 8 * pc + 6) → record { op = op; flags = flags; a = a; b = b; c = c } ≡ instruction sheet pc
+unfolding instruction codeAt
+instruction-is sheet pc eo ef ea eb ec = cc
 
 module _ {sheet : List ℕ} {sizes : Sizes} (m : Measured sheet sizes) (i : ℕ) where
   pub code-inside : i < sizes .«code_count» → 40 + 8 * i + 8 ≤ length sheet

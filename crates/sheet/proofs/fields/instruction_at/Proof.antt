@@ -1,5 +1,5 @@
 -- `sheet::fields::instruction_at` meets its contract. Assumes nothing.
-use Rattle.model.specs.Sheet.{instruction, codeAt}
+use Rattle.sheet.proofs.Inside.{instruction-is}
 use borrow.Author.Needs.{needs}
 use Rattle.sheet.proofs.fields.instruction_at.Statement.{statement}
 use Rattle.sheet.proofs.fields.instruction_at.Tie as tie
@@ -38,8 +38,9 @@ u16-at-requires-3 : tie.Need-u16-at-requires-3
 u16-at-requires-3 c κs = search needs
 
 returns : tie.Need-returns
-unfolding instruction codeAt
-returns c = cc
+returns c =
+    instruction-is _ _ (c .before .before .before .before .byte-at .ensures) (c .before .before .before .byte-at2 .ensures) (c .before .before .u16-at .ensures)
+    (c .before .u16-at2 .ensures) (c .u16-at3 .ensures)
 
 pub instruction-at-spec : {M : Type 1} → statement M
 instruction-at-spec =

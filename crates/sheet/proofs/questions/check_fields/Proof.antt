@@ -1,6 +1,4 @@
 -- `sheet::questions::check_fields` meets its contract. Assumes nothing.
-use mathlib.Core.Path.{sym, _∙_}
-use borrow.Author.Tests.{not-true, not-false}
 use Rattle.sheet.proofs.Asked.{refused-4, refused-5, unrefused}
 use borrow.Author.Needs.{needs}
 use Rattle.sheet.proofs.questions.check_fields.Statement.{statement}
@@ -10,20 +8,16 @@ sums-match-requires : tie.Need-sums-match-requires
 sums-match-requires c κs = search needs
 
 returns : tie.Need-returns
-returns c = refused-4 (c .before .before .before .pre) (sym (c .before .sums-match .ensures) ∙ not-true _ (c .if1 .taken))
+returns c = refused-4 (c .before .before .before .pre) (cc)
 
 kinds-named-requires : tie.Need-kinds-named-requires
 kinds-named-requires c κs = search needs
 
 returns-2 : tie.Need-returns-2
-returns-2 c =
-    refused-5 (c .before .before .before .before .before .pre) (sym (c .before .before .before .sums-match .ensures) ∙ not-false _ (c .before .before .if1 .left))
-    (sym (c .before .kinds-named .ensures) ∙ not-true _ (c .if2 .taken))
+returns-2 c = refused-5 (c .before .before .before .before .before .pre) (cc) (cc)
 
 returns-3 : tie.Need-returns-3
-returns-3 c =
-    unrefused (c .before .before .before .before .before .pre) (sym (c .before .before .before .sums-match .ensures) ∙ not-false _ (c .before .before .if1 .left))
-    (sym (c .before .kinds-named .ensures) ∙ not-false _ (c .if2 .left))
+returns-3 c = unrefused (c .before .before .before .before .before .pre) (cc) (cc)
 
 pub check-fields-spec : {M : Type 1} → statement M
 check-fields-spec =

@@ -27,14 +27,14 @@ add-if3 c = omega (arith, short (limited-by _ (c .before .sizes-of .ensures) (sy
 returns-3 : tie.Need-returns-3
 returns-3 c =
     refused-3 _ (c .before .before .before .before .before .if1 .left) (sym (c .before .before .before .before .within-limits .ensures) ∙ not-false _ (c .before .before .before .if2 .left))
-    (λ e. c .if3 .taken (e ∙ laid-by _ (c .before .before .sizes-of .ensures) .ends))
+    (λ e. omega (arith, laid-by _ (c .before .before .sizes-of .ensures) .ends))
 
 check-fields-requires : tie.Need-check-fields-requires
 check-fields-requires c κs =
     record {
       are = c .before .before .sizes-of .ensures;
       within = sym (c .before .before .before .before .within-limits .ensures) ∙ not-false _ (c .before .before .before .if2 .left);
-      long = c .if3 .left ∙ sym (laid-by _ (c .before .before .sizes-of .ensures) .ends);
+      long = omega (arith, laid-by _ (c .before .before .sizes-of .ensures) .ends);
     }
 
 returns-4 : tie.Need-returns-4
