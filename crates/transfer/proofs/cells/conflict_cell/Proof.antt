@@ -1,0 +1,14 @@
+use mathlib.Core.Path.{refl}
+use Rattle.model.specs.Fact.{kind, value}
+use Rattle.model.specs.Tables.{cellOf}
+use Rattle.transfer.proofs.cells.conflict_cell.Statement.{statement}
+use Rattle.transfer.proofs.cells.conflict_cell.Tie as tie
+use Rattle.transfer.proofs.cells.conflict_cell.Reads as reads
+use Rattle.transfer.proofs.cells.conflict_cell.Lts as lts
+
+returns : tie.Need-returns
+unfolding cellOf kind value
+returns c = refl
+
+pub conflict-cell-spec : {M : Type 1} → statement M
+conflict-cell-spec = tie.close (tie.spec returns)

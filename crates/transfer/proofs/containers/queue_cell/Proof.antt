@@ -1,0 +1,19 @@
+use mathlib.Core.Path.{refl}
+use Rattle.model.specs.Fact.{kind, value}
+use Rattle.model.specs.Tables.{cellOf}
+use Rattle.model.specs.Transfer.{queueFact}
+use borrow.Author.Needs.{needs}
+use Rattle.transfer.proofs.containers.queue_cell.Statement.{statement}
+use Rattle.transfer.proofs.containers.queue_cell.Tie as tie
+use Rattle.transfer.proofs.containers.queue_cell.Reads as reads
+use Rattle.transfer.proofs.containers.queue_cell.Lts as lts
+
+mul-t3 : tie.Need-mul-t3
+mul-t3 c = search needs
+
+returns : tie.Need-returns
+unfolding cellOf kind value queueFact
+returns c = refl
+
+pub queue-cell-spec : {M : Type 1} → statement M
+queue-cell-spec = tie.close (tie.spec mul-t3 returns)

@@ -1,0 +1,33 @@
+use mathlib.Core.Path.{sym, ap}
+use Rattle.model.specs.declared.AnalysisKind.{AnalysisKind}
+use Rattle.transfer.specs.Effect.{checksIndex}
+use borrow.Author.Needs.{needs}
+use Rattle.transfer.proofs.row.checks_index.Statement.{statement}
+use Rattle.transfer.proofs.row.checks_index.Tie as tie
+use Rattle.transfer.proofs.row.checks_index.Reads as reads
+use Rattle.transfer.proofs.row.checks_index.Lts as lts
+
+enum-told : tie.Need-enum-told
+enum-told c = search needs
+
+enum-told-2 : tie.Need-enum-told-2
+enum-told-2 c = search needs
+
+enum-told-3 : tie.Need-enum-told-3
+enum-told-3 c = search needs
+
+returns : tie.Need-returns
+unfolding checksIndex
+returns c = sym (ap (λ (w : AnalysisKind). checksIndex w (c .before .before .args .op)) (c .enum-told .given .1))
+
+returns-2 : tie.Need-returns-2
+unfolding checksIndex
+returns-2 c = sym (ap (λ (w : AnalysisKind). checksIndex w (c .before .before .args .op)) (c .enum-told2 .given .1))
+
+returns-3 : tie.Need-returns-3
+unfolding checksIndex
+returns-3 c = sym (ap (λ (w : AnalysisKind). checksIndex w (c .before .before .args .op)) (c .enum-told3 .given .1))
+
+pub checks-index-spec : {M : Type 1} → statement M
+checks-index-spec =
+    tie.close (tie.spec enum-told enum-told-2 enum-told-3 returns returns-2 returns-3)

@@ -1,0 +1,57 @@
+use mathlib.Core.Path.{sym, ap}
+use native.Mathlib.Omega.{arith}
+use Prim.Native.Nat.{ℕ, _≤_}
+use Rattle.transfer.specs.Slots.{names, lastRange}
+use Rattle.transfer.proofs.Named.{span-wrote, ranges-wrote, ranges-fit}
+use borrow.Author.Needs.{needs}
+use Rattle.transfer.proofs.rows.write_slots.Statement.{statement}
+use Rattle.transfer.proofs.rows.write_slots.Tie as tie
+use Rattle.transfer.proofs.rows.write_slots.Reads as reads
+use Rattle.transfer.proofs.rows.write_slots.Lts as lts
+use Rattle.transfer.proofs.rows.write_range.Reads as write-range-reads
+use Rattle.transfer.proofs.rows.write_ranges.Reads as write-ranges-reads
+
+enum-known-written : tie.Need-enum-known-written
+enum-known-written c = search needs
+
+write-range-requires : tie.Need-write-range-requires
+write-range-requires c κs = search needs
+
+enum-known-written-2 : tie.Need-enum-known-written-2
+enum-known-written-2 c = search needs
+
+write-ranges-requires : tie.Need-write-ranges-requires
+write-ranges-requires c κs = ((c .before .before .before .before .before .before .before .before .before .before .before .pre .0 .0, ranges-fit (c .before .before .before .written2 .given .1) (c .before .before .before .before .before .before .before .before .before .before .before .pre .0 .1)), c .before .before .before .before .before .before .before .before .before .before .before .pre .1)
+
+same-length : tie.Need-same-length
+same-length c = search needs
+
+same-length-2 : tie.Need-same-length-2
+same-length-2 c = search needs
+
+returns : tie.Need-returns
+returns c = span-wrote (c .before .before .before .before .before .before .before .before .before .before .before .before .before .before .before .before .args .sheet .now) (c .before .before .before .before .before .before .before .before .written .given .1) (c .before .before .before .before .write-range .ensures)
+
+same-length-3 : tie.Need-same-length-3
+same-length-3 c = search needs
+
+same-length-4 : tie.Need-same-length-4
+same-length-4 c = search needs
+
+returns-2 : tie.Need-returns-2
+returns-2 c = ranges-wrote (c .before .before .before .before .before .before .before .before .before .before .before .before .before .before .before .before .args .sheet .now) (c .before .before .before .before .before .before .before .before .written2 .given .1) (c .before .before .before .before .write-ranges .ensures)
+
+pub write-slots-spec : {M : Type 1} → statement M
+write-slots-spec =
+    tie.close
+    (tie.spec
+    enum-known-written
+    write-range-requires
+    enum-known-written-2
+    write-ranges-requires
+    same-length
+    same-length-2
+    returns
+    same-length-3
+    same-length-4
+    returns-2)

@@ -1,0 +1,23 @@
+use native.Mathlib.Omega.{arith}
+use lib.Dec.{leb}
+use Rattle.transfer.proofs.Ascending.{times-le, stepped}
+use borrow.Author.Needs.{needs}
+use Rattle.transfer.proofs.search.half_of.Statement.{statement}
+use Rattle.transfer.proofs.search.half_of.Tie as tie
+use Rattle.transfer.proofs.search.half_of.Reads as reads
+use Rattle.transfer.proofs.search.half_of.Lts as lts
+
+cast-up : tie.Need-cast-up
+cast-up c = search needs
+
+mul-result : tie.Need-mul-result
+mul-result c = omega (arith, times-le (c .args .half) (leb (c .args .t) (c .args .slot)))
+
+add-result : tie.Need-add-result
+add-result c = omega (arith, times-le (c .args .half) (leb (c .args .t) (c .args .slot)))
+
+returns : tie.Need-returns
+returns c = stepped (c .args .slot) (c .args .t) (c .args .base) (c .args .half)
+
+pub half-of-spec : {M : Type 1} → statement M
+half-of-spec = tie.close (tie.spec cast-up mul-result add-result returns)

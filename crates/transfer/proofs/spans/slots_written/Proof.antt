@@ -1,0 +1,50 @@
+use Rattle.model.specs.Tables.{factsOf}
+use Rattle.transfer.proofs.Named.{constant-names, container-names, index-names}
+use borrow.Author.Needs.{needs}
+use Rattle.transfer.proofs.spans.slots_written.Statement.{statement}
+use Rattle.transfer.proofs.spans.slots_written.Tie as tie
+use Rattle.transfer.proofs.spans.slots_written.Reads as reads
+use Rattle.transfer.proofs.spans.slots_written.Lts as lts
+use Rattle.transfer.proofs.spans.index_check_instruction_writes.Reads as index-check-instruction-writes-reads
+use Rattle.transfer.proofs.spans.instruction_writes.Reads as instruction-writes-reads
+
+enum-told : tie.Need-enum-told
+enum-told c = search needs
+
+instruction-writes-requires : tie.Need-instruction-writes-requires
+instruction-writes-requires c κs = search needs
+
+enum-told-2 : tie.Need-enum-told-2
+enum-told-2 c = search needs
+
+index-check-instruction-writes-requires : tie.Need-index-check-instruction-writes-requires
+index-check-instruction-writes-requires c κs = search needs
+
+enum-told-3 : tie.Need-enum-told-3
+enum-told-3 c = search needs
+
+instruction-writes-requires-2 : tie.Need-instruction-writes-requires-2
+instruction-writes-requires-2 c κs = search needs
+
+returns : tie.Need-returns
+returns c = constant-names (c .before .before .before .before .before .before .before .before .args .sheet .now) (c .before .before .before .before .before .before .before .before .args .sizes) (c .before .before .before .before .before .before .before .before .args .pc) (c .before .before .before .before .before .before .before .before .args .inst) (c .before .before .before .before .before .before .before .before .pre .1 .0) (c .before .before .before .before .before .before .before .before .args .slots .now) (factsOf (c .before .before .before .before .before .before .before .before .args .kinds .now) (c .before .before .before .before .before .before .before .before .args .values .now)) (c .before .enum-told .given .1) (c .instruction-writes .ensures)
+
+returns-2 : tie.Need-returns-2
+returns-2 c = index-names (c .before .before .before .before .before .before .before .before .args .sheet .now) (c .before .before .before .before .before .before .before .before .args .sizes) (c .before .before .before .before .before .before .before .before .args .pc) (c .before .before .before .before .before .before .before .before .args .inst) (c .before .before .before .before .before .before .before .before .pre .1 .0) (c .before .before .before .before .before .before .before .before .args .slots .now) (factsOf (c .before .before .before .before .before .before .before .before .args .kinds .now) (c .before .before .before .before .before .before .before .before .args .values .now)) (c .before .enum-told2 .given .1) (c .index-check-instruction-writes .ensures)
+
+returns-3 : tie.Need-returns-3
+returns-3 c = container-names (c .before .before .before .before .before .before .before .before .args .sheet .now) (c .before .before .before .before .before .before .before .before .args .sizes) (c .before .before .before .before .before .before .before .before .args .pc) (c .before .before .before .before .before .before .before .before .args .inst) (c .before .before .before .before .before .before .before .before .pre .1 .0) (c .before .before .before .before .before .before .before .before .args .slots .now) (factsOf (c .before .before .before .before .before .before .before .before .args .kinds .now) (c .before .before .before .before .before .before .before .before .args .values .now)) (c .before .enum-told3 .given .1) (c .instruction-writes2 .ensures)
+
+pub slots-written-spec : {M : Type 1} → statement M
+slots-written-spec =
+    tie.close
+    (tie.spec
+    enum-told
+    instruction-writes-requires
+    enum-told-2
+    index-check-instruction-writes-requires
+    enum-told-3
+    instruction-writes-requires-2
+    returns
+    returns-2
+    returns-3)

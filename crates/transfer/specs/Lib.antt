@@ -1,0 +1,6 @@
+-- What the functions of this crate ask and answer, by the definitions of `model`.
+pub mod Rows
+pub mod Effect
+pub mod Slots
+pub mod First
+pub mod Lengths

@@ -1,0 +1,39 @@
+-- What the loop leaves, cleared, is what the defined run gives.
+-- Assumes nothing.
+use mathlib.Core.Path.{_≡_, refl, sym, ap, _∙_}
+use mathlib.Core.List.{List}
+use mathlib.Core.Option.{Option, none, some}
+use Prim.Native.Nat.{ℕ, _+_, _*_}
+use lib.ListN.{length, replicate}
+use Rattle.model.specs.Call.{zeros}
+use Rattle.model.specs.Fact.{kind, value, Row}
+use Rattle.model.specs.Run.{Analysis, RunEnd, finished, overdrawn, bound, run}
+use Rattle.model.specs.Tables.{presentBytes, cells}
+use Rattle.worklist.specs.Turn.{Ran, RunResult, runResult, finishOf, ranOf}
+use Rattle.worklist.specs.declared.Run.{Run}
+use Rattle.worklist.specs.declared.Run.the-variants.{Finished, Overdrawn}
+
+result-path : {r : Run} {p k v rk rv l p′ k′ v′ rk′ rv′ l′ : List ℕ} → p ≡ p′ → k ≡ k′ → v ≡ v′ → rk ≡ rk′ → rv ≡ rv′ → l ≡ l′
+    → runResult r p k v rk rv l ≡ runResult r p′ k′ v′ rk′ rv′ l′
+result-path a b c d e f = cc
+
+pub ends : (a : Analysis) (left : ℕ) (r : Run) (present kinds values rowKinds rowValues list : List ℕ)
+    → length present ≡ a .n → length kinds ≡ a .n * a .s → length values ≡ a .n * a .s → length rowKinds ≡ a .s → length rowValues ≡ a .s → length list ≡ bound a
+    → Ran a left r present kinds values list
+    → some (finishOf r present kinds values rowKinds rowValues list) ≡ ranOf (a .n) (a .s) (run a left)
+unfolding Ran finishOf ranOf zeros
+ends a left (Finished pops work) present kinds values rowKinds rowValues list hp hk hv hrk hrv hl (rows, e, laid, z) =
+    rw (hrk, hrv, e) (ap some (result-path (laid .present-are) (laid .kinds-are) (laid .values-are) refl refl z))
+ends a left (Overdrawn requested remaining) present kinds values rowKinds rowValues list hp hk hv hrk hrv hl e = rw (hp, hk, hv, hrk, hrv, hl, e)
+
+module _ (ended : Run) (present kinds values rowKinds rowValues list : List ℕ) (rowKinds′ rowValues′ : List ℕ) where
+  pub finish-finished : {pops work : ℕ} → ended ≡ Finished pops work → rowKinds′ ≡ zeros rowKinds → rowValues′ ≡ zeros rowValues
+      → runResult ended present kinds values rowKinds′ rowValues′ list ≡ finishOf ended present kinds values rowKinds rowValues list
+  unfolding finishOf
+  finish-finished e p q = rw (e, p, q)
+
+  pub finish-overdrawn : {requested remaining : ℕ} (present′ kinds′ values′ list′ : List ℕ) → ended ≡ Overdrawn requested remaining
+      → present′ ≡ zeros present → kinds′ ≡ zeros kinds → values′ ≡ zeros values → rowKinds′ ≡ zeros rowKinds → rowValues′ ≡ zeros rowValues → list′ ≡ zeros list
+      → runResult ended present′ kinds′ values′ rowKinds′ rowValues′ list′ ≡ finishOf ended present kinds values rowKinds rowValues list
+  unfolding finishOf
+  finish-overdrawn present′ kinds′ values′ list′ e a b c p q d = rw (e, a, b, c, p, q, d)

@@ -1,0 +1,77 @@
+// The defined run, from its first row to its end.
+ghost use mathlib.Core.Path.{_≡_};
+ghost use mathlib.Core.Option.{some};
+ghost use lib.ListN.{length};
+ghost use Rattle.model.specs.Run.{run};
+ghost use Rattle.model.specs.Sheet.{codeCount};
+ghost use Rattle.model.specs.Tables.{factsOf};
+ghost use Rattle.worklist.specs.Turn.{ranAnalysis, Lending, Fresh, runResult, ranOf};
+use crate::Run;
+use crate::ending::finish;
+use crate::steps::run_list;
+use crate::visits::offer;
+use model::AnalysisKind;
+use model::InstructionSuccessors;
+use sheet::Sizes;
+
+// "instruction 0 starts with a row .., and the list holds 0 alone": instruction 0 is offered the first row, which is lent as the row
+// scratch. Then the list is run to its end. Pops and work left are the defined run's; what is lent holds its tables, or zeros.
+pub fn propagate(
+    which: AnalysisKind,
+    sheet: &[u8],
+    sizes: Sizes,
+    firsts: &[u16],
+    starts: &[u16],
+    slots: &[u16],
+    length_kinds: &[u8],
+    length_values: &[u64],
+    work: u64,
+    present: &mut [u8],
+    kinds: &mut [u8],
+    values: &mut [u64],
+    row_kinds: &mut [u8],
+    row_values: &mut [u64],
+    list: &mut [u16],
+) -> Run
+    requires { ⌜ Lending (now sheet) sizes (now firsts) (now starts) (now slots) (now «length_kinds») (now «length_values») (factsOf (now «row_kinds») (now «row_values»)) × Fresh (codeCount (now sheet)) (length (now slots)) (now present) (now kinds) (now values) (now «row_kinds») (now «row_values») (now list) ⌝ }
+    ensures { λ r. ⌜ some (runResult r (now (present .exit)) (now (kinds .exit)) (now (values .exit)) (now («row_kinds» .exit)) (now («row_values» .exit)) (now (list .exit))) ≡ ranOf (codeCount (now (sheet .entry))) (length (now (slots .entry))) (run (ranAnalysis which (now (sheet .entry)) (now (slots .entry)) (now («length_kinds» .entry)) (now («length_values» .entry)) (factsOf (now («row_kinds» .entry)) (now («row_values» .entry)))) work) ⌝ }
+{
+    let zero = InstructionSuccessors {
+        pcs: [0, 0],
+        len: 1,
+    };
+    let top = offer(
+        which,
+        sheet,
+        sizes,
+        starts,
+        zero,
+        0,
+        0,
+        row_kinds,
+        row_values,
+        present,
+        kinds,
+        values,
+        list,
+    );
+    let ended = run_list(
+        which,
+        sheet,
+        sizes,
+        firsts,
+        starts,
+        slots,
+        length_kinds,
+        length_values,
+        work,
+        top,
+        present,
+        kinds,
+        values,
+        row_kinds,
+        row_values,
+        list,
+    );
+    finish(ended, present, kinds, values, row_kinds, row_values, list)
+}
