@@ -4,7 +4,10 @@ mod index;
 mod ranges;
 mod slots;
 
+pub use elements::elem_slots;
+pub use elements::has_elements;
 pub use index::index_check_instruction_writes_slot;
+pub use ranges::span;
 pub use slots::instruction_writes_slot;
 
 // "Opcodes (decimal)": the two that go by their own rule.
