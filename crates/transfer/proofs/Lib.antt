@@ -9,4 +9,3 @@ pub mod Writing
 pub mod Ranging
 pub mod Named
 pub mod Putting
-pub mod Spending

@@ -2,5 +2,3 @@
 pub mod Rows
 pub mod Effect
 pub mod Slots
-pub mod First
-pub mod Lengths

@@ -1,21 +1,14 @@
 // "Transfers": a row of facts through an instruction, the first row, and what they cost.
 mod cells;
-mod charges;
 mod constants;
 mod containers;
 mod effects;
-mod first;
 mod index;
-mod lengths;
-mod parameters;
 mod row;
 mod rows;
 mod search;
 mod spans;
 
-pub use charges::charge_matrix;
-pub use first::first_row;
-pub use lengths::length_facts;
 use model::FactCell;
 pub use row::transfer_row;
 pub use search::fact_for_tracked_source;
@@ -39,12 +32,6 @@ enum Effect {
 enum Written {
     Span { start: u16, count: u64 },
     Ranges { first: usize, count: usize },
-}
-
-// The slot of the first parameter, if there is one.
-enum ParamStart {
-    At(usize),
-    Nowhere,
 }
 
 // "Opcodes (decimal)": those that the three analyses know.

@@ -1,0 +1,96 @@
+-- Parts that spend, one after the other, by what the first came to.
+-- Assumes nothing.
+use mathlib.Core.Path.{_≡_, refl, sym, _∙_}
+use mathlib.Core.Logic.{_⊎_, inl, inr}
+use Prim.Native.Nat.{ℕ, zero, suc, _+_, _≤_, _<_}
+use native.Mathlib.Nat.{eq-or-lt-of-le, le-of-suc-le-suc}
+use native.Mathlib.Numerals.{add-one}
+use native.Mathlib.Omega.{arith}
+use Rattle.model.specs.Charges.{Refusal, overBudget, Spent, ok, stop, Metered, give, continue, _>>_, forEach, chargeBytes, chargeWork, inStage, spendBytes, spendWork}
+use Rattle.model.specs.declared.Charge.{Charge}
+use Rattle.model.specs.declared.VerifierResources.{VerifierResources}
+use Rattle.budget.specs.Metering.{asSpent}
+use Rattle.budget.specs.declared.Metering.{Metering}
+use Rattle.budget.specs.declared.Metering.the-variants.{Covered, Refused}
+
+module _ {A B : Type 0} (part : Metered A) (next : Metered B) (budget : VerifierResources) where
+  pub then-covered : {a : A} {left : VerifierResources} → part budget ≡ ok a left → (part >> next) budget ≡ next left
+  unfolding _>>_ continue
+  then-covered e = rw e
+
+  pub then-refused : {refusal : Refusal} {left : VerifierResources} → part budget ≡ stop refusal left → (part >> next) budget ≡ stop refusal left
+  unfolding _>>_ continue
+  then-refused e = rw e
+
+-- the answer of a part that was covered, and of one that was refused
+module _ (stage : ℕ) {whole : Metering} {spent : Spent (Unit {0})} (came : asSpent stage whole ≡ spent) where
+  pub covered : {left : VerifierResources} → whole ≡ Covered left → spent ≡ ok tt left
+  unfolding asSpent
+  covered e = sym came ∙ rw e
+
+  pub refused : {requested remaining : ℕ} {left : VerifierResources} → whole ≡ Refused requested remaining left
+      → spent ≡ stop (overBudget stage requested remaining) left
+  unfolding asSpent
+  refused e = sym came ∙ rw e
+
+module _ (stage : ℕ) (part next : Metered (Unit {0})) (budget : VerifierResources) {whole : Metering} (came : asSpent stage whole ≡ part budget) where
+  -- the refusal of the first is that of both
+  pub first-refused : {requested remaining : ℕ} {left : VerifierResources} → whole ≡ Refused requested remaining left → asSpent stage whole ≡ (part >> next) budget
+  first-refused e = came ∙ refused stage came e ∙ sym (then-refused part next budget (refused stage came e))
+
+  -- what follows a covered part
+  pub second-came : {left : VerifierResources} (last : Metering) → whole ≡ Covered left → asSpent stage last ≡ next left → asSpent stage last ≡ (part >> next) budget
+  second-came last e h = h ∙ sym (then-covered part next budget (covered stage came e))
+
+-- ---- a loop that charges
+
+-- once refused, the rest is not charged
+stays-refused : (f : ℕ → Metered (Unit {0})) (budget rest : VerifierResources) (refusal : Refusal) (i n : ℕ) → i ≤ n
+    → forEach f i budget ≡ stop refusal rest → forEach f n budget ≡ stop refusal rest
+unfolding forEach
+stays-refused f budget rest refusal i zero h e = let z : i ≡ 0 = omega arith in rw z at e
+stays-refused f budget rest refusal i (suc n) h e = go (eq-or-lt-of-le h) (λ k. stays-refused f budget rest refusal i n k e)
+  where
+    go : (i ≡ suc n) ⊎ (i < suc n) → (i ≤ n → forEach f n budget ≡ stop refusal rest) → forEach f (suc n) budget ≡ stop refusal rest
+    go (inl w) before = rw w at e
+    go (inr k) before = then-refused (forEach f n) (f n) budget (before (le-of-suc-le-suc k))
+
+module _ (f : ℕ → Metered (Unit {0})) (n : ℕ) (budget : VerifierResources) where
+  -- after i of n charges, all covered
+  pub record Charged (left : VerifierResources) (i : ℕ) : Type 0 where
+    pub within : i ≤ n
+    pub is : forEach f i budget ≡ ok tt left
+
+  pub charged-none : Charged budget 0
+  unfolding forEach give
+  charged-none = record { within = omega arith; is = refl }
+
+  -- the next charge
+  next : {left : VerifierResources} {i : ℕ} → Charged left i → forEach f (i + 1) budget ≡ f i left
+  unfolding forEach
+  next {left} {i} c = rw add-one (then-covered (forEach f i) (f i) budget (c .is))
+
+  pub charged-more : {left rest : VerifierResources} {i : ℕ} → Charged left i → i < n → f i left ≡ ok tt rest → Charged rest (i + 1)
+  charged-more c h e = record { within = omega arith; is = next c ∙ e }
+
+  pub charged-all : {left : VerifierResources} {i : ℕ} → Charged left i → n ≤ i → forEach f n budget ≡ ok tt left
+  charged-all {left} {i} c h = let e : n ≡ i = omega (arith, c .within) in rw e (c .is)
+
+  pub charged-refused : {left rest : VerifierResources} {i : ℕ} {refusal : Refusal} → Charged left i → i < n → f i left ≡ stop refusal rest
+      → forEach f n budget ≡ stop refusal rest
+  charged-refused {left} {rest} {i} {refusal} c h e = stays-refused f budget rest refusal (i + 1) n (omega arith) (next c ∙ e)
+
+-- ---- one charge, as its functions answer it
+
+module _ (stage : ℕ) (whole : Metering) (left : VerifierResources) {amount same : ℕ} {charge : Charge} where
+  pub bytes-came : charge ≡ chargeBytes amount left → asSpent stage whole ≡ inStage stage left charge → amount ≡ same → asSpent stage whole ≡ spendBytes stage same left
+  unfolding spendBytes
+  bytes-came p q e = cc
+
+  pub work-came : charge ≡ chargeWork amount left → asSpent stage whole ≡ inStage stage left charge → amount ≡ same → asSpent stage whole ≡ spendWork stage same left
+  unfolding spendWork
+  work-came p q e = cc
+
+pub edges-came : (stage : ℕ) (whole : Metering) (left : VerifierResources) {count same : ℕ} → asSpent stage whole ≡ forEach (λ i. spendBytes stage 4) count left → count ≡ same
+    → asSpent stage whole ≡ forEach (λ i. spendBytes stage 4) same left
+edges-came stage whole left h e = rw e at h

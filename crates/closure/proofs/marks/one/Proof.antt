@@ -1,0 +1,13 @@
+-- `closure::marks::one` meets its contract.
+-- Assumes nothing.
+use mathlib.Core.Path.{refl}
+use Rattle.closure.specs.Marks.{slotsIn, firstOf}
+use Rattle.closure.proofs.marks.one.Statement.{statement}
+use Rattle.closure.proofs.marks.one.Tie as tie
+
+returns : tie.Need-returns
+unfolding slotsIn firstOf
+returns c = record { are = refl; many = refl }
+
+pub one-spec : {M : Type 1} → statement M
+one-spec = tie.close (tie.spec returns)

@@ -1,0 +1,85 @@
+-- What a closure leaves: its answer, the marks, and the slots.
+-- Assumes nothing.
+use mathlib.Core.Path.{_≡_}
+use mathlib.Core.Bool.{Bool, true, false}
+use mathlib.Core.List.{List, _++_}
+use mathlib.Core.Option.{Option, none, some}
+use Prim.Native.Nat.{ℕ, _*_, _≤_}
+use lib.Dec.{leb}
+use lib.ListN.{length, set, drop}
+use Rattle.model.specs.Sheet.{localSlots}
+use Rattle.model.specs.Charges.{overBudget, noRoom, Spent, ok, stop, unfinished, Metered, _>>_, spendBytes}
+use Rattle.model.specs.Closure.{Marked}
+use Rattle.model.specs.Call.{zeros}
+use Rattle.budget.specs.declared.Metering.{Metering}
+use Rattle.budget.specs.declared.Metering.the-variants as M
+use Rattle.closure.specs.declared.Closed.{Closed}
+use Rattle.closure.specs.declared.Closed.the-variants.{Tracked, Refused}
+
+-- ---- the charges before the loop
+
+-- "mark 1, work slot 2" for each of L
+unfoldable pub scratchCharges : ℕ → ℕ → Metered (Unit {0})
+scratchCharges stage l = spendBytes stage (l * 1) >> spendBytes stage (l * 2)
+
+-- ---- the loop
+
+-- L marks and a stack of at least L entries, all zero
+pub record Blank (sheet marks stack : List ℕ) : Type 0 where
+  pub wide : length marks ≡ localSlots sheet
+  pub deep : localSlots sheet ≤ length stack
+  pub no-marks : marks ≡ zeros marks
+  pub no-entries : stack ≡ zeros stack
+
+-- What the loop leaves.
+pub record Expanded : Type 0 where
+  pub answer : Metering
+  pub marks : List ℕ
+
+abbrev pub expandedTo : Metering → List ℕ → Option Expanded
+expandedTo answer marks = some (record { answer = answer; marks = marks })
+
+-- the marks of the closure, or zeros after a refusal; nothing where its fuel was too little, or room was asked, which does not happen
+unfoldable pub expandedOf : List ℕ → Spent Marked → Option Expanded
+expandedOf old (ok m left) = expandedTo (M.Covered left) (m .marks)
+expandedOf old (stop (overBudget stage requested remaining) left) = expandedTo (M.Refused requested remaining left) (zeros old)
+expandedOf old (stop noRoom left) = none
+expandedOf old unfinished = none
+
+-- ---- the slots
+
+-- an element stored, unless the test holds
+unfoldable pub storedIf : Bool → List ℕ → ℕ → ℕ → List ℕ
+storedIf true old at x = old
+storedIf false old at x = set old at x
+
+unfoldable pub fittedIf : Bool → List ℕ → List ℕ → List ℕ
+fittedIf true slots old = slots ++ drop (length slots) old
+fittedIf false slots old = old
+
+-- the slots in the first places, where they fit; else what was there
+unfoldable pub fitted : List ℕ → List ℕ → List ℕ
+fitted slots old = fittedIf (leb (length slots) (length old)) slots old
+
+-- ---- the whole
+
+-- the answer for s slots, where all charges were covered
+unfoldable pub closedBy : ℕ → Metering → Closed
+closedBy s (M.Covered left) = Tracked s left
+closedBy s (M.Refused requested remaining left) = Refused requested remaining left
+
+-- What a closure leaves.
+pub record Ended : Type 0 where
+  pub answer : Closed
+  pub slots : List ℕ
+
+abbrev pub closedTo : Closed → List ℕ → Option Ended
+closedTo answer slots = some (record { answer = answer; slots = slots })
+
+-- How many slots are tracked, and the slots where they fit; or the refusal. Nothing where its fuel was too little, or room was asked, which
+-- does not happen.
+unfoldable pub closedOf : List ℕ → Spent (List ℕ) → Option Ended
+closedOf old (ok slots left) = closedTo (Tracked (length slots) left) (fitted slots old)
+closedOf old (stop (overBudget stage requested remaining) left) = closedTo (Refused requested remaining left) old
+closedOf old (stop noRoom left) = none
+closedOf old unfinished = none

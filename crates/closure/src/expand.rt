@@ -1,0 +1,67 @@
+// `FactDependencyGraph::expand`: from the seeds along the edges, the slot put last first.
+ghost use mathlib.Core.Path.{_≡_};
+ghost use Prim.Native.Nat.{_<_};
+ghost use Rattle.model.specs.Sheet.{localSlots};
+ghost use Rattle.model.specs.Closure.{seeded, expand};
+ghost use Rattle.model.specs.Call.{zeros};
+ghost use Rattle.sheet.specs.Measured.{Measured};
+ghost use Rattle.closure.specs.Taking.{Standing, Takes};
+ghost use Rattle.closure.specs.Closed.{Blank, expandedTo, expandedOf};
+use crate::Followed;
+use crate::follow::follow_edges;
+use crate::seeds::seed_slots;
+use budget::Metering;
+use budget::charge_work;
+use budget::metered;
+use memory::clear_u8;
+use memory::clear_u16;
+use model::AnalysisKind;
+use model::Charge;
+use model::VerifierResources;
+use sheet::Sizes;
+
+// The slot on top is taken from the stack, its place is zero again, and its edges are followed.
+fn take_slot(
+    which: AnalysisKind,
+    sheet: &[u8],
+    sizes: Sizes,
+    marks: &mut [u8],
+    stack: &mut [u16],
+    top: usize,
+) -> Followed
+    requires { ⌜ Measured (now sheet) sizes × (0 < top) × Standing (now sheet) (now marks) (now stack) top ⌝ }
+    ensures { λ r. ⌜ Takes which (now (sheet .entry)) (now (marks .entry)) (now (stack .entry)) top (now (marks .exit)) (now (stack .exit)) r ⌝ }
+{
+    let at = top - 1;
+    let d = stack[at] as usize;
+    stack[at] = 0;
+    follow_edges(which, sheet, sizes, d, marks, stack, at)
+}
+
+// Until the stack is empty, or a charge is refused: then marks and stack are cleared. "A refused charge takes nothing."
+pub fn expand(
+    which: AnalysisKind,
+    sheet: &[u8],
+    sizes: Sizes,
+    resources: VerifierResources,
+    marks: &mut [u8],
+    stack: &mut [u16],
+) -> Metering
+    requires { ⌜ Measured (now sheet) sizes × Blank (now sheet) (now marks) (now stack) ⌝ }
+    ensures { λ r. ⌜ (expandedTo r (now (marks .exit)) ≡ expandedOf (now (marks .entry)) (expand which (now (sheet .entry)) (localSlots (now (sheet .entry))) (seeded which (now (sheet .entry))) resources)) × (now (stack .exit) ≡ zeros (now (stack .entry))) ⌝ }
+{
+    let mut top = seed_slots(which, sheet, sizes, marks, stack);
+    let mut left = resources;
+    while 0 < top {
+        let followed = take_slot(which, sheet, sizes, marks, stack, top);
+        let charge = charge_work(left, followed.count);
+        let Charge::Covered { left: rest } = charge else {
+            clear_u8(marks);
+            clear_u16(stack);
+            return metered(left, charge);
+        };
+        left = rest;
+        top = followed.top;
+    }
+    Metering::Covered { left }
+}

@@ -1,0 +1,89 @@
+-- The lines in order are the listing.
+-- Assumes nothing.
+use mathlib.Core.Path.{_≡_, refl, sym, ap, ap₂, _∙_}
+use mathlib.Core.List.{List, [], _∷_, _++_, append-assoc, append-nil}
+use mathlib.Core.Option.{Option, none, some}
+use Prim.Native.Nat.{ℕ, zero, suc, _+_, _-_}
+use native.Mathlib.Omega.{arith}
+use lib.ListN.{length, take, replicate}
+use lib.Seq.{take-at}
+use borrow.Author.Tests.{eq-eqb, ne-eqb}
+use Rattle.model.specs.Sheet.{codeCount}
+use Rattle.model.specs.Count.{collect}
+use Rattle.model.specs.Fact.{Fact, kind, value, Row}
+use Rattle.model.specs.Run.{rowAt}
+use Rattle.model.specs.Tables.{presentBytes, cells, tableRow}
+use Rattle.model.specs.Analyses.{Analysed, Facts}
+use Rattle.model.specs.Call.{Lent, Table, tableOf, completed, call, counts, tables, filled, filledTable, scratchZero, lentAfter}
+use Rattle.model.specs.Listing.{presentLines, rowsLines, analysisLines, factsLines}
+use Rattle.model.specs.declared.VerifierResources.{VerifierResources}
+use Rattle.model.specs.declared.AnalysisKind.{AnalysisKind}
+use Rattle.model.specs.declared.AnalysisKind.the-variants.{Constant, IndexCheck, Container}
+use Rattle.finality.proofs.Invariant.{none-some}
+use Rattle.finality.proofs.Cells.{Sized}
+use Rattle.finality.proofs.Memory.{shown, row-shown, row-part}
+use Rattle.lookup.specs.Run.{analysedOf}
+use Rattle.lookup.proofs.Call.{call-shaped}
+use Rattle.listing.specs.Text.{analysisName, factText, headLine}
+use Rattle.listing.specs.Rows.{rowIf, tableRowOf, rowIn, printedAnalysis, printed}
+
+-- ---- what is collected in order
+
+collect-same : (f g : ℕ → List ℕ) (n : ℕ) → ((i : ℕ) → f i ≡ g i) → collect f n ≡ collect g n
+unfolding collect
+collect-same f g zero h = refl
+collect-same f g (suc n) h = ap₂ _++_ (collect-same f g n h) (h n)
+
+collect-front : (f : ℕ → List ℕ) (n : ℕ) → f 0 ++ collect (λ i. f (suc i)) n ≡ collect f (suc n)
+unfolding collect
+collect-front f zero = append-nil (f 0)
+collect-front f (suc n) = sym (append-assoc (f 0) (collect (λ i. f (suc i)) n) (f (suc n))) ∙ ap (λ (x : List ℕ). x ++ f (suc n)) (collect-front f n)
+
+rows-collected : (text : Fact → List ℕ) (slots : List ℕ) (pc : ℕ) (rows : List (Option Row)) → collect (λ i. presentLines text (pc + i) slots (rowAt rows i)) (length rows) ≡ rowsLines text pc slots rows
+unfolding rowsLines collect
+rows-collected text slots pc [] = refl
+rows-collected text slots pc (o ∷ os) =
+    sym (collect-front (λ i. presentLines text (pc + i) slots (rowAt (o ∷ os) i)) (length os))
+    ∙ ap₂ _++_ (ap (λ (p : ℕ). presentLines text p slots o) (omega arith))
+    (collect-same _ (λ i. presentLines text (suc pc + i) slots (rowAt os i)) (length os) (λ i. ap (λ (p : ℕ). presentLines text p slots (rowAt os i)) (omega arith))
+    ∙ rows-collected text slots (suc pc) os)
+
+-- ---- a row in memory is the run's
+
+module _ (a : Analysed) (sized : Sized (length (a .slots)) (a .rows)) (old : Table) where
+  row-is : (pc : ℕ) (o : Option Row) → rowAt (a .rows) pc ≡ o → rowIn (length (a .slots)) (filledTable (tables a) old) pc ≡ o
+  unfolding rowIn tableRowOf rowIf filledTable filled tables tableRow
+  row-is pc none e =
+      rw (ne-eqb _ 1 (λ k. let p = row-shown (a .rows) (length (old .present) - length (presentBytes (a .rows))) pc k in none-some (p .0) (sym e ∙ p .1)))
+  row-is pc (some r) e =
+      rw (eq-eqb _ 1 (shown (a .rows) (length (old .present) - length (presentBytes (a .rows))) pc r e))
+      (ap some (row-part (length (a .slots)) (a .rows) sized
+      (replicate (length (old .kinds) - length (cells kind (length (a .slots)) (a .rows))) 0) (replicate (length (old .values) - length (cells value (length (a .slots)) (a .rows))) 0) pc r e))
+
+  module _ (which : AnalysisKind) (sheet : List ℕ) (all : length (a .rows) ≡ codeCount sheet) where
+    slots-are : take (length (a .slots)) (filledTable (tables a) old .slots) ≡ a .slots
+    unfolding filledTable filled tables
+    slots-are = take-at (a .slots) (replicate (length (old .slots) - length (a .slots)) 0) (length (a .slots)) refl
+
+    pub analysis-is : printedAnalysis which sheet (counts a) (filledTable (tables a) old) ≡ analysisLines (analysisName which) (factText which sheet) (codeCount sheet) a
+    unfolding printedAnalysis headLine analysisLines counts
+    analysis-is =
+        ap (λ (x : List ℕ). headLine which (codeCount sheet) (length (a .slots)) (a .pops) ++ x)
+        (collect-same _ (λ pc. presentLines (factText which sheet) (0 + pc) (a .slots) (rowAt (a .rows) pc)) (codeCount sheet) row
+        ∙ ap (collect (λ pc. presentLines (factText which sheet) (0 + pc) (a .slots) (rowAt (a .rows) pc))) (sym all)
+        ∙ rows-collected (factText which sheet) (a .slots) 0 (a .rows))
+      where
+        row : (pc : ℕ) → presentLines (factText which sheet) pc (take (length (a .slots)) (filledTable (tables a) old .slots)) (rowIn (length (a .slots)) (filledTable (tables a) old) pc)
+            ≡ presentLines (factText which sheet) (0 + pc) (a .slots) (rowAt (a .rows) pc)
+        row pc = let z : 0 + pc ≡ pc = omega arith in rw (z, slots-are, row-is pc (rowAt (a .rows) pc) refl)
+
+-- the listing of a successful call, from what it answered and what it left
+pub listing-printed : (sheet : List ℕ) (budget : VerifierResources) (lent : Lent) (facts : Facts) (left : VerifierResources) → call sheet budget lent ≡ some (completed facts left)
+    → printed sheet (counts (facts .constants)) (counts (facts .index)) (counts (facts .containers)) (lentAfter (completed facts left) lent) left ≡ factsLines sheet facts left
+unfolding printed factsLines tableOf lentAfter scratchZero analysisName factText analysedOf
+listing-printed sheet budget lent facts left e =
+    ap₂ _++_ (ap₂ _++_ (ap₂ _++_ (part Constant (lent .constants)) (part IndexCheck (lent .index))) (part Container (lent .containers))) refl
+  where
+    part : (which : AnalysisKind) (old : Table) → printedAnalysis which sheet (counts (analysedOf facts which)) (filledTable (tables (analysedOf facts which)) old)
+        ≡ analysisLines (analysisName which) (factText which sheet) (codeCount sheet) (analysedOf facts which)
+    part which old = let s = call-shaped sheet budget lent facts left e which in analysis-is (analysedOf facts which) (s .0) old which sheet (s .1)

@@ -1,0 +1,46 @@
+-- Rows as they lie in the tables, and the whole listing as a program writes it, line after line.
+-- Assumes nothing.
+use mathlib.Core.Bool.{Bool, true, false}
+use mathlib.Core.List.{List, _++_}
+use mathlib.Core.Option.{Option, none, some}
+use Prim.Native.Nat.{ℕ, _*_}
+use lib.Dec.{eqb}
+use lib.ListN.{getD, take, drop}
+use Rattle.model.specs.Sheet.{codeCount}
+use Rattle.model.specs.Count.{collect}
+use Rattle.model.specs.Fact.{Row}
+use Rattle.model.specs.Tables.{factsOf}
+use Rattle.model.specs.Call.{Table, Lent, tableOf}
+use Rattle.model.specs.Listing.{presentLines, leftLine}
+use Rattle.model.specs.declared.VerifierResources.{VerifierResources}
+use Rattle.model.specs.declared.Counts.{Counts}
+use Rattle.model.specs.declared.AnalysisKind.{AnalysisKind}
+use Rattle.model.specs.declared.AnalysisKind.the-variants.{Constant, IndexCheck, Container}
+use Rattle.listing.specs.Text.{factText, headLine}
+
+-- a row that is there or not
+unfoldable pub rowIf : Bool → Row → Option Row
+rowIf true row = some row
+rowIf false row = none
+
+-- the row of a present byte and its parts of kinds and values; none unless the byte is 1
+unfoldable pub tableRowOf : ℕ → List ℕ → List ℕ → Option Row
+tableRowOf byte kinds values = rowIf (eqb byte 1) (factsOf kinds values)
+
+-- ---- the whole listing
+
+-- the row of instruction pc, s cells to a row
+unfoldable pub rowIn : ℕ → Table → ℕ → Option Row
+rowIn s table pc = tableRowOf (getD (table .present) pc 0) (take s (drop (pc * s) (table .kinds))) (take s (drop (pc * s) (table .values)))
+
+-- the head of an analysis, and the lines of its n rows in order
+unfoldable pub printedAnalysis : AnalysisKind → List ℕ → Counts → Table → List ℕ
+printedAnalysis which sheet c table =
+    headLine which (codeCount sheet) (c .tracked) (c .pops)
+    ++ collect (λ pc. presentLines (factText which sheet) pc (take (c .tracked) (table .slots)) (rowIn (c .tracked) table pc)) (codeCount sheet)
+
+-- the three, from what a call answered and left, and the last line
+unfoldable pub printed : List ℕ → Counts → Counts → Counts → Lent → VerifierResources → List ℕ
+printed sheet constant index container lent left =
+    printedAnalysis Constant sheet constant (tableOf lent Constant) ++ printedAnalysis IndexCheck sheet index (tableOf lent IndexCheck)
+    ++ printedAnalysis Container sheet container (tableOf lent Container) ++ leftLine left

@@ -1,0 +1,11 @@
+-- What the tests of a lookup show
+pub mod Ascending
+pub mod Agreement
+pub mod Rows
+pub mod Show
+pub mod Answers
+-- Lookups in what a call left
+pub mod Named
+pub mod Transfers
+pub mod Tables
+pub mod Call

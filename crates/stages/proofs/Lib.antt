@@ -1,0 +1,4 @@
+pub mod Paths
+pub mod Stepwise
+pub mod Begin
+pub mod Ran

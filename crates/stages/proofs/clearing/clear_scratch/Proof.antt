@@ -1,0 +1,62 @@
+-- `clear_scratch` meets its contract, slice by slice.
+-- Assumes nothing.
+use Rattle.stages.specs.Stage.{zeroScratch}
+use Rattle.stages.proofs.Paths.{scratch-path}
+use borrow.Author.Needs.{needs}
+use Rattle.stages.proofs.clearing.clear_scratch.Statement.{statement}
+use Rattle.stages.proofs.clearing.clear_scratch.Tie as tie
+use Rattle.stages.proofs.clearing.clear_scratch.Reads as reads
+use Rattle.stages.proofs.clearing.clear_scratch.Lts as lts
+use Rattle.memory.proofs.clear_u16.Reads as clear-u16-reads
+use Rattle.memory.proofs.clear_u64.Reads as clear-u64-reads
+use Rattle.memory.proofs.clear_u8.Reads as clear-u8-reads
+
+clear-u8-requires : tie.Need-clear-u8-requires
+clear-u8-requires c κs = search needs
+
+clear-u16-requires : tie.Need-clear-u16-requires
+clear-u16-requires c κs = search needs
+
+clear-u8-requires-2 : tie.Need-clear-u8-requires-2
+clear-u8-requires-2 c κs = search needs
+
+clear-u64-requires : tie.Need-clear-u64-requires
+clear-u64-requires c κs = search needs
+
+clear-u16-requires-2 : tie.Need-clear-u16-requires-2
+clear-u16-requires-2 c κs = search needs
+
+same-length : tie.Need-same-length
+same-length c = search needs
+
+same-length-2 : tie.Need-same-length-2
+same-length-2 c = search needs
+
+same-length-3 : tie.Need-same-length-3
+same-length-3 c = search needs
+
+same-length-4 : tie.Need-same-length-4
+same-length-4 c = search needs
+
+same-length-5 : tie.Need-same-length-5
+same-length-5 c = search needs
+
+returns : tie.Need-returns
+unfolding zeroScratch
+returns c = scratch-path (c .before .before .before .before .before .before .before .before .before .before .before .before .before .before .before .before .before .before .clear-u8 .ensures) (c .before .before .before .before .before .before .before .before .before .before .before .before .before .before .clear-u16 .ensures) (c .before .before .before .before .before .before .before .before .before .before .clear-u82 .ensures) (c .before .before .before .before .before .before .clear-u64 .ensures) (c .before .before .clear-u162 .ensures)
+
+pub clear-scratch-spec : {M : Type 1} → statement M
+clear-scratch-spec =
+    tie.close
+    (tie.spec
+    clear-u8-requires
+    clear-u16-requires
+    clear-u8-requires-2
+    clear-u64-requires
+    clear-u16-requires-2
+    same-length
+    same-length-2
+    same-length-3
+    same-length-4
+    same-length-5
+    returns)

@@ -1,0 +1,44 @@
+-- `clear_table_if` meets its contract.
+-- Assumes nothing.
+use Rattle.stages.specs.Stage.{tableIf}
+use borrow.Author.Needs.{needs}
+use Rattle.stages.proofs.clearing.clear_table_if.Statement.{statement}
+use Rattle.stages.proofs.clearing.clear_table_if.Tie as tie
+use Rattle.stages.proofs.clearing.clear_table_if.Reads as reads
+use Rattle.stages.proofs.clearing.clear_table_if.Lts as lts
+use Rattle.stages.proofs.clearing.clear_table.Reads as clear-table-reads
+
+clear-table-requires : tie.Need-clear-table-requires
+clear-table-requires c κs = search needs
+
+same-length : tie.Need-same-length
+same-length c = search needs
+
+same-length-2 : tie.Need-same-length-2
+same-length-2 c = search needs
+
+same-length-3 : tie.Need-same-length-3
+same-length-3 c = search needs
+
+same-length-4 : tie.Need-same-length-4
+same-length-4 c = search needs
+
+returns : tie.Need-returns
+unfolding tableIf
+returns c = rw (c .before .before .before .before .before .before .before .before .before .before .before .before .before .if1 .taken) (c .before .before .before .before .before .before .before .before .clear-table .ensures)
+
+returns-2 : tie.Need-returns-2
+unfolding tableIf
+returns-2 c = rw (c .if1 .left)
+
+pub clear-table-if-spec : {M : Type 1} → statement M
+clear-table-if-spec =
+    tie.close
+    (tie.spec
+    clear-table-requires
+    same-length
+    same-length-2
+    same-length-3
+    same-length-4
+    returns
+    returns-2)

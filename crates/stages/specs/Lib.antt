@@ -1,0 +1,4 @@
+-- What a stage asks and leaves
+pub mod Stage
+pub mod Parts
+pub mod Stocked

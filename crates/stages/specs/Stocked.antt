@@ -1,0 +1,36 @@
+-- What a stage behind question 8 is lent.
+-- Assumes nothing.
+use mathlib.Core.Path.{_≡_}
+use mathlib.Core.Bool.{true}
+use mathlib.Core.List.{List}
+use Prim.Native.Nat.{ℕ, _+_, _*_, _≤_, _<_}
+use lib.ListN.{length, replicate}
+use Rattle.model.specs.Sheet.{codeCount, firstRange, layoutCount, layoutStart}
+use Rattle.model.specs.Lookup.{ascends}
+use Rattle.memory.specs.Front.{Holds}
+use Rattle.sheet.specs.Measured.{Accepted}
+use Rattle.sheet.specs.declared.Sizes.{Sizes}
+
+-- what is found once a call: the first range of each instruction, where each layout begins, and room for the length facts
+pub record Found (sheet : List ℕ) (sizes : Sizes) (firsts starts lengthKinds lengthValues : List ℕ) : Type 0 where
+  pub accepted : Accepted sheet sizes
+  pub firsts-are : Holds (firstRange sheet) (codeCount sheet) firsts
+  pub starts-are : Holds (layoutStart sheet) (layoutCount sheet) starts
+  pub length-kinds-length : codeCount sheet ≤ length lengthKinds
+  pub length-values-length : codeCount sheet ≤ length lengthValues
+
+-- the tracked slots, of which there are some, in a code that is not empty
+pub record Slotted (sheet slots : List ℕ) : Type 0 where
+  pub ascending : ascends slots ≡ true
+  pub some-slot : 0 < length slots
+  pub few-slots : length slots ≤ 65535
+  pub some-code : 0 < codeCount sheet
+
+-- tables and scratch of zeros, exactly as long as the run needs
+pub record Zeroed (n s : ℕ) (present kinds values rowKinds rowValues list : List ℕ) : Type 0 where
+  pub present-zero : present ≡ replicate n 0
+  pub kinds-zero : kinds ≡ replicate (n * s) 0
+  pub values-zero : values ≡ replicate (n * s) 0
+  pub row-kinds-zero : rowKinds ≡ replicate s 0
+  pub row-values-zero : rowValues ≡ replicate s 0
+  pub list-zero : list ≡ replicate (n * (1 + 2 * s)) 0
