@@ -1,6 +1,5 @@
 // The work list: ONE loop for the three analyses.
 mod ending;
-mod steps;
 mod visits;
 mod whole;
 

@@ -6,10 +6,10 @@ use lib.ListN.{length, length-set}
 use Rattle.model.specs.Sheet.{codeCount}
 use Rattle.worklist.specs.Turn.{firstOf, Turn, Ran}
 use Rattle.worklist.proofs.Loop.{turn-entry, row-small, transfer-asks, transferred, next-is, next-offering, next-first, next-second, entry-inside, entry-code, ends-refused, ends-empty}
-use Rattle.worklist.proofs.steps.run_list.Statement.{statement}
-use Rattle.worklist.proofs.steps.run_list.Tie as tie
-use Rattle.worklist.proofs.steps.run_list.Reads as reads
-use Rattle.worklist.proofs.steps.run_list.Lts as lts
+use Rattle.worklist.proofs.whole.run_list.Statement.{statement}
+use Rattle.worklist.proofs.whole.run_list.Tie as tie
+use Rattle.worklist.proofs.whole.run_list.Reads as reads
+use Rattle.worklist.proofs.whole.run_list.Lts as lts
 use Rattle.cfg.proofs.instruction_successors.Reads as instruction-successors-reads
 use Rattle.sheet.proofs.instruction_at.Reads as instruction-at-reads
 use Rattle.transfer.proofs.transfer_row.Reads as transfer-row-reads
