@@ -3,6 +3,7 @@
 //! `Sheet::load` asks questions 1 to 5, `analyze` is the Rust alone, `answer` adds what the observers see.
 
 mod answer;
+mod corners;
 pub mod draft;
 pub mod generate;
 pub mod inputs;
@@ -15,6 +16,7 @@ mod verifier;
 use outside::instruction_effects;
 
 pub use answer::{answer, record, request, Answer, Budget, Closed, Outcome, Table, NAMES};
+pub use corners::corners;
 pub use listing::listing;
 pub use sheet::{Sheet, LIMITS};
 pub use verifier::{analyze, fresh, sizes, successors, Facts, Spent};

@@ -1,11 +1,11 @@
 //! The commands; README.md says what each reads and writes.
 
 use oracle::inputs::{fixed, recorded, short, worked, wrong_case, Request};
-use oracle::{answer, generate::generated, generate::large, listing, record, request, sizes, Budget};
+use oracle::{answer, corners, generate::generated, generate::large, listing, record, request, sizes, Budget};
 use std::io::{self, BufReader, BufWriter, Read, Write};
 use std::process::ExitCode;
 
-const USAGE: &str = "oracle facts | full BYTES WORK | batch | records | sizes | cases | worked
+const USAGE: &str = "oracle facts | full BYTES WORK | batch | records | corners | sizes | cases | worked
        | inputs (recorded | fixed | short STEP | generated SEED FIRST COUNT | large SEED COUNT)";
 
 /// Successor record, dependency, constant fact, index fact, container fact, mark, work slot.
@@ -26,10 +26,10 @@ fn main() -> ExitCode {
 
 fn run(words: &[&str]) -> io::Result<bool> {
     match words {
-        ["facts"] => print!("{}", listing(&sheet_from_input()?)),
+        ["facts"] => print!("{}", listing(&input_bytes()?)),
         ["full", bytes, work] => {
             let budget = Budget { bytes: number(bytes)?, work: number(work)? };
-            print!("{}", answer(&sheet_from_input()?, budget).text());
+            print!("{}", answer(&input_bytes()?, budget).text());
         }
         ["batch"] => answer_all(|sheet, budget| {
             let text = listing(sheet);
@@ -40,6 +40,7 @@ fn run(words: &[&str]) -> io::Result<bool> {
         })?,
         ["records"] => answer_all(record)?,
         ["worked"] => io::stdout().write_all(&worked().bytes())?,
+        ["corners"] => print!("{}", corners(&input_bytes()?)),
         ["sizes"] => return Ok(sizes_agree()),
         ["cases"] => return Ok(cases_agree()),
         ["inputs", list @ ..] => return inputs(list),
@@ -70,10 +71,10 @@ fn number(word: &str) -> io::Result<u64> {
     word.parse().map_err(|_| io::Error::other(USAGE))
 }
 
-fn sheet_from_input() -> io::Result<Vec<u8>> {
-    let mut sheet = Vec::new();
-    io::stdin().lock().read_to_end(&mut sheet)?;
-    Ok(sheet)
+fn input_bytes() -> io::Result<Vec<u8>> {
+    let mut bytes = Vec::new();
+    io::stdin().lock().read_to_end(&mut bytes)?;
+    Ok(bytes)
 }
 
 fn write_requests(requests: impl Iterator<Item = Request>) -> io::Result<()> {

@@ -135,6 +135,23 @@ pub fn successors(sheet: &Sheet) -> Vec<Vec<usize>> {
     (0..sheet.func.code.len()).map(|pc| cfg.successors(pc).collect()).collect()
 }
 
+/// Whether an instruction writes a slot, in the constant and container analyses.
+pub fn writes(sheet: &Sheet, pc: usize, slot: u16) -> bool {
+    instruction_writes_slot(Some(&sheet.module), &sheet.func, pc, sheet.func.code[pc], slot)
+}
+
+/// The same in the index analysis, with this kind and value in the instruction's b; None where the Rust has no such fact.
+pub fn index_writes(sheet: &Sheet, pc: usize, (kind, value): (u8, u64), slot: u16) -> Option<bool> {
+    let Sheet { func, module } = sheet;
+    let before = match kind {
+        0 => IndexCheckFact::Unknown,
+        1 => IndexCheckFact::Conflict,
+        _ => IndexCheckFact::Checked { len: value.try_into().ok()? },
+    };
+    let inst = func.code[pc];
+    Some(index_check_instruction_writes_slot(func, module, pc, inst, slot, &[inst.b], &[before]))
+}
+
 impl Facts {
     /// The Rust's own lookups, in document 01's kinds and values.
     pub fn constant(&self, pc: usize, slot: u16) -> Option<(u8, u64)> {

@@ -3,20 +3,16 @@
 use mathlib.Core.Path.{_≡_, refl}
 use mathlib.Core.Logic.{_≢_}
 use mathlib.Core.Bool.{Bool, true, false}
-use mathlib.Core.List.{List, [], _∷_}
+use mathlib.Core.List.{List}
 use Prim.Native.Nat.{ℕ, _/_, _%_}
 use borrow.Author.Tests.{eq-eqb, ne-eqb}
 use Rattle.model.specs.Sheet.{layout}
-use Rattle.model.specs.Fact.{Fact, join, equalNumbers, equalContent, equalLayouts, equalContainers, equalKnown}
+use Rattle.model.specs.Fact.{Fact, join, equalNumbers, equalLayouts, equalContainers, equalKnown}
 use Rattle.model.specs.Tables.{cellOf}
 use Rattle.model.specs.declared.FactCell.{FactCell}
 use Rattle.model.specs.declared.AnalysisKind.{AnalysisKind}
 use Rattle.model.specs.declared.AnalysisKind.the-variants.{Constant, IndexCheck, Container}
-
-content-self : (xs : List ℕ) → equalContent xs xs ≡ true
-unfolding equalContent
-content-self [] = refl
-content-self (x ∷ xs) = rw (eq-eqb x x refl, content-self xs)
+use Rattle.model.proofs.Equality.{content-self}
 
 module _ (sheet : List ℕ) (k v l w : ℕ) where
   pub other-kinds : k ≢ l → false ≡ equalContainers sheet k v l w

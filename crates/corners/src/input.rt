@@ -1,0 +1,72 @@
+// Numbers and bytes from standard input.
+ghost use Prim.Native.Nat.{_<_};
+ghost use Rattle.io.specs.Counts.{Counts};
+use libc::STDIN_FILENO;
+use model::FactCell;
+
+// What comes first in a case, in 8 bytes: the length of its name (8-bit), 0, how many questions it asks (16-bit), the length of its sheet (32-bit).
+pub struct Head {
+    pub name: usize,
+    pub questions: u16,
+    pub sheet: usize,
+}
+
+// A question about a sheet, in 16 bytes: what is asked, the kind of the fact (8-bit each), the instruction, the slot, 0 (16-bit each), the value of
+// the fact (64-bit).
+pub struct Question {
+    pub asks: u8,
+    pub pc: usize,
+    pub slot: u16,
+    pub before: FactCell,
+}
+
+fn wide(x: u8) -> u16
+    ensures { λ r. ⌜ r < 256 ⌝ }
+{
+    x as u16
+}
+
+// Little-endian numbers, from two halves.
+fn u16_of(low: u8, high: u8) -> u16 {
+    wide(low) + 256 * wide(high)
+}
+
+fn u32_of(low: u16, high: u16) -> u32 {
+    low as u32 + 65536 * high as u32
+}
+
+fn u64_of(low: u32, high: u32) -> u64 {
+    low as u64 + 4294967296 * high as u64
+}
+
+pub fn head_of(b: &[u8; 8]) -> Head {
+    Head {
+        name: wide(b[0]) as usize,
+        questions: u16_of(b[2], b[3]),
+        sheet: u32_of(u16_of(b[4], b[5]), u16_of(b[6], b[7])) as usize,
+    }
+}
+
+pub fn question_of(b: &[u8; 16]) -> Question {
+    let low = u32_of(u16_of(b[8], b[9]), u16_of(b[10], b[11]));
+    let high = u32_of(u16_of(b[12], b[13]), u16_of(b[14], b[15]));
+    Question {
+        asks: b[0],
+        pc: u16_of(b[2], b[3]) as usize,
+        slot: u16_of(b[4], b[5]),
+        before: FactCell {
+            kind: b[1],
+            value: u64_of(low, high),
+        },
+    }
+}
+
+// Reads count bytes to the front of the buffer, and answers how many came: fewer where they do not fit or the input ends.
+pub fn read_front(buffer: &mut [u8], count: usize) -> usize
+    ensures { λ r. ⌜ Counts r (now (buffer .exit)) ⌝ }
+{
+    if buffer.len() < count {
+        return 0;
+    }
+    io::read_full(STDIN_FILENO, &mut buffer[..count])
+}
