@@ -290,6 +290,11 @@ module _ (which : AnalysisKind) (sheet : List ℕ) where
   expand-ended (suc fuel) m budget out left b e =
       take-ended (m .stack) (λ m′. expand which sheet fuel m′) m budget out left refl b (λ m′ rest g k. expand-ended fuel m′ rest out left g k) e
 
+  -- it ends with nothing on the stack
+  pub expand-empties : (fuel : ℕ) (budget : VerifierResources) (out : Marked) (left : VerifierResources)
+      → expand which sheet fuel (seeded which sheet) budget ≡ ok out left → out .stack ≡ []
+  expand-empties fuel budget out left e = expand-ended fuel (seeded which sheet) budget out left seeded-between e .empty
+
   -- ---- its fuel is enough
 
   follow-if-weight : (b : Bool) (slot : ℕ) (m : Marked) → weight (followIf b slot m) ≡ weight m

@@ -14,3 +14,4 @@ pub mod Places
 pub mod Closure
 pub mod Call
 pub mod Lent
+pub mod Lengths

@@ -92,7 +92,7 @@ fn instruction_fact(sheet: &[u8], sizes: Sizes, pc: usize) -> FactCell
     unknown_cell()
 }
 
-// The layout bytes of all notes' facts, in code order, also of those that no instruction reaches.
+// The layout bytes of all notes' facts, in code order, also where the instruction is not reachable or its target not tracked.
 pub fn charge_instruction_facts(
     sheet: &[u8],
     sizes: Sizes,

@@ -1,0 +1,144 @@
+-- Every lent buffer is as long after a call as before it.
+-- Assumes nothing.
+use mathlib.Core.Path.{_≡_, refl, sym, ap, _∙_}
+use mathlib.Core.Bool.{Bool, true, false, _&&_, false≢true}
+use mathlib.Core.Logic.{_⊎_, inl, inr}
+use mathlib.Core.List.{List, [], _∷_, _++_}
+use mathlib.Core.Option.{Option, none, some}
+use Prim.Native.Nat.{ℕ, zero, suc, _+_, _*_, _-_, _≤_, _<_}
+use native.Mathlib.Omega.{arith}
+use lib.Dec.{leb}
+use lib.ListN.{length, replicate, length-append, length-replicate}
+use borrow.Author.Tests.{leb-true}
+use Rattle.model.specs.Sheet.{codeCount, sheetRefusal}
+use Rattle.model.specs.Charges.{Spent, ok, stop, unfinished}
+use Rattle.model.specs.Fact.{Fact, kind, value, Row}
+use Rattle.model.specs.Run.{finished, rowAt}
+use Rattle.model.specs.Tables.{presentBytes, cells}
+use Rattle.model.specs.Analyses.{Analysed, Facts, analysis, askRoom, stage}
+use Rattle.model.specs.Call.{Table, Lent, tableOf, workListRoom, roomFor, tableRoom, CallEnd, kept, cleared, completed, tables, zeros, filled, zeroTable, filledTable}
+use Rattle.model.specs.Demand.{Final}
+use Rattle.model.specs.CallDemand.{Made, Demanded}
+use Rattle.model.specs.declared.VerifierResources.{VerifierResources}
+use Rattle.model.specs.declared.AnalysisKind.{AnalysisKind}
+use Rattle.model.proofs.Metered.{bound-parts, then-parts}
+use Rattle.finality.proofs.Call.{stage-made, made-demanded}
+use Rattle.finality.proofs.Cells.{length-present, length-cells}
+use Rattle.finality.proofs.Invariant.{none-some, rowAt-replicate, zero-or-above}
+
+zeros-length : (old : List ℕ) → length (zeros old) ≡ length old
+unfolding zeros
+zeros-length old = length-replicate {A = ℕ} (length old) 0
+
+filled-length : (table old : List ℕ) → length table ≤ length old → length (filled table old) ≡ length old
+unfolding filled
+filled-length table old h = simp (length-append, length-replicate) (omega arith)
+
+-- the lengths of an output
+pub record SameLengths (t u : Table) : Type 0 where
+  pub slots : length (t .slots) ≡ length (u .slots)
+  pub present : length (t .present) ≡ length (u .present)
+  pub kinds : length (t .kinds) ≡ length (u .kinds)
+  pub values : length (t .values) ≡ length (u .values)
+
+-- an output that is cleared keeps its lengths
+pub zero-lengths : (old : Table) → SameLengths (zeroTable old) old
+unfolding zeroTable
+zero-lengths old = record {
+  slots = zeros-length (old .slots);
+  present = zeros-length (old .present);
+  kinds = zeros-length (old .kinds);
+  values = zeros-length (old .values);
+}
+
+-- question 8, as inequalities
+and-parts : (x y : Bool) → x && y ≡ true → (x ≡ true) × (y ≡ true)
+and-parts true y e = (refl, e)
+and-parts false y e = absurd (false≢true e)
+
+pub roomy : (n : ℕ) (t : Table) (rowKinds rowValues workList : List ℕ) (s : ℕ) → roomFor n t rowKinds rowValues workList s ≡ true
+    → (s ≤ length (t .slots)) × (n ≤ length (t .present)) × (n * s ≤ length (t .kinds)) × (n * s ≤ length (t .values))
+unfolding roomFor
+roomy n t rowKinds rowValues workList s e =
+    let list = and-parts _ _ e in
+    let values = and-parts _ _ (list .0) in
+    let kinds = and-parts _ _ (values .0) in
+    let present = and-parts _ _ (kinds .0) in
+    let row = and-parts _ _ (present .0) in
+    let slots = and-parts _ _ (row .0) in
+    (below (slots .0), below (present .1), below (kinds .1), below (values .1))
+  where
+    below : {i j : ℕ} → leb i j ≡ true → i ≤ j
+    below {i} {j} h = omega (arith, leb-true)
+
+-- ---- an analysis of a call
+
+-- the rows of an ended analysis: n of them, each of s facts
+module _ (which : AnalysisKind) (sheet : List ℕ) (lengthFact : ℕ → Fact) (before : VerifierResources) (a : Analysed) (after : VerifierResources)
+    (m : Made which sheet lengthFact before a after) where
+  demanded : Demanded which sheet lengthFact a
+  demanded = made-demanded which sheet lengthFact before a after m
+
+  rows-none : (codeCount sheet ≡ 0) ⊎ (length (a .slots) ≡ 0) → a .rows ≡ replicate (codeCount sheet) none
+  unfolding analysis
+  rows-none z =
+      let e : finished (a .rows) (a .pops) (after .work) ≡ finished (replicate (codeCount sheet) none) 0 (a .started .work) = sym (m .ran) ∙ demanded .run .at-once z in
+      cc
+
+  Sized : Type 0
+  Sized = (length (a .rows) ≡ codeCount sheet) × ((p : ℕ) (r : Row) → rowAt (a .rows) p ≡ some r → length r ≡ length (a .slots))
+
+  none-sized : a .rows ≡ replicate (codeCount sheet) none → Sized
+  unfolding Sized
+  none-sized e = (
+    ap length e ∙ length-replicate {A = Option Row} (codeCount sheet) none,
+    λ p r k. absurd (none-some r (sym (rowAt-replicate (codeCount sheet) p) ∙ (rw e at k))),
+  )
+
+  rows-sized : Sized
+  unfolding Sized analysis
+  rows-sized = go (zero-or-above (codeCount sheet)) (zero-or-above (length (a .slots)))
+    where
+      go : (codeCount sheet ≡ 0) ⊎ (0 < codeCount sheet) → (length (a .slots) ≡ 0) ⊎ (0 < length (a .slots))
+          → (length (a .rows) ≡ codeCount sheet) × ((p : ℕ) (r : Row) → rowAt (a .rows) p ≡ some r → length r ≡ length (a .slots))
+      go (inl e) y = none-sized (rows-none (inl e))
+      go (inr hn) (inl e) = none-sized (rows-none (inr e))
+      go (inr hn) (inr hs) = let f = demanded .rows hn hs in (f .size, f .row-length)
+
+  -- its output keeps its lengths, where question 8 found room
+  pub filled-lengths : (old : Table) → length (a .slots) ≤ length (old .slots) → codeCount sheet ≤ length (old .present)
+      → codeCount sheet * length (a .slots) ≤ length (old .kinds) → codeCount sheet * length (a .slots) ≤ length (old .values)
+      → SameLengths (filledTable (tables a) old) old
+  unfolding filledTable tables Sized
+  filled-lengths old hs hp hk hv =
+      let z = rows-sized in record {
+        slots = filled-length (a .slots) (old .slots) hs;
+        present = filled-length (presentBytes (a .rows)) (old .present) (omega (arith, length-present (a .rows), z .0));
+        kinds = filled-length (cells kind (length (a .slots)) (a .rows)) (old .kinds) (rw (length-cells kind (length (a .slots)) (a .rows) (z .1), z .0) hk);
+        values = filled-length (cells value (length (a .slots)) (a .rows)) (old .values) (rw (length-cells value (length (a .slots)) (a .rows) (z .1), z .0) hv);
+      }
+
+-- question 8 was answered yes in every stage that ended
+pub stage-room : (which : AnalysisKind) (sheet : List ℕ) (enough : ℕ → Bool) (lengthFact : ℕ → Fact) (before : VerifierResources) (a : Analysed) (after : VerifierResources)
+    → stage which sheet enough lengthFact before ≡ ok a after → enough (length (a .slots)) ≡ true
+unfolding stage
+stage-room which sheet enough lengthFact before a after e =
+    let m = stage-made which sheet enough lengthFact before a after e in
+    let p = bound-parts e in
+    let r = then-parts (p .after) in
+    let w : p .a ≡ a .slots = same-slots (p .before) (m .tracked) in
+    ap (λ (l : List ℕ). enough (length l)) (sym w) ∙ yes (enough (length (p .a))) (p .rest) (r .rest) (r .before)
+  where
+    same-slots : {xs ys : List ℕ} {l k : VerifierResources} {x : Spent (List ℕ)} → x ≡ ok xs l → x ≡ ok ys k → xs ≡ ys
+    same-slots f g = cc
+
+    yes : (b : Bool) (left rest : VerifierResources) → askRoom b left ≡ ok tt rest → b ≡ true
+    yes true left rest f = refl
+    yes false left rest f = unfold askRoom in (let z : _≡_ {A = ℕ} 0 1 = cc in absurd (omega arith))
+
+-- So an ended stage leaves an output as long as it was.
+pub stage-lengths : (which : AnalysisKind) (sheet : List ℕ) (old : Table) (rowKinds rowValues workList : List ℕ) (lengthFact : ℕ → Fact) (before : VerifierResources) (a : Analysed) (after : VerifierResources)
+    → stage which sheet (roomFor (codeCount sheet) old rowKinds rowValues workList) lengthFact before ≡ ok a after → SameLengths (filledTable (tables a) old) old
+stage-lengths which sheet old rowKinds rowValues workList lengthFact before a after e =
+    let r = roomy (codeCount sheet) old rowKinds rowValues workList (length (a .slots)) (stage-room which sheet (roomFor (codeCount sheet) old rowKinds rowValues workList) lengthFact before a after e) in
+    filled-lengths which sheet lengthFact before a after (stage-made which sheet (roomFor (codeCount sheet) old rowKinds rowValues workList) lengthFact before a after e) old (r .0) (r .1) (r .2) (r .3)
