@@ -86,18 +86,18 @@ fn shl_cell(x: FactCell, y: FactCell) -> FactCell
 }
 
 // Or of two facts "from 0 to 2^64 − 1".
-fn or_cell(x: FactCell, y: FactCell) -> FactCell
-    ensures { λ r. ⌜ r ≡ cellOf (foldBinary or (u64Fact (factIn x)) (u64Fact (factIn y))) ⌝ }
+fn or_cell(left: FactCell, right: FactCell) -> FactCell
+    ensures { λ r. ⌜ r ≡ cellOf (foldBinary or (u64Fact (factIn left)) (u64Fact (factIn right))) ⌝ }
 {
-    if x.kind != 2 {
+    if left.kind != 2 {
         return unknown_cell();
     }
-    if y.kind != 2 {
+    if right.kind != 2 {
         return unknown_cell();
     }
     FactCell {
         kind: 2,
-        value: x.value | y.value,
+        value: left.value | right.value,
     }
 }
 

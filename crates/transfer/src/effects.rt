@@ -1,6 +1,6 @@
 // What the slots that an instruction writes become.
 ghost use mathlib.Core.Path.{_≡_};
-ghost use Prim.Native.Nat.{ℕ, _<_};
+ghost use Prim.Native.Nat.{ℕ, _+_, _<_};
 ghost use Rattle.model.specs.Sheet.{instruction};
 ghost use Rattle.model.specs.Tables.{cellOf, factsOf};
 ghost use Rattle.sheet.specs.Measured.{Measured};
@@ -56,7 +56,14 @@ pub fn effect_of(
     }
 }
 
-// What one slot becomes where the instruction writes it, from the row before. No number wraps: a source may lie past 65,535.
+// CopyN's source: a number past 65,535 is no slot, and does not wrap to one.
+fn source_slot(from: u16, offset: u16) -> usize
+    ensures { λ r. ⌜ r ≡ from + offset ⌝ }
+{
+    wide(from) + wide(offset)
+}
+
+// What one slot becomes where the instruction writes it, from the row before.
 pub fn effect_on_slot(
     effect: Effect,
     slots: &[u16],
@@ -85,7 +92,7 @@ pub fn effect_on_slot(
             if count <= offset {
                 return unknown_cell();
             }
-            fact_for_tracked_source(slots, kinds, values, wide(from) + wide(offset))
+            fact_for_tracked_source(slots, kinds, values, source_slot(from, offset))
         }
     }
 }

@@ -116,7 +116,7 @@ returns c =
     let o = c .before .before .before .before .before .before .outer in
     let q = c .before .loop .inv in
     let s = kinds-agree (p .0) (a .i) (c .before .before .before .before .before .before .outer .j) _ _ _ (p .1) (c .before .before .before .before .before .outer-test .taken) (c .before .before .before .before .before .before .before .before .layout-length-at .ensures) (sym (c .before .before .before .if1 .left) ∙ (c .before .before .before .before .layout-length-at2 .ensures)) (c .before .before .start-of2 .ensures) (c .before .before .before .before .before .before .before .start-of .ensures) (λ k h. q .2 k (omega arith)) in
-    rw (q .0) (found _ (a .i) (o .j) (c .before .before .before .before .before .outer-test .taken) (o .inv .1) s)
+    q .0 ∙ found _ (a .i) (o .j) (c .before .before .before .before .before .outer-test .taken) (o .inv .1) s
 
 returns-2 : tie.Need-returns-2 Inv-loop μ-loop Inv-outer μ-outer
 returns-2 c =

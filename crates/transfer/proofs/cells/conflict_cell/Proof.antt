@@ -1,10 +1,9 @@
+-- `transfer::cells::conflict_cell` meets its contract: the cell is the definition's. Assumes nothing.
 use mathlib.Core.Path.{refl}
 use Rattle.model.specs.Fact.{kind, value}
 use Rattle.model.specs.Tables.{cellOf}
 use Rattle.transfer.proofs.cells.conflict_cell.Statement.{statement}
 use Rattle.transfer.proofs.cells.conflict_cell.Tie as tie
-use Rattle.transfer.proofs.cells.conflict_cell.Reads as reads
-use Rattle.transfer.proofs.cells.conflict_cell.Lts as lts
 
 returns : tie.Need-returns
 unfolding cellOf kind value

@@ -1,24 +1,15 @@
-use mathlib.Core.Path.{sym, ap, ap₂, _∙_}
+-- `transfer::constants::constant_fact_written_to_slot` meets its contract: each opcode takes its rule, and of any other every test fails. Assumes nothing.
+use mathlib.Core.Path.{ap, ap₂, _∙_}
 use Prim.Native.Nat.{ℕ}
+use lib.IntN.{ℤ}
+use borrow.Author.Needs.{needs}
 use Rattle.model.specs.Fact.{Fact}
 use Rattle.model.specs.Tables.{cellOf, factsOf}
 use Rattle.model.specs.Transfer.{factFor, integer, loadConst, foldBinary, u64Fact, shl, or}
-use lib.IntN.{ℤ}
 use Rattle.transfer.proofs.Facts.{read}
 use Rattle.transfer.proofs.Rules.{loads-int, loads-const, copies-constant, shifts, ors, no-constant}
-use borrow.Author.Needs.{needs}
 use Rattle.transfer.proofs.constants.constant_fact_written_to_slot.Statement.{statement}
 use Rattle.transfer.proofs.constants.constant_fact_written_to_slot.Tie as tie
-use Rattle.transfer.proofs.constants.constant_fact_written_to_slot.Reads as reads
-use Rattle.transfer.proofs.constants.constant_fact_written_to_slot.Lts as lts
-use Rattle.transfer.proofs.cells.unknown_cell.Reads as unknown-cell-reads
-use Rattle.transfer.proofs.constants.imm32_bits.Reads as imm32-bits-reads
-use Rattle.transfer.proofs.constants.integer_cell.Reads as integer-cell-reads
-use Rattle.transfer.proofs.constants.load_const_cell.Reads as load-const-cell-reads
-use Rattle.transfer.proofs.constants.or_cell.Reads as or-cell-reads
-use Rattle.transfer.proofs.constants.shl_cell.Reads as shl-cell-reads
-use Rattle.transfer.proofs.search.fact_for_tracked_source.Reads as fact-for-tracked-source-reads
-use Rattle.transfer.proofs.search.wide.Reads as wide-reads
 
 imm32-bits-requires : tie.Need-imm32-bits-requires
 imm32-bits-requires c κs = search needs
@@ -27,7 +18,9 @@ integer-cell-requires : tie.Need-integer-cell-requires
 integer-cell-requires c κs = search needs
 
 returns : tie.Need-returns
-returns c slot = loads-int (c .before .before .before .before .before .before .before .args .sheet .now) (c .before .before .before .before .before .before .before .args .inst) (c .before .before .before .before .before .before .before .args .slots .now) (factsOf (c .before .before .before .before .before .before .before .args .kinds .now) (c .before .before .before .before .before .before .before .args .values .now)) slot (c .before .before .if1 .taken) (c .integer-cell .ensures ∙ ap (λ (z : ℤ). cellOf (integer z)) (c .before .imm32-bits .ensures))
+returns c slot =
+    let s = c .before .before .before .before .before .before .before in
+    loads-int (s .args .sheet .now) (s .args .inst) (s .args .slots .now) (factsOf (s .args .kinds .now) (s .args .values .now)) slot (c .before .before .if1 .taken) (c .integer-cell .ensures ∙ ap (λ (z : ℤ). cellOf (integer z)) (c .before .imm32-bits .ensures))
 
 wide-requires : tie.Need-wide-requires
 wide-requires c κs = search needs
@@ -36,7 +29,9 @@ load-const-cell-requires : tie.Need-load-const-cell-requires
 load-const-cell-requires c κs = search needs
 
 returns-2 : tie.Need-returns-2
-returns-2 c slot = loads-const (c .before .before .before .before .before .before .before .before .args .sheet .now) (c .before .before .before .before .before .before .before .before .args .inst) (c .before .before .before .before .before .before .before .before .args .slots .now) (factsOf (c .before .before .before .before .before .before .before .before .args .kinds .now) (c .before .before .before .before .before .before .before .before .args .values .now)) slot (c .before .before .if2 .taken) (c .load-const-cell .ensures ∙ ap (λ (n : ℕ). cellOf (loadConst (c .before .before .before .before .before .before .before .before .args .sheet .now) n)) (c .before .wide .ensures .0))
+returns-2 c slot =
+    let s = c .before .before .before .before .before .before .before .before in
+    loads-const (s .args .sheet .now) (s .args .inst) (s .args .slots .now) (factsOf (s .args .kinds .now) (s .args .values .now)) slot (c .before .before .if2 .taken) (c .load-const-cell .ensures ∙ ap (λ (n : ℕ). cellOf (loadConst (s .args .sheet .now) n)) (c .before .wide .ensures .0))
 
 wide-requires-2 : tie.Need-wide-requires-2
 wide-requires-2 c κs = search needs
@@ -45,7 +40,9 @@ fact-for-tracked-source-requires : tie.Need-fact-for-tracked-source-requires
 fact-for-tracked-source-requires c κs = search needs
 
 returns-3 : tie.Need-returns-3
-returns-3 c slot = copies-constant (c .before .before .before .before .before .before .before .before .before .args .sheet .now) (c .before .before .before .before .before .before .before .before .before .args .inst) (c .before .before .before .before .before .before .before .before .before .args .slots .now) (factsOf (c .before .before .before .before .before .before .before .before .before .args .kinds .now) (c .before .before .before .before .before .before .before .before .before .args .values .now)) slot (c .before .before .if3 .taken) (c .fact-for-tracked-source .ensures ∙ ap (λ (n : ℕ). cellOf (factFor (c .before .before .before .before .before .before .before .before .before .args .slots .now) (factsOf (c .before .before .before .before .before .before .before .before .before .args .kinds .now) (c .before .before .before .before .before .before .before .before .before .args .values .now)) n)) (c .before .wide2 .ensures .0))
+returns-3 c slot =
+    let s = c .before .before .before .before .before .before .before .before .before in
+    copies-constant (s .args .sheet .now) (s .args .inst) (s .args .slots .now) (factsOf (s .args .kinds .now) (s .args .values .now)) slot (c .before .before .if3 .taken) (c .fact-for-tracked-source .ensures ∙ ap (λ (n : ℕ). cellOf (factFor (s .args .slots .now) (factsOf (s .args .kinds .now) (s .args .values .now)) n)) (c .before .wide2 .ensures .0))
 
 wide-requires-3 : tie.Need-wide-requires-3
 wide-requires-3 c κs = search needs
@@ -63,7 +60,9 @@ shl-cell-requires : tie.Need-shl-cell-requires
 shl-cell-requires c κs = search needs
 
 returns-4 : tie.Need-returns-4
-returns-4 c slot = shifts (c .before .before .before .before .before .before .before .before .before .before .before .before .before .args .sheet .now) (c .before .before .before .before .before .before .before .before .before .before .before .before .before .args .inst) (c .before .before .before .before .before .before .before .before .before .before .before .before .before .args .slots .now) (factsOf (c .before .before .before .before .before .before .before .before .before .before .before .before .before .args .kinds .now) (c .before .before .before .before .before .before .before .before .before .before .before .before .before .args .values .now)) slot (c .before .before .before .before .before .if4 .taken) (c .shl-cell .ensures ∙ ap₂ (λ (x y : Fact). cellOf (foldBinary shl (u64Fact x) (u64Fact y))) (read _ _ (c .before .before .before .fact-for-tracked-source2 .ensures ∙ ap (λ (n : ℕ). cellOf (factFor (c .before .before .before .before .before .before .before .before .before .before .before .before .before .args .slots .now) (factsOf (c .before .before .before .before .before .before .before .before .before .before .before .before .before .args .kinds .now) (c .before .before .before .before .before .before .before .before .before .before .before .before .before .args .values .now)) n)) (c .before .before .before .before .wide3 .ensures .0))) (read _ _ (c .before .fact-for-tracked-source3 .ensures ∙ ap (λ (n : ℕ). cellOf (factFor (c .before .before .before .before .before .before .before .before .before .before .before .before .before .args .slots .now) (factsOf (c .before .before .before .before .before .before .before .before .before .before .before .before .before .args .kinds .now) (c .before .before .before .before .before .before .before .before .before .before .before .before .before .args .values .now)) n)) (c .before .before .wide4 .ensures .0))))
+returns-4 c slot =
+    let s = c .before .before .before .before .before .before .before .before .before .before .before .before .before in
+    shifts (s .args .sheet .now) (s .args .inst) (s .args .slots .now) (factsOf (s .args .kinds .now) (s .args .values .now)) slot (c .before .before .before .before .before .if4 .taken) (c .shl-cell .ensures ∙ ap₂ (λ (x y : Fact). cellOf (foldBinary shl (u64Fact x) (u64Fact y))) (read _ _ (c .before .before .before .fact-for-tracked-source2 .ensures ∙ ap (λ (n : ℕ). cellOf (factFor (s .args .slots .now) (factsOf (s .args .kinds .now) (s .args .values .now)) n)) (c .before .before .before .before .wide3 .ensures .0))) (read _ _ (c .before .fact-for-tracked-source3 .ensures ∙ ap (λ (n : ℕ). cellOf (factFor (s .args .slots .now) (factsOf (s .args .kinds .now) (s .args .values .now)) n)) (c .before .before .wide4 .ensures .0))))
 
 wide-requires-5 : tie.Need-wide-requires-5
 wide-requires-5 c κs = search needs
@@ -81,13 +80,17 @@ or-cell-requires : tie.Need-or-cell-requires
 or-cell-requires c κs = search needs
 
 returns-5 : tie.Need-returns-5
-returns-5 c slot = ors (c .before .before .before .before .before .before .before .before .before .before .before .before .before .before .args .sheet .now) (c .before .before .before .before .before .before .before .before .before .before .before .before .before .before .args .inst) (c .before .before .before .before .before .before .before .before .before .before .before .before .before .before .args .slots .now) (factsOf (c .before .before .before .before .before .before .before .before .before .before .before .before .before .before .args .kinds .now) (c .before .before .before .before .before .before .before .before .before .before .before .before .before .before .args .values .now)) slot (c .before .before .before .before .before .if5 .taken) (c .or-cell .ensures ∙ ap₂ (λ (x y : Fact). cellOf (foldBinary or (u64Fact x) (u64Fact y))) (read _ _ (c .before .before .before .fact-for-tracked-source4 .ensures ∙ ap (λ (n : ℕ). cellOf (factFor (c .before .before .before .before .before .before .before .before .before .before .before .before .before .before .args .slots .now) (factsOf (c .before .before .before .before .before .before .before .before .before .before .before .before .before .before .args .kinds .now) (c .before .before .before .before .before .before .before .before .before .before .before .before .before .before .args .values .now)) n)) (c .before .before .before .before .wide5 .ensures .0))) (read _ _ (c .before .fact-for-tracked-source5 .ensures ∙ ap (λ (n : ℕ). cellOf (factFor (c .before .before .before .before .before .before .before .before .before .before .before .before .before .before .args .slots .now) (factsOf (c .before .before .before .before .before .before .before .before .before .before .before .before .before .before .args .kinds .now) (c .before .before .before .before .before .before .before .before .before .before .before .before .before .before .args .values .now)) n)) (c .before .before .wide6 .ensures .0))))
+returns-5 c slot =
+    let s = c .before .before .before .before .before .before .before .before .before .before .before .before .before .before in
+    ors (s .args .sheet .now) (s .args .inst) (s .args .slots .now) (factsOf (s .args .kinds .now) (s .args .values .now)) slot (c .before .before .before .before .before .if5 .taken) (c .or-cell .ensures ∙ ap₂ (λ (x y : Fact). cellOf (foldBinary or (u64Fact x) (u64Fact y))) (read _ _ (c .before .before .before .fact-for-tracked-source4 .ensures ∙ ap (λ (n : ℕ). cellOf (factFor (s .args .slots .now) (factsOf (s .args .kinds .now) (s .args .values .now)) n)) (c .before .before .before .before .wide5 .ensures .0))) (read _ _ (c .before .fact-for-tracked-source5 .ensures ∙ ap (λ (n : ℕ). cellOf (factFor (s .args .slots .now) (factsOf (s .args .kinds .now) (s .args .values .now)) n)) (c .before .before .wide6 .ensures .0))))
 
 unknown-cell-requires : tie.Need-unknown-cell-requires
 unknown-cell-requires c κs = search needs
 
 returns-6 : tie.Need-returns-6
-returns-6 c slot = no-constant (c .before .before .before .before .before .before .before .before .before .before .args .sheet .now) (c .before .before .before .before .before .before .before .before .before .before .args .inst) (c .before .before .before .before .before .before .before .before .before .before .args .slots .now) (factsOf (c .before .before .before .before .before .before .before .before .before .before .args .kinds .now) (c .before .before .before .before .before .before .before .before .before .before .args .values .now)) slot (c .before .before .before .before .before .if1 .left) (c .before .before .before .before .if2 .left) (c .before .before .before .if3 .left) (c .before .before .before .before .before .before .before .before .before .before .pre .2) (c .before .before .if4 .left) (c .before .if5 .left) (c .unknown-cell .ensures)
+returns-6 c slot =
+    let s = c .before .before .before .before .before .before .before .before .before .before in
+    no-constant (s .args .sheet .now) (s .args .inst) (s .args .slots .now) (factsOf (s .args .kinds .now) (s .args .values .now)) slot (c .before .before .before .before .before .if1 .left) (c .before .before .before .before .if2 .left) (c .before .before .before .if3 .left) (s .pre .2) (c .before .before .if4 .left) (c .before .if5 .left) (c .unknown-cell .ensures)
 
 pub constant-fact-written-to-slot-spec : {M : Type 1} → statement M
 constant-fact-written-to-slot-spec =

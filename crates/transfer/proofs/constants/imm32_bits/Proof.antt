@@ -1,12 +1,11 @@
-use native.Mathlib.Omega.{arith}
+-- `transfer::constants::imm32_bits` meets its contract: the same number at 32 and at 64 bits. Assumes nothing.
 use Prim.Native.Nat.{_+_, _*_}
+use native.Mathlib.Omega.{arith}
+use borrow.Author.Needs.{needs}
 use Rattle.model.specs.Successors.{imm32}
 use Rattle.transfer.proofs.Numbers.{lower-half, upper-half}
-use borrow.Author.Needs.{needs}
 use Rattle.transfer.proofs.constants.imm32_bits.Statement.{statement}
 use Rattle.transfer.proofs.constants.imm32_bits.Tie as tie
-use Rattle.transfer.proofs.constants.imm32_bits.Reads as reads
-use Rattle.transfer.proofs.constants.imm32_bits.Lts as lts
 
 cast-bits : tie.Need-cast-bits
 cast-bits c = search needs

@@ -1,9 +1,8 @@
+-- `transfer::constants::integer_cell` meets its contract: by the sign. Assumes nothing.
 use native.Mathlib.Omega.{arith}
 use Rattle.transfer.proofs.Numbers.{from-zero, negative}
 use Rattle.transfer.proofs.constants.integer_cell.Statement.{statement}
 use Rattle.transfer.proofs.constants.integer_cell.Tie as tie
-use Rattle.transfer.proofs.constants.integer_cell.Reads as reads
-use Rattle.transfer.proofs.constants.integer_cell.Lts as lts
 
 returns : tie.Need-returns
 returns c = from-zero _ (c .if1 .taken)

@@ -1,15 +1,10 @@
-use mathlib.Core.Path.{sym, ap, _∙_}
+-- `transfer::constants::load_const_cell` meets its contract: past the table, of another kind, or an integer. Assumes nothing.
+use mathlib.Core.Path.{ap, _∙_}
+use borrow.Author.Needs.{needs}
 use Rattle.model.specs.Tables.{cellOf}
 use Rattle.transfer.proofs.Numbers.{const-past, const-other, const-loaded}
-use borrow.Author.Needs.{needs}
 use Rattle.transfer.proofs.constants.load_const_cell.Statement.{statement}
 use Rattle.transfer.proofs.constants.load_const_cell.Tie as tie
-use Rattle.transfer.proofs.constants.load_const_cell.Reads as reads
-use Rattle.transfer.proofs.constants.load_const_cell.Lts as lts
-use Rattle.sheet.proofs.constant_bits_at.Reads as constant-bits-at-reads
-use Rattle.sheet.proofs.constant_kind_at.Reads as constant-kind-at-reads
-use Rattle.transfer.proofs.cells.unknown_cell.Reads as unknown-cell-reads
-use Rattle.transfer.proofs.constants.integer_cell.Reads as integer-cell-reads
 
 unknown-cell-requires : tie.Need-unknown-cell-requires
 unknown-cell-requires c κs = search needs

@@ -1,21 +1,14 @@
-use Prim.Native.Nat.{ℕ}
-use mathlib.Core.Path.{sym, ap, ap₂, _∙_}
-use Rattle.model.specs.Transfer.{orUnknown, mapFact, queueFact}
+-- `transfer::containers::instruction_fact` meets its contract: by opcode and note. Assumes nothing.
 use mathlib.Core.Option.{Option}
+use mathlib.Core.Path.{ap, ap₂, _∙_}
+use Prim.Native.Nat.{ℕ}
+use borrow.Author.Needs.{needs}
 use Rattle.model.specs.Fact.{Fact}
 use Rattle.model.specs.Tables.{cellOf}
+use Rattle.model.specs.Transfer.{orUnknown, mapFact, queueFact}
 use Rattle.transfer.proofs.Notes.{map-noted, map-bare, queue-noted, queue-bare, no-container}
-use borrow.Author.Needs.{needs}
 use Rattle.transfer.proofs.containers.instruction_fact.Statement.{statement}
 use Rattle.transfer.proofs.containers.instruction_fact.Tie as tie
-use Rattle.transfer.proofs.containers.instruction_fact.Reads as reads
-use Rattle.transfer.proofs.containers.instruction_fact.Lts as lts
-use Rattle.sheet.proofs.note_a_at.Reads as note-a-at-reads
-use Rattle.sheet.proofs.note_b_at.Reads as note-b-at-reads
-use Rattle.sheet.proofs.note_kind_at.Reads as note-kind-at-reads
-use Rattle.transfer.proofs.cells.unknown_cell.Reads as unknown-cell-reads
-use Rattle.transfer.proofs.containers.map_cell.Reads as map-cell-reads
-use Rattle.transfer.proofs.containers.queue_cell.Reads as queue-cell-reads
 
 note-kind-at-requires : tie.Need-note-kind-at-requires
 note-kind-at-requires c κs = search needs

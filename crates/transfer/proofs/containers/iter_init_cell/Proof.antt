@@ -1,13 +1,11 @@
+-- `transfer::containers::iter_init_cell` meets its contract: by the kind of b's cell. Assumes nothing.
 use mathlib.Core.Path.{ap, _∙_}
+use borrow.Author.Needs.{needs}
 use Rattle.model.specs.Fact.{kind, value}
 use Rattle.model.specs.Tables.{cellOf, factIn}
 use Rattle.transfer.proofs.Notes.{init-map, init-other}
-use borrow.Author.Needs.{needs}
 use Rattle.transfer.proofs.containers.iter_init_cell.Statement.{statement}
 use Rattle.transfer.proofs.containers.iter_init_cell.Tie as tie
-use Rattle.transfer.proofs.containers.iter_init_cell.Reads as reads
-use Rattle.transfer.proofs.containers.iter_init_cell.Lts as lts
-use Rattle.transfer.proofs.containers.iter_next_cell.Reads as iter-next-cell-reads
 
 returns : tie.Need-returns
 unfolding cellOf kind value factIn

@@ -1,14 +1,11 @@
+-- `transfer::containers::iter_next_cell` meets its contract: by the kind of b's cell. Assumes nothing.
 use mathlib.Core.Path.{ap, _∙_}
+use borrow.Author.Needs.{needs}
 use Rattle.model.specs.Fact.{kind, value}
 use Rattle.model.specs.Tables.{cellOf, factIn}
 use Rattle.transfer.proofs.Notes.{next-conflict, next-iter, next-other}
-use borrow.Author.Needs.{needs}
 use Rattle.transfer.proofs.containers.iter_next_cell.Statement.{statement}
 use Rattle.transfer.proofs.containers.iter_next_cell.Tie as tie
-use Rattle.transfer.proofs.containers.iter_next_cell.Reads as reads
-use Rattle.transfer.proofs.containers.iter_next_cell.Lts as lts
-use Rattle.transfer.proofs.cells.conflict_cell.Reads as conflict-cell-reads
-use Rattle.transfer.proofs.cells.unknown_cell.Reads as unknown-cell-reads
 
 conflict-cell-requires : tie.Need-conflict-cell-requires
 conflict-cell-requires c κs = search needs

@@ -1,12 +1,11 @@
+-- `transfer::containers::map_cell` meets its contract: the cell is the definition's. Assumes nothing.
 use mathlib.Core.Path.{refl}
+use borrow.Author.Needs.{needs}
 use Rattle.model.specs.Fact.{kind, value}
 use Rattle.model.specs.Tables.{cellOf}
 use Rattle.model.specs.Transfer.{mapFact}
-use borrow.Author.Needs.{needs}
 use Rattle.transfer.proofs.containers.map_cell.Statement.{statement}
 use Rattle.transfer.proofs.containers.map_cell.Tie as tie
-use Rattle.transfer.proofs.containers.map_cell.Reads as reads
-use Rattle.transfer.proofs.containers.map_cell.Lts as lts
 
 mul-t4 : tie.Need-mul-t4
 mul-t4 c = search needs

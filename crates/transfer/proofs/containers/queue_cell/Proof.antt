@@ -1,12 +1,11 @@
+-- `transfer::containers::queue_cell` meets its contract: the cell is the definition's. Assumes nothing.
 use mathlib.Core.Path.{refl}
+use borrow.Author.Needs.{needs}
 use Rattle.model.specs.Fact.{kind, value}
 use Rattle.model.specs.Tables.{cellOf}
 use Rattle.model.specs.Transfer.{queueFact}
-use borrow.Author.Needs.{needs}
 use Rattle.transfer.proofs.containers.queue_cell.Statement.{statement}
 use Rattle.transfer.proofs.containers.queue_cell.Tie as tie
-use Rattle.transfer.proofs.containers.queue_cell.Reads as reads
-use Rattle.transfer.proofs.containers.queue_cell.Lts as lts
 
 mul-t3 : tie.Need-mul-t3
 mul-t3 c = search needs

@@ -1,16 +1,14 @@
+-- `transfer::effects::effect_of` meets its contract: CopyN by one law, any other by its analysis. Assumes nothing.
+use borrow.Author.Needs.{needs}
 use Rattle.model.specs.Tables.{factsOf}
 use Rattle.transfer.proofs.Rules.{copies-n, constant-effect, index-effect, container-effect}
-use borrow.Author.Needs.{needs}
 use Rattle.transfer.proofs.effects.effect_of.Statement.{statement}
 use Rattle.transfer.proofs.effects.effect_of.Tie as tie
-use Rattle.transfer.proofs.effects.effect_of.Reads as reads
-use Rattle.transfer.proofs.effects.effect_of.Lts as lts
-use Rattle.transfer.proofs.constants.constant_fact_written_to_slot.Reads as constant-fact-written-to-slot-reads
-use Rattle.transfer.proofs.containers.container_effect.Reads as container-effect-reads
-use Rattle.transfer.proofs.index.index_check_fact_written_to_slot.Reads as index-check-fact-written-to-slot-reads
 
 returns : tie.Need-returns
-returns c slot = copies-n (c .before .before .before .before .before .before .args .sheet .now) (c .before .before .before .before .before .before .args .pc) (c .before .before .before .before .before .before .args .inst) (c .before .before .before .before .before .before .pre .3) (c .before .before .before .before .before .before .args .which) (c .before .before .before .before .before .before .args .slots .now) (factsOf (c .before .before .before .before .before .before .args .kinds .now) (c .before .before .before .before .before .before .args .values .now)) slot (c .if1 .taken)
+returns c slot =
+    let s = c .before .before .before .before .before .before in
+    copies-n (s .args .sheet .now) (s .args .pc) (s .args .inst) (s .pre .3) (s .args .which) (s .args .slots .now) (factsOf (s .args .kinds .now) (s .args .values .now)) slot (c .if1 .taken)
 
 enum-told : tie.Need-enum-told
 enum-told c = search needs
@@ -31,13 +29,19 @@ container-effect-requires : tie.Need-container-effect-requires
 container-effect-requires c κs = search needs
 
 returns-2 : tie.Need-returns-2
-returns-2 c slot = constant-effect (c .before .before .before .before .before .before .before .before .before .args .sheet .now) (c .before .before .before .before .before .before .before .before .before .args .pc) (c .before .before .before .before .before .before .before .before .before .args .inst) (c .before .before .before .before .before .before .before .before .before .pre .3) (c .before .before .before .before .before .before .before .before .before .args .which) (c .before .before .before .before .before .before .before .before .before .args .slots .now) (factsOf (c .before .before .before .before .before .before .before .before .before .args .kinds .now) (c .before .before .before .before .before .before .before .before .before .args .values .now)) slot _ (c .before .enum-told .given .1) (c .constant-fact-written-to-slot .ensures slot)
+returns-2 c slot =
+    let s = c .before .before .before .before .before .before .before .before .before in
+    constant-effect (s .args .sheet .now) (s .args .pc) (s .args .inst) (s .pre .3) (s .args .which) (s .args .slots .now) (factsOf (s .args .kinds .now) (s .args .values .now)) slot _ (c .before .enum-told .given .1) (c .constant-fact-written-to-slot .ensures slot)
 
 returns-3 : tie.Need-returns-3
-returns-3 c slot = index-effect (c .before .before .before .before .before .before .before .before .before .args .sheet .now) (c .before .before .before .before .before .before .before .before .before .args .pc) (c .before .before .before .before .before .before .before .before .before .args .inst) (c .before .before .before .before .before .before .before .before .before .pre .3) (c .before .before .before .before .before .before .before .before .before .args .which) (c .before .before .before .before .before .before .before .before .before .args .slots .now) (factsOf (c .before .before .before .before .before .before .before .before .before .args .kinds .now) (c .before .before .before .before .before .before .before .before .before .args .values .now)) slot _ (c .before .enum-told2 .given .1) (c .index-check-fact-written-to-slot .ensures slot)
+returns-3 c slot =
+    let s = c .before .before .before .before .before .before .before .before .before in
+    index-effect (s .args .sheet .now) (s .args .pc) (s .args .inst) (s .pre .3) (s .args .which) (s .args .slots .now) (factsOf (s .args .kinds .now) (s .args .values .now)) slot _ (c .before .enum-told2 .given .1) (c .index-check-fact-written-to-slot .ensures slot)
 
 returns-4 : tie.Need-returns-4
-returns-4 c slot = container-effect (c .before .before .before .before .before .before .before .before .before .args .sheet .now) (c .before .before .before .before .before .before .before .before .before .args .pc) (c .before .before .before .before .before .before .before .before .before .args .inst) (c .before .before .before .before .before .before .before .before .before .pre .3) (c .before .before .before .before .before .before .before .before .before .args .which) (c .before .before .before .before .before .before .before .before .before .args .slots .now) (factsOf (c .before .before .before .before .before .before .before .before .before .args .kinds .now) (c .before .before .before .before .before .before .before .before .before .args .values .now)) slot (c .before .enum-told3 .given .1) _ (c .container-effect .ensures slot)
+returns-4 c slot =
+    let s = c .before .before .before .before .before .before .before .before .before in
+    container-effect (s .args .sheet .now) (s .args .pc) (s .args .inst) (s .pre .3) (s .args .which) (s .args .slots .now) (factsOf (s .args .kinds .now) (s .args .values .now)) slot (c .before .enum-told3 .given .1) _ (c .container-effect .ensures slot)
 
 pub effect-of-spec : {M : Type 1} → statement M
 effect-of-spec =

@@ -1,14 +1,11 @@
+-- `transfer::index::checked_cell` meets its contract: by the kind of the length's cell, and its value. Assumes nothing.
 use mathlib.Core.Path.{ap, _∙_}
+use borrow.Author.Needs.{needs}
 use Rattle.model.specs.Fact.{kind, value}
 use Rattle.model.specs.Tables.{cellOf, factIn}
 use Rattle.transfer.proofs.Rules.{checked-unknown, checked-other, checked-over, checked-in}
-use borrow.Author.Needs.{needs}
 use Rattle.transfer.proofs.index.checked_cell.Statement.{statement}
 use Rattle.transfer.proofs.index.checked_cell.Tie as tie
-use Rattle.transfer.proofs.index.checked_cell.Reads as reads
-use Rattle.transfer.proofs.index.checked_cell.Lts as lts
-use Rattle.transfer.proofs.cells.conflict_cell.Reads as conflict-cell-reads
-use Rattle.transfer.proofs.cells.unknown_cell.Reads as unknown-cell-reads
 
 unknown-cell-requires : tie.Need-unknown-cell-requires
 unknown-cell-requires c κs = search needs

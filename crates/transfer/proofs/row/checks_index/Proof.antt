@@ -1,11 +1,10 @@
+-- `transfer::row::checks_index` meets its contract: by the analysis. Assumes nothing.
 use mathlib.Core.Path.{sym, ap}
+use borrow.Author.Needs.{needs}
 use Rattle.model.specs.declared.AnalysisKind.{AnalysisKind}
 use Rattle.transfer.specs.Effect.{checksIndex}
-use borrow.Author.Needs.{needs}
 use Rattle.transfer.proofs.row.checks_index.Statement.{statement}
 use Rattle.transfer.proofs.row.checks_index.Tie as tie
-use Rattle.transfer.proofs.row.checks_index.Reads as reads
-use Rattle.transfer.proofs.row.checks_index.Lts as lts
 
 enum-told : tie.Need-enum-told
 enum-told c = search needs

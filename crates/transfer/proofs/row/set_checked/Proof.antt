@@ -1,13 +1,8 @@
-use Rattle.transfer.proofs.Putting.{index-checked, not-checked}
+-- `transfer::row::set_checked` meets its contract: IndexCheck puts its fact, any other leaves the row. Assumes nothing.
 use borrow.Author.Needs.{needs}
+use Rattle.transfer.proofs.Putting.{index-checked, not-checked}
 use Rattle.transfer.proofs.row.set_checked.Statement.{statement}
 use Rattle.transfer.proofs.row.set_checked.Tie as tie
-use Rattle.transfer.proofs.row.set_checked.Reads as reads
-use Rattle.transfer.proofs.row.set_checked.Lts as lts
-use Rattle.transfer.proofs.index.checked_cell.Reads as checked-cell-reads
-use Rattle.transfer.proofs.row.checks_index.Reads as checks-index-reads
-use Rattle.transfer.proofs.rows.put_fact.Reads as put-fact-reads
-use Rattle.transfer.proofs.search.wide.Reads as wide-reads
 
 checks-index-requires : tie.Need-checks-index-requires
 checks-index-requires c κs = search needs
@@ -28,10 +23,14 @@ same-length-2 : tie.Need-same-length-2
 same-length-2 c = search needs
 
 returns : tie.Need-returns
-returns c row l = index-checked (c .before .before .before .before .before .before .before .before .before .before .before .before .before .before .args .inst) (c .before .before .before .before .before .before .before .before .before .before .before .before .before .before .args .slots .now) _ row l (c .before .before .before .before .before .before .before .before .before .before .checks-index .ensures) (c .before .before .before .before .before .before .before .before .before .if1 .taken) (c .before .before .before .before .before .before .before .before .wide .ensures .0) (c .before .before .before .before .before .before .before .checked-cell .ensures) (c .before .before .before .before .put-fact .ensures)
+returns c row l =
+    let s = c .before .before .before .before .before .before .before .before .before .before .before .before .before .before in
+    index-checked (s .args .inst) (s .args .slots .now) _ row l (c .before .before .before .before .before .before .before .before .before .before .checks-index .ensures) (c .before .before .before .before .before .before .before .before .before .if1 .taken) (c .before .before .before .before .before .before .before .before .wide .ensures .0) (c .before .before .before .before .before .before .before .checked-cell .ensures) (c .before .before .before .before .put-fact .ensures)
 
 returns-2 : tie.Need-returns-2
-returns-2 c row l = not-checked (c .before .before .before .before .before .args .inst) (c .before .before .before .before .before .args .slots .now) _ row l (c .before .checks-index .ensures) (c .if1 .left)
+returns-2 c row l =
+    let s = c .before .before .before .before .before in
+    not-checked (s .args .inst) (s .args .slots .now) _ row l (c .before .checks-index .ensures) (c .if1 .left)
 
 pub set-checked-spec : {M : Type 1} → statement M
 set-checked-spec =

@@ -1,6 +1,6 @@
-use native.Mathlib.Omega.{arith}
+-- `transfer::rows::write_range` meets its contract: the slots before the range are left, those in it are written, and those behind it are left. Assumes nothing.
 use Prim.Native.Nat.{_-_}
-use mathlib.Core.Path.{_∙_}
+use native.Mathlib.Omega.{arith}
 use lib.ListN.{length}
 use borrow.Author.Needs.{needs}
 use Rattle.model.specs.Tables.{factsOf}
@@ -8,11 +8,6 @@ use Rattle.transfer.specs.Effect.{effectCell}
 use Rattle.transfer.proofs.Ranging.{Writing, writing-start, writing-more, written-all, written-range}
 use Rattle.transfer.proofs.rows.write_range.Statement.{statement}
 use Rattle.transfer.proofs.rows.write_range.Tie as tie
-use Rattle.transfer.proofs.rows.write_range.Reads as reads
-use Rattle.transfer.proofs.rows.write_range.Lts as lts
-use Rattle.transfer.proofs.effects.effect_on_slot.Reads as effect-on-slot-reads
-use Rattle.transfer.proofs.search.lower_bound.Reads as lower-bound-reads
-use Rattle.transfer.proofs.search.wide.Reads as wide-reads
 
 abbrev Inv-loop : tie.InvT-loop
 Inv-loop effect slots kinds values start count out-kinds₀ out-values₀ j₀ out-kinds out-values j =
@@ -28,7 +23,9 @@ lower-bound-requires : tie.Need-lower-bound-requires Inv-loop μ-loop
 lower-bound-requires c κs = c .before .before .before .before .before .before .pre .0 .ascending
 
 loop-holds : tie.Need-loop-holds Inv-loop μ-loop
-loop-holds c = writing-start _ _ _ _ _ _ _ (c .before .before .before .before .before .before .before .pre .1) (c .before .before .before .before .before .before .before .pre .2) (rw (c .before .wide .ensures .0) at (c .lower-bound .ensures))
+loop-holds c =
+    let s = c .before .before .before .before .before .before .before in
+    writing-start _ _ _ _ _ _ _ (s .pre .1) (s .pre .2) (rw (c .before .wide .ensures .0) at (c .lower-bound .ensures))
 
 mul-slot : tie.Need-mul-slot Inv-loop μ-loop
 mul-slot c = omega arith

@@ -1,15 +1,8 @@
-use mathlib.Core.Path.{sym, ap}
-use native.Mathlib.Omega.{arith}
-use Prim.Native.Nat.{ℕ, _≤_}
-use Rattle.transfer.specs.Slots.{names, lastRange}
-use Rattle.transfer.proofs.Named.{span-wrote, ranges-wrote, ranges-fit}
+-- `transfer::rows::write_slots` meets its contract: one range, or several. Assumes nothing.
 use borrow.Author.Needs.{needs}
+use Rattle.transfer.proofs.Named.{span-wrote, ranges-wrote, ranges-fit}
 use Rattle.transfer.proofs.rows.write_slots.Statement.{statement}
 use Rattle.transfer.proofs.rows.write_slots.Tie as tie
-use Rattle.transfer.proofs.rows.write_slots.Reads as reads
-use Rattle.transfer.proofs.rows.write_slots.Lts as lts
-use Rattle.transfer.proofs.rows.write_range.Reads as write-range-reads
-use Rattle.transfer.proofs.rows.write_ranges.Reads as write-ranges-reads
 
 enum-known-written : tie.Need-enum-known-written
 enum-known-written c = search needs
@@ -21,7 +14,9 @@ enum-known-written-2 : tie.Need-enum-known-written-2
 enum-known-written-2 c = search needs
 
 write-ranges-requires : tie.Need-write-ranges-requires
-write-ranges-requires c κs = ((c .before .before .before .before .before .before .before .before .before .before .before .pre .0 .0, ranges-fit (c .before .before .before .written2 .given .1) (c .before .before .before .before .before .before .before .before .before .before .before .pre .0 .1)), c .before .before .before .before .before .before .before .before .before .before .before .pre .1)
+write-ranges-requires c κs =
+    let s = c .before .before .before .before .before .before .before .before .before .before .before in
+    ((s .pre .0 .0, ranges-fit (c .before .before .before .written2 .given .1) (s .pre .0 .1)), s .pre .1)
 
 same-length : tie.Need-same-length
 same-length c = search needs

@@ -1,16 +1,12 @@
+-- `transfer::search::fact_for_tracked_source` meets its contract: the slot is past the tracked ones, between two, or one of them. Assumes nothing.
 use mathlib.Core.Path.{sym, ap, _∙_}
 use native.Mathlib.Omega.{arith}
+use borrow.Author.Needs.{needs}
 use Rattle.model.specs.Tables.{cellOf}
 use Rattle.transfer.proofs.Ascending.{fact-found, fact-past, fact-between}
 use Rattle.transfer.proofs.Facts.{cell-at, row-long}
-use borrow.Author.Needs.{needs}
 use Rattle.transfer.proofs.search.fact_for_tracked_source.Statement.{statement}
 use Rattle.transfer.proofs.search.fact_for_tracked_source.Tie as tie
-use Rattle.transfer.proofs.search.fact_for_tracked_source.Reads as reads
-use Rattle.transfer.proofs.search.fact_for_tracked_source.Lts as lts
-use Rattle.transfer.proofs.cells.unknown_cell.Reads as unknown-cell-reads
-use Rattle.transfer.proofs.search.lower_bound.Reads as lower-bound-reads
-use Rattle.transfer.proofs.search.wide.Reads as wide-reads
 
 lower-bound-requires : tie.Need-lower-bound-requires
 lower-bound-requires c κs = search needs
@@ -46,7 +42,10 @@ shared-slice-read-t14 : tie.Need-shared-slice-read-t14
 shared-slice-read-t14 c = search needs
 
 returns-3 : tie.Need-returns-3
-returns-3 c = cell-at (c .before .before .before .before .before .before .before .before .before .before .pre .lies) (c .before .before .before .before .before .before .lower-bound .result) ∙ ap cellOf (sym (fact-found (c .before .before .before .before .before .before .lower-bound .ensures) _ (row-long (c .before .before .before .before .before .before .before .before .before .before .pre)) (omega arith) (sym (c .before .before .before .wide .ensures .0) ∙ c .before .before .if2 .left)))
+returns-3 c =
+    let s = c .before .before .before .before .before .before .before .before .before .before in
+    let t = c .before .before .before .before .before .before in
+    cell-at (s .pre .lies) (t .lower-bound .result) ∙ ap cellOf (sym (fact-found (t .lower-bound .ensures) _ (row-long (s .pre)) (omega arith) (sym (c .before .before .before .wide .ensures .0) ∙ c .before .before .if2 .left)))
 
 pub fact-for-tracked-source-spec : {M : Type 1} → statement M
 fact-for-tracked-source-spec =

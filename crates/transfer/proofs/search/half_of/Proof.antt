@@ -1,11 +1,10 @@
+-- `transfer::search::half_of` meets its contract: the product with 0 or 1 chooses. Assumes nothing.
 use native.Mathlib.Omega.{arith}
 use lib.Dec.{leb}
-use Rattle.transfer.proofs.Ascending.{times-le, stepped}
 use borrow.Author.Needs.{needs}
+use Rattle.transfer.proofs.Ascending.{times-le, stepped}
 use Rattle.transfer.proofs.search.half_of.Statement.{statement}
 use Rattle.transfer.proofs.search.half_of.Tie as tie
-use Rattle.transfer.proofs.search.half_of.Reads as reads
-use Rattle.transfer.proofs.search.half_of.Lts as lts
 
 cast-up : tie.Need-cast-up
 cast-up c = search needs

@@ -1,14 +1,10 @@
+-- `transfer::search::lower_bound` meets its contract: each turn halves the part in which the bound lies. Assumes nothing.
 use Prim.Native.Nat.{_-_}
 use native.Mathlib.Omega.{arith}
-use lib.ListN.{length}
 use borrow.Author.Needs.{needs}
 use Rattle.transfer.proofs.Ascending.{Halved, whole, halved, bound-above, bound-at, bound-none}
 use Rattle.transfer.proofs.search.lower_bound.Statement.{statement}
 use Rattle.transfer.proofs.search.lower_bound.Tie as tie
-use Rattle.transfer.proofs.search.lower_bound.Reads as reads
-use Rattle.transfer.proofs.search.lower_bound.Lts as lts
-use Rattle.transfer.proofs.search.half_of.Reads as half-of-reads
-use Rattle.transfer.proofs.search.wide.Reads as wide-reads
 
 abbrev Inv-loop : tie.InvT-loop
 Inv-loop slots slot base₀ size₀ base size = Halved slots slot base size

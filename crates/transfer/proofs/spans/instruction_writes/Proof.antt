@@ -1,30 +1,35 @@
+-- `transfer::spans::instruction_writes` meets its contract: by the opcode, and for SlotSetN by its note. Assumes nothing.
+use borrow.Author.Needs.{needs}
 use Rattle.sheet.proofs.Asked.{measured}
 use Rattle.transfer.proofs.Named.{set-names, elements-names, nothing-names, other-names}
-use borrow.Author.Needs.{needs}
 use Rattle.transfer.proofs.spans.instruction_writes.Statement.{statement}
 use Rattle.transfer.proofs.spans.instruction_writes.Tie as tie
-use Rattle.transfer.proofs.spans.instruction_writes.Reads as reads
-use Rattle.transfer.proofs.spans.instruction_writes.Lts as lts
-use Rattle.transfer.proofs.spans.ranges_written.Reads as ranges-written-reads
-use Rattle.writes.proofs.has_elements.Reads as has-elements-reads
 
 returns : tie.Need-returns
-returns c = set-names (c .before .before .before .args .sheet .now) (c .before .before .before .args .sizes) (c .before .before .before .args .pc) (c .before .before .before .args .inst) (c .before .before .before .pre .1) (c .if1 .taken)
+returns c =
+    let s = c .before .before .before in
+    set-names (s .args .sheet .now) (s .args .sizes) (s .args .pc) (s .args .inst) (s .pre .1) (c .if1 .taken)
 
 has-elements-requires : tie.Need-has-elements-requires
 has-elements-requires c κs = (measured (c .before .before .before .before .pre .0 .0), c .before .before .before .before .pre .0 .2)
 
 returns-2 : tie.Need-returns-2
-returns-2 c = elements-names (c .before .before .before .before .before .before .args .sheet .now) (c .before .before .before .before .before .before .args .sizes) (c .before .before .before .before .before .before .args .pc) (c .before .before .before .before .before .before .args .inst) (c .before .before .before .before .before .before .pre .1) (c .before .before .if2 .taken) (c .before .has-elements .ensures) (c .if3 .taken)
+returns-2 c =
+    let s = c .before .before .before .before .before .before in
+    elements-names (s .args .sheet .now) (s .args .sizes) (s .args .pc) (s .args .inst) (s .pre .1) (c .before .before .if2 .taken) (c .before .has-elements .ensures) (c .if3 .taken)
 
 returns-3 : tie.Need-returns-3
-returns-3 c = nothing-names (c .before .before .before .before .before .before .args .sheet .now) (c .before .before .before .before .before .before .args .sizes) (c .before .before .before .before .before .before .args .pc) (c .before .before .before .before .before .before .args .inst) (c .before .before .before .before .before .before .pre .1) (c .before .before .if2 .taken) (c .before .has-elements .ensures) (c .if3 .left)
+returns-3 c =
+    let s = c .before .before .before .before .before .before in
+    nothing-names (s .args .sheet .now) (s .args .sizes) (s .args .pc) (s .args .inst) (s .pre .1) (c .before .before .if2 .taken) (c .before .has-elements .ensures) (c .if3 .left)
 
 ranges-written-requires : tie.Need-ranges-written-requires
 ranges-written-requires c κs = search needs
 
 returns-4 : tie.Need-returns-4
-returns-4 c = other-names (c .before .before .before .before .before .args .sheet .now) (c .before .before .before .before .before .args .sizes) (c .before .before .before .before .before .args .pc) (c .before .before .before .before .before .args .inst) (c .before .before .before .before .before .pre .1) (c .before .before .if1 .left) (c .before .if2 .left) (c .ranges-written .ensures)
+returns-4 c =
+    let s = c .before .before .before .before .before in
+    other-names (s .args .sheet .now) (s .args .sizes) (s .args .pc) (s .args .inst) (s .pre .1) (c .before .before .if1 .left) (c .before .if2 .left) (c .ranges-written .ensures)
 
 pub instruction-writes-spec : {M : Type 1} → statement M
 instruction-writes-spec =

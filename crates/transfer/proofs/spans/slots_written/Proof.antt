@@ -1,12 +1,9 @@
+-- `transfer::spans::slots_written` meets its contract: by the analysis. Assumes nothing.
+use borrow.Author.Needs.{needs}
 use Rattle.model.specs.Tables.{factsOf}
 use Rattle.transfer.proofs.Named.{constant-names, container-names, index-names}
-use borrow.Author.Needs.{needs}
 use Rattle.transfer.proofs.spans.slots_written.Statement.{statement}
 use Rattle.transfer.proofs.spans.slots_written.Tie as tie
-use Rattle.transfer.proofs.spans.slots_written.Reads as reads
-use Rattle.transfer.proofs.spans.slots_written.Lts as lts
-use Rattle.transfer.proofs.spans.index_check_instruction_writes.Reads as index-check-instruction-writes-reads
-use Rattle.transfer.proofs.spans.instruction_writes.Reads as instruction-writes-reads
 
 enum-told : tie.Need-enum-told
 enum-told c = search needs
@@ -27,13 +24,19 @@ instruction-writes-requires-2 : tie.Need-instruction-writes-requires-2
 instruction-writes-requires-2 c κs = search needs
 
 returns : tie.Need-returns
-returns c = constant-names (c .before .before .before .before .before .before .before .before .args .sheet .now) (c .before .before .before .before .before .before .before .before .args .sizes) (c .before .before .before .before .before .before .before .before .args .pc) (c .before .before .before .before .before .before .before .before .args .inst) (c .before .before .before .before .before .before .before .before .pre .1 .0) (c .before .before .before .before .before .before .before .before .args .slots .now) (factsOf (c .before .before .before .before .before .before .before .before .args .kinds .now) (c .before .before .before .before .before .before .before .before .args .values .now)) (c .before .enum-told .given .1) (c .instruction-writes .ensures)
+returns c =
+    let s = c .before .before .before .before .before .before .before .before in
+    constant-names (s .args .sheet .now) (s .args .sizes) (s .args .pc) (s .args .inst) (s .pre .1 .0) (s .args .slots .now) (factsOf (s .args .kinds .now) (s .args .values .now)) (c .before .enum-told .given .1) (c .instruction-writes .ensures)
 
 returns-2 : tie.Need-returns-2
-returns-2 c = index-names (c .before .before .before .before .before .before .before .before .args .sheet .now) (c .before .before .before .before .before .before .before .before .args .sizes) (c .before .before .before .before .before .before .before .before .args .pc) (c .before .before .before .before .before .before .before .before .args .inst) (c .before .before .before .before .before .before .before .before .pre .1 .0) (c .before .before .before .before .before .before .before .before .args .slots .now) (factsOf (c .before .before .before .before .before .before .before .before .args .kinds .now) (c .before .before .before .before .before .before .before .before .args .values .now)) (c .before .enum-told2 .given .1) (c .index-check-instruction-writes .ensures)
+returns-2 c =
+    let s = c .before .before .before .before .before .before .before .before in
+    index-names (s .args .sheet .now) (s .args .sizes) (s .args .pc) (s .args .inst) (s .pre .1 .0) (s .args .slots .now) (factsOf (s .args .kinds .now) (s .args .values .now)) (c .before .enum-told2 .given .1) (c .index-check-instruction-writes .ensures)
 
 returns-3 : tie.Need-returns-3
-returns-3 c = container-names (c .before .before .before .before .before .before .before .before .args .sheet .now) (c .before .before .before .before .before .before .before .before .args .sizes) (c .before .before .before .before .before .before .before .before .args .pc) (c .before .before .before .before .before .before .before .before .args .inst) (c .before .before .before .before .before .before .before .before .pre .1 .0) (c .before .before .before .before .before .before .before .before .args .slots .now) (factsOf (c .before .before .before .before .before .before .before .before .args .kinds .now) (c .before .before .before .before .before .before .before .before .args .values .now)) (c .before .enum-told3 .given .1) (c .instruction-writes2 .ensures)
+returns-3 c =
+    let s = c .before .before .before .before .before .before .before .before in
+    container-names (s .args .sheet .now) (s .args .sizes) (s .args .pc) (s .args .inst) (s .pre .1 .0) (s .args .slots .now) (factsOf (s .args .kinds .now) (s .args .values .now)) (c .before .enum-told3 .given .1) (c .instruction-writes2 .ensures)
 
 pub slots-written-spec : {M : Type 1} → statement M
 slots-written-spec =
