@@ -1,5 +1,3 @@
--- Parts that spend, one after the other
-pub mod Spending
 -- The edges of an instruction as rows
 pub mod Rows
 -- What the instructions' charges are

@@ -17,7 +17,7 @@ use Rattle.budget.specs.declared.Metering.{Metering}
 use Rattle.budget.specs.declared.Metering.the-variants as M
 use Rattle.closure.specs.Closed.{scratchCharges, Blank, Expanded, expandedTo, expandedOf, fitted, closedBy, closedTo, closedOf}
 use Rattle.closure.specs.declared.Closed.{Closed}
-use Rattle.closure.proofs.Spending.{covered, refused, then-covered, then-refused}
+use Rattle.budget.proofs.Spending.{covered, refused, then-covered, then-refused}
 
 -- ---- what the loop came to, by its answer
 

@@ -22,7 +22,7 @@ use Rattle.budget.specs.declared.Metering.{Metering}
 use Rattle.budget.specs.declared.Metering.the-variants.{Covered, Refused}
 use Rattle.parameters.specs.First.{Lies, Blank, first, firstOf}
 use Rattle.parameters.proofs.Made.{blank-lies, made, unmade, made-of, unmade-of}
-use Rattle.parameters.proofs.Spending.{covered, refused, then-covered, then-refused}
+use Rattle.budget.proofs.Spending.{covered, refused, then-covered, then-refused}
 
 -- ---- what an answer says
 

@@ -27,7 +27,7 @@ use Rattle.sheet.proofs.Adding.{Added, added-none, added-more}
 use Rattle.parameters.specs.First.{Lies, Rowed, setAt, first, firstOf}
 use Rattle.parameters.proofs.Facts.{read, kind-of, value-of}
 use Rattle.parameters.proofs.Made.{put-lies, made, unmade, made-of, unmade-of}
-use Rattle.parameters.proofs.Spending.{covered, refused, then-covered, then-refused}
+use Rattle.budget.proofs.Spending.{covered, refused, then-covered, then-refused}
 
 -- a row that is cleared is s zeros
 pub cleared : (old : List ℕ) {out : List ℕ} {s : ℕ} → out ≡ zeros old → length old ≡ s → out ≡ replicate s 0

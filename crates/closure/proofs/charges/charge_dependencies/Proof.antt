@@ -8,7 +8,7 @@ use Rattle.model.specs.Dependencies.{chargeDependencies}
 use Rattle.budget.specs.Metering.{asSpent}
 use Rattle.sheet.proofs.Counted.{counted}
 use Rattle.sheet.proofs.Inside.{code-inside}
-use Rattle.closure.proofs.Spending.{Charged, charged-none, charged-more, charged-all, charged-refused, covered, refused}
+use Rattle.budget.proofs.Spending.{Charged, charged-none, charged-more, charged-all, charged-refused, covered, refused}
 use Rattle.closure.proofs.Charging.{charges, same-charge}
 use Rattle.closure.proofs.charges.charge_dependencies.Statement.{statement}
 use Rattle.closure.proofs.charges.charge_dependencies.Tie as tie

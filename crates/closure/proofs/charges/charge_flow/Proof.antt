@@ -6,7 +6,7 @@ use Rattle.model.specs.Sheet.{codeCount}
 use Rattle.model.specs.Charges.{spendBytes, spendWork}
 use Rattle.model.specs.Analyses.{chargeFlow}
 use Rattle.sheet.proofs.Counted.{counted}
-use Rattle.closure.proofs.Spending.{first-refused, second-came, bytes-came, work-came}
+use Rattle.budget.proofs.Spending.{first-refused, second-came, bytes-came, work-came}
 use borrow.Author.Needs.{needs}
 use Rattle.closure.proofs.charges.charge_flow.Statement.{statement}
 use Rattle.closure.proofs.charges.charge_flow.Tie as tie

@@ -1,7 +1,7 @@
 -- `closure::charges::charge_instruction` meets its contract: the work, then the edges.
 -- Assumes nothing.
 use Rattle.model.specs.Dependencies.{chargeInstruction}
-use Rattle.closure.proofs.Spending.{first-refused, second-came, work-came, edges-came}
+use Rattle.budget.proofs.Spending.{first-refused, second-came, work-came, edges-came}
 use borrow.Author.Needs.{needs}
 use Rattle.closure.proofs.charges.charge_instruction.Statement.{statement}
 use Rattle.closure.proofs.charges.charge_instruction.Tie as tie

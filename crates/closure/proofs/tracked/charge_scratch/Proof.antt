@@ -3,7 +3,7 @@
 use mathlib.Core.Path.{refl}
 use native.Mathlib.Omega.{arith}
 use Rattle.closure.specs.Closed.{scratchCharges}
-use Rattle.closure.proofs.Spending.{first-refused, second-came, bytes-came}
+use Rattle.budget.proofs.Spending.{first-refused, second-came, bytes-came}
 use borrow.Author.Needs.{needs}
 use Rattle.closure.proofs.tracked.charge_scratch.Statement.{statement}
 use Rattle.closure.proofs.tracked.charge_scratch.Tie as tie

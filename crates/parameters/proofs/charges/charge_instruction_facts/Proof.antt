@@ -6,7 +6,7 @@ use Rattle.model.specs.Parameters.{chargeFact, chargeInstructionFacts}
 use Rattle.budget.specs.Metering.{asSpent}
 use Rattle.sheet.proofs.Counted.{counted}
 use Rattle.parameters.proofs.Layouts.{fact-charged}
-use Rattle.parameters.proofs.Spending.{Charged, charged-none, charged-more, charged-all, charged-refused, covered, refused}
+use Rattle.budget.proofs.Spending.{Charged, charged-none, charged-more, charged-all, charged-refused, covered, refused}
 use native.Mathlib.Omega.{arith}
 use borrow.Author.Needs.{needs}
 use Rattle.parameters.proofs.charges.charge_instruction_facts.Statement.{statement}

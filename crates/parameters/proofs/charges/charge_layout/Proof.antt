@@ -1,6 +1,6 @@
 -- `parameters::charges::charge_layout` meets its contract: one charge. Assumes nothing.
 use Rattle.model.specs.Parameters.{chargeLayout}
-use Rattle.parameters.proofs.Spending.{bytes-came}
+use Rattle.budget.proofs.Spending.{bytes-came}
 use native.Mathlib.Omega.{arith}
 use borrow.Author.Needs.{needs}
 use Rattle.parameters.proofs.charges.charge_layout.Statement.{statement}

@@ -4,7 +4,7 @@ use Prim.Native.Nat.{_/_, _%_}
 use Rattle.model.specs.Tables.{factIn}
 use Rattle.model.specs.Parameters.{chargeLayout}
 use Rattle.budget.specs.Metering.{asSpent}
-use Rattle.parameters.proofs.Spending.{first-refused, second-came}
+use Rattle.budget.proofs.Spending.{first-refused, second-came}
 use Rattle.parameters.proofs.Layouts.{no-layouts, two-layouts, one-layout}
 use borrow.Author.Needs.{needs}
 use Rattle.parameters.proofs.charges.charge_layouts.Statement.{statement}

@@ -4,7 +4,7 @@ use Prim.Native.Nat.{ℕ, _*_}
 use native.Mathlib.Nat.{mul-le-mul}
 use native.Mathlib.Omega.{arith}
 use Rattle.model.specs.Closure.{stageNumber}
-use Rattle.parameters.proofs.Spending.{bytes-came}
+use Rattle.budget.proofs.Spending.{bytes-came}
 use borrow.Author.Needs.{needs}
 use Rattle.parameters.proofs.matrix.charge_matrix.Statement.{statement}
 use Rattle.parameters.proofs.matrix.charge_matrix.Tie as tie

@@ -6,12 +6,12 @@ use Prim.Native.Nat.{ℕ, zero, suc, _+_, _≤_, _<_}
 use native.Mathlib.Nat.{eq-or-lt-of-le, le-of-suc-le-suc}
 use native.Mathlib.Numerals.{add-one}
 use native.Mathlib.Omega.{arith}
-use Rattle.model.specs.Charges.{Refusal, overBudget, Spent, ok, stop, Metered, give, continue, _>>_, forEach, chargeBytes, inStage, spendBytes}
+use Rattle.model.specs.Charges.{Refusal, overBudget, Spent, ok, stop, Metered, give, continue, _>>_, forEach, chargeBytes, chargeWork, inStage, spendBytes, spendWork}
 use Rattle.model.specs.declared.Charge.{Charge}
 use Rattle.model.specs.declared.VerifierResources.{VerifierResources}
 use Rattle.budget.specs.Metering.{asSpent}
 use Rattle.budget.specs.declared.Metering.{Metering}
 use Rattle.budget.specs.declared.Metering.the-variants.{Covered, Refused}
 
 module _ {A B : Type 0} (part : Metered A) (next : Metered B) (budget : VerifierResources) where
   pub then-covered : {a : A} {left : VerifierResources} → part budget ≡ ok a left → (part >> next) budget ≡ next left
@@ -80,9 +80,17 @@ module _ (f : ℕ → Metered (Unit {0})) (n : ℕ) (budget : VerifierResources)
       → forEach f n budget ≡ stop refusal rest
   charged-refused {left} {rest} {i} {refusal} c h e = stays-refused f budget rest refusal (i + 1) n (omega arith) (next c ∙ e)
 
--- ---- one charge, as its function answers it
+-- ---- one charge, as its functions answer it
 
 module _ (stage : ℕ) (whole : Metering) (left : VerifierResources) {amount same : ℕ} {charge : Charge} where
   pub bytes-came : charge ≡ chargeBytes amount left → asSpent stage whole ≡ inStage stage left charge → amount ≡ same → asSpent stage whole ≡ spendBytes stage same left
   unfolding spendBytes
   bytes-came p q e = cc
+
+  pub work-came : charge ≡ chargeWork amount left → asSpent stage whole ≡ inStage stage left charge → amount ≡ same → asSpent stage whole ≡ spendWork stage same left
+  unfolding spendWork
+  work-came p q e = cc
+
+pub edges-came : (stage : ℕ) (whole : Metering) (left : VerifierResources) {count same : ℕ} → asSpent stage whole ≡ forEach (λ i. spendBytes stage 4) count left → count ≡ same
+    → asSpent stage whole ≡ forEach (λ i. spendBytes stage 4) same left
+edges-came stage whole left h e = rw e at h
