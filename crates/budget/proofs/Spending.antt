@@ -1,14 +1,13 @@
 -- Parts that spend, one after the other, by what the first came to.
 -- Assumes nothing.
 use mathlib.Core.Path.{_≡_, refl, sym, _∙_}
-use mathlib.Core.Logic.{_⊎_, inl, inr}
-use Prim.Native.Nat.{ℕ, zero, suc, _+_, _≤_, _<_}
-use native.Mathlib.Nat.{eq-or-lt-of-le, le-of-suc-le-suc}
+use Prim.Native.Nat.{ℕ, _+_, _-_, _≤_, _<_}
 use native.Mathlib.Numerals.{add-one}
 use native.Mathlib.Omega.{arith}
 use Rattle.model.specs.Charges.{Refusal, overBudget, Spent, ok, stop, Metered, give, continue, _>>_, forEach, chargeBytes, chargeWork, inStage, spendBytes, spendWork}
 use Rattle.model.specs.declared.Charge.{Charge}
 use Rattle.model.specs.declared.VerifierResources.{VerifierResources}
+use Rattle.model.proofs.Loops.{each-stops}
 use Rattle.budget.specs.Metering.{asSpent}
 use Rattle.budget.specs.declared.Metering.{Metering}
 use Rattle.budget.specs.declared.Metering.the-variants.{Covered, Refused}
@@ -44,17 +43,6 @@ module _ (stage : ℕ) (part next : Metered (Unit {0})) (budget : VerifierResour
 
 -- ---- a loop that charges
 
--- once refused, the rest is not charged
-stays-refused : (f : ℕ → Metered (Unit {0})) (budget rest : VerifierResources) (refusal : Refusal) (i n : ℕ) → i ≤ n
-    → forEach f i budget ≡ stop refusal rest → forEach f n budget ≡ stop refusal rest
-unfolding forEach
-stays-refused f budget rest refusal i zero h e = let z : i ≡ 0 = omega arith in rw z at e
-stays-refused f budget rest refusal i (suc n) h e = go (eq-or-lt-of-le h) (λ k. stays-refused f budget rest refusal i n k e)
-  where
-    go : (i ≡ suc n) ⊎ (i < suc n) → (i ≤ n → forEach f n budget ≡ stop refusal rest) → forEach f (suc n) budget ≡ stop refusal rest
-    go (inl w) before = rw w at e
-    go (inr k) before = then-refused (forEach f n) (f n) budget (before (le-of-suc-le-suc k))
-
 module _ (f : ℕ → Metered (Unit {0})) (n : ℕ) (budget : VerifierResources) where
   -- after i of n charges, all covered
   pub record Charged (left : VerifierResources) (i : ℕ) : Type 0 where
@@ -78,7 +66,10 @@ module _ (f : ℕ → Metered (Unit {0})) (n : ℕ) (budget : VerifierResources)
 
   pub charged-refused : {left rest : VerifierResources} {i : ℕ} {refusal : Refusal} → Charged left i → i < n → f i left ≡ stop refusal rest
       → forEach f n budget ≡ stop refusal rest
-  charged-refused {left} {rest} {i} {refusal} c h e = stays-refused f budget rest refusal (i + 1) n (omega arith) (next c ∙ e)
+  charged-refused {left} {rest} {i} {refusal} c h e =
+      let stopped = each-stops f (i + 1) (n - (i + 1)) budget refusal rest (next c ∙ e) in
+      let whole : n - (i + 1) + (i + 1) ≡ n = omega arith in
+      rw whole at stopped
 
 -- ---- one charge, as its functions answer it
 

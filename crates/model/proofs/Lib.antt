@@ -1,6 +1,7 @@
 -- Laws about the definitions, for whoever proves with them
 pub mod Equality
 pub mod Metered
+pub mod Loops
 -- Document 01's proved cases, and the readings that the definitions shut out
 pub mod Cases
 pub mod Readings
