@@ -1,6 +1,6 @@
 -- Every lent buffer is as long after a call as before it.
 -- Assumes nothing.
-use mathlib.Core.Path.{_≡_, refl, sym, ap, _∙_}
+use mathlib.Core.Path.{_≡_, refl, sym, ap, _∙_, subst}
 use mathlib.Core.Bool.{Bool, true, false, _&&_, false≢true}
 use mathlib.Core.Logic.{_⊎_, inl, inr}
 use mathlib.Core.List.{List, [], _∷_, _++_}
@@ -12,16 +12,17 @@ use lib.ListN.{length, replicate, length-append, length-replicate}
 use borrow.Author.Tests.{leb-true}
 use Rattle.model.specs.Sheet.{codeCount, sheetRefusal}
 use Rattle.model.specs.Charges.{Spent, ok, stop, unfinished}
-use Rattle.model.specs.Fact.{Fact, kind, value, Row}
+use Rattle.model.specs.Fact.{Fact, unknown, kind, value, Row}
 use Rattle.model.specs.Run.{finished, rowAt}
 use Rattle.model.specs.Tables.{presentBytes, cells}
-use Rattle.model.specs.Analyses.{Analysed, Facts, analysis, askRoom, stage}
-use Rattle.model.specs.Call.{Table, Lent, tableOf, workListRoom, roomFor, tableRoom, CallEnd, kept, cleared, completed, tables, zeros, filled, zeroTable, filledTable}
+use Rattle.model.specs.Analyses.{Analysed, Facts, analysis, askRoom, lengthFacts, stage, analyses}
+use Rattle.model.specs.Call.{Table, Lent, tableOf, workListRoom, roomFor, tableRoom, CallEnd, kept, cleared, completed, callEnd, closureRoom, afterSix, afterFive, call, tables, zeros, filled, zeroTable, filledTable, scratchZero, lentAfter}
 use Rattle.model.specs.Demand.{Final}
 use Rattle.model.specs.CallDemand.{Made, Demanded}
 use Rattle.model.specs.declared.VerifierResources.{VerifierResources}
 use Rattle.model.specs.declared.AnalysisKind.{AnalysisKind}
-use Rattle.model.proofs.Metered.{bound-parts, then-parts}
+use Rattle.model.specs.declared.AnalysisKind.the-variants.{Constant, IndexCheck, Container}
+use Rattle.model.proofs.Metered.{bound-parts, then-parts, given}
 use Rattle.finality.proofs.Call.{stage-made, made-demanded}
 use Rattle.finality.proofs.Cells.{length-present, length-cells}
 use Rattle.finality.proofs.Invariant.{none-some, rowAt-replicate, zero-or-above}
@@ -142,3 +143,87 @@ pub stage-lengths : (which : AnalysisKind) (sheet : List ℕ) (old : Table) (row
 stage-lengths which sheet old rowKinds rowValues workList lengthFact before a after e =
     let r = roomy (codeCount sheet) old rowKinds rowValues workList (length (a .slots)) (stage-room which sheet (roomFor (codeCount sheet) old rowKinds rowValues workList) lengthFact before a after e) in
     filled-lengths which sheet lengthFact before a after (stage-made which sheet (roomFor (codeCount sheet) old rowKinds rowValues workList) lengthFact before a after e) old (r .0) (r .1) (r .2) (r .3)
+
+-- ---- of a whole call
+
+-- every lent buffer is as long as the other's
+pub record SameRoom (l m : Lent) : Type 0 where
+  pub constants : SameLengths (l .constants) (m .constants)
+  pub index : SameLengths (l .index) (m .index)
+  pub containers : SameLengths (l .containers) (m .containers)
+  pub marks : length (l .marks) ≡ length (m .marks)
+  pub stack : length (l .stack) ≡ length (m .stack)
+  pub rowKinds : length (l .rowKinds) ≡ length (m .rowKinds)
+  pub rowValues : length (l .rowValues) ≡ length (m .rowValues)
+  pub workList : length (l .workList) ≡ length (m .workList)
+
+same-table : (t : Table) → SameLengths t t
+same-table t = record { slots = refl; present = refl; kinds = refl; values = refl }
+
+kept-lengths : (old : Lent) → SameRoom old old
+kept-lengths old = record {
+  constants = same-table (old .constants);
+  index = same-table (old .index);
+  containers = same-table (old .containers);
+  marks = refl;
+  stack = refl;
+  rowKinds = refl;
+  rowValues = refl;
+  workList = refl;
+}
+
+scratch-lengths : (constants index containers : Table) (old : Lent)
+    → SameLengths constants (old .constants) → SameLengths index (old .index) → SameLengths containers (old .containers) → SameRoom (scratchZero constants index containers old) old
+unfolding scratchZero
+scratch-lengths constants index containers old x y z = record {
+  constants = x;
+  index = y;
+  containers = z;
+  marks = zeros-length (old .marks);
+  stack = zeros-length (old .stack);
+  rowKinds = zeros-length (old .rowKinds);
+  rowValues = zeros-length (old .rowValues);
+  workList = zeros-length (old .workList);
+}
+
+analyses-lengths : (sheet : List ℕ) (budget : VerifierResources) (lent : Lent) (facts : Facts) (left : VerifierResources)
+    → analyses sheet (tableRoom sheet lent) budget ≡ ok facts left → SameRoom (lentAfter (completed facts left) lent) lent
+unfolding analyses tableRoom tableOf lentAfter
+analyses-lengths sheet budget lent facts left e =
+    let flow = then-parts e in
+    let dependencies = then-parts (flow .after) in
+    let c = bound-parts (dependencies .after) in
+    let i = bound-parts (c .after) in
+    let o = bound-parts (i .after) in
+    let w : record { constants = c .a; index = i .a; containers = o .a } ≡ facts = given _ (o .rest) (o .after) in
+    subst (λ (x : Facts). SameRoom (lentAfter (completed x left) lent) lent) w
+    (scratch-lengths _ _ _ lent
+    (stage-lengths Constant sheet (lent .constants) (lent .rowKinds) (lent .rowValues) (lent .workList) (λ pc. unknown) (dependencies .rest) (c .a) (c .rest) (c .before))
+    (stage-lengths IndexCheck sheet (lent .index) (lent .rowKinds) (lent .rowValues) (lent .workList) (lengthFacts sheet (c .a)) (c .rest) (i .a) (i .rest) (i .before))
+    (stage-lengths Container sheet (lent .containers) (lent .rowKinds) (lent .rowValues) (lent .workList) (λ pc. unknown) (i .rest) (o .a) (o .rest) (o .before)))
+
+module _ (sheet : List ℕ) (budget : VerifierResources) (lent : Lent) (end : CallEnd) where
+  ended : {e : CallEnd} → SameRoom (lentAfter e lent) lent → _≡_ {A = Option CallEnd} (some e) (some end) → SameRoom (lentAfter end lent) lent
+  ended {e} h p = let q : e ≡ end = cc in subst (λ (x : CallEnd). SameRoom (lentAfter x lent) lent) q h
+
+  spent-lengths : (spent : Spent Facts) → analyses sheet (tableRoom sheet lent) budget ≡ spent → callEnd spent ≡ some end → SameRoom (lentAfter end lent) lent
+  unfolding callEnd lentAfter
+  spent-lengths (ok facts left) h p = ended {e = completed facts left} (analyses-lengths sheet budget lent facts left h) p
+  spent-lengths (stop refusal left) h p =
+      ended {e = cleared refusal left} (scratch-lengths _ _ _ lent (zero-lengths (lent .constants)) (zero-lengths (lent .index)) (zero-lengths (lent .containers))) p
+  spent-lengths unfinished h p = let z : _≡_ {A = ℕ} 0 1 = cc in absurd (omega arith)
+
+  six-lengths : (b : Bool) → afterSix b sheet budget lent ≡ some end → SameRoom (lentAfter end lent) lent
+  unfolding afterSix lentAfter
+  six-lengths true p = spent-lengths _ refl p
+  six-lengths false p = ended {e = kept 6} (kept-lengths lent) p
+
+  five-lengths : (refusal : Option ℕ) → afterFive refusal sheet budget lent ≡ some end → SameRoom (lentAfter end lent) lent
+  unfolding afterFive lentAfter
+  five-lengths none p = six-lengths (closureRoom sheet lent) p
+  five-lengths (some number) p = ended {e = kept number} (kept-lengths lent) p
+
+  -- Every lent buffer is as long after a call as before it.
+  pub call-lengths : call sheet budget lent ≡ some end → SameRoom (lentAfter end lent) lent
+  unfolding call
+  call-lengths p = five-lengths (sheetRefusal sheet) p
