@@ -27,7 +27,7 @@ use Rattle.finality.proofs.Call.{stage-made, made-demanded}
 use Rattle.finality.proofs.Cells.{length-present, length-cells}
 use Rattle.finality.proofs.Invariant.{none-some, rowAt-replicate, zero-or-above}
 
-zeros-length : (old : List ℕ) → length (zeros old) ≡ length old
+pub zeros-length : (old : List ℕ) → length (zeros old) ≡ length old
 unfolding zeros
 zeros-length old = length-replicate {A = ℕ} (length old) 0
 
@@ -136,6 +136,14 @@ stage-room which sheet enough lengthFact before a after e =
     yes : (b : Bool) (left rest : VerifierResources) → askRoom b left ≡ ok tt rest → b ≡ true
     yes true left rest f = refl
     yes false left rest f = unfold askRoom in (let z : _≡_ {A = ℕ} 0 1 = cc in absurd (omega arith))
+
+-- An ended stage has n rows, each of s facts.
+pub stage-sized : (which : AnalysisKind) (sheet : List ℕ) (enough : ℕ → Bool) (lengthFact : ℕ → Fact) (before : VerifierResources) (a : Analysed) (after : VerifierResources)
+    → stage which sheet enough lengthFact before ≡ ok a after
+    → (length (a .rows) ≡ codeCount sheet) × ((p : ℕ) (r : Row) → rowAt (a .rows) p ≡ some r → length r ≡ length (a .slots))
+unfolding Sized
+stage-sized which sheet enough lengthFact before a after e =
+    rows-sized which sheet lengthFact before a after (stage-made which sheet enough lengthFact before a after e)
 
 -- So an ended stage leaves an output as long as it was.
 pub stage-lengths : (which : AnalysisKind) (sheet : List ℕ) (old : Table) (rowKinds rowValues workList : List ℕ) (lengthFact : ℕ → Fact) (before : VerifierResources) (a : Analysed) (after : VerifierResources)

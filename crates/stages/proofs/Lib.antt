@@ -2,3 +2,7 @@ pub mod Paths
 pub mod Stepwise
 pub mod Begin
 pub mod Ran
+pub mod Zeros
+pub mod Fronts
+pub mod Asking
+pub mod Closing

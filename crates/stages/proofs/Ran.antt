@@ -13,7 +13,7 @@ use Rattle.model.specs.Fact.{Fact, kind, value, Row}
 use Rattle.model.specs.Run.{RunEnd, finished, overdrawn, fuelSpent, run}
 use Rattle.model.specs.Tables.{factsOf, presentBytes, cells}
 use Rattle.model.specs.Analyses.{Analysed, analysis, chargeMatrix, firstRow, ranTo}
-use Rattle.model.specs.Call.{counts}
+use Rattle.model.specs.Call.{counts, tables}
 use Rattle.model.specs.declared.VerifierResources.{VerifierResources}
 use Rattle.model.specs.declared.AnalysisKind.{AnalysisKind}
 use Rattle.model.proofs.Metered.{then-parts}
@@ -152,7 +152,7 @@ module _ (which : AnalysisKind) (sheet : List ℕ) (sizes : Sizes) (firsts start
     -- the run's end is the stage's
     ran-behind : (end : RunEnd) (ended : Run) (p k v rk rv l : List ℕ) → some (runResult ended p k v rk rv l) ≡ ranOf (codeCount sheet) (length slots) end
         → some (behind (stagedOf ended (length slots) left) p k v rk rv l) ≡ behindOf (codeCount sheet) (length slots) (ranTo end which slots (made .0) left)
-    unfolding ranOf stagedOf behindOf behindZero ranTo counts
+    unfolding ranOf stagedOf behindOf behindZero ranTo counts tables
     ran-behind (finished rows count w) ended p k v rk rv l x = go (some-path x)
       where
         some-path : {a b : RunResult} → _≡_ {A = Option RunResult} (some a) (some b) → a ≡ b

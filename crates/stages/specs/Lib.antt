@@ -2,3 +2,4 @@
 pub mod Stage
 pub mod Parts
 pub mod Stocked
+pub mod Ends

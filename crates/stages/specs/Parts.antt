@@ -5,10 +5,9 @@ use mathlib.Core.Option.{Option, none, some}
 use Prim.Native.Nat.{ℕ, _+_, _*_}
 use lib.ListN.{length, replicate}
 use Rattle.model.specs.Charges.{Refusal, overBudget, noRoom, Spent, ok, stop, unfinished, Metered, _>>=_, _>>_}
-use Rattle.model.specs.Fact.{Fact, kind, value, Row}
-use Rattle.model.specs.Tables.{presentBytes, cells}
+use Rattle.model.specs.Fact.{Fact, Row}
 use Rattle.model.specs.Analyses.{Analysed, chargeMatrix, firstRow, propagate}
-use Rattle.model.specs.Call.{counts}
+use Rattle.model.specs.Call.{counts, tables}
 use Rattle.model.specs.declared.VerifierResources.{VerifierResources}
 use Rattle.model.specs.declared.AnalysisKind.{AnalysisKind}
 use Rattle.worklist.specs.declared.Run.{Run}
@@ -66,7 +65,7 @@ behindZero n s answer = behind answer (replicate n 0) (replicate (n * s) 0) (rep
 -- the tables of an analysis and scratch zero, or all zero after 7. There is no other end behind question 8.
 unfoldable pub behindOf : ℕ → ℕ → Spent Analysed → Option Behind
 behindOf n s (ok a left) =
-    some (behind (Done (counts a) left) (presentBytes (a .rows)) (cells kind s (a .rows)) (cells value s (a .rows)) (replicate s 0) (replicate s 0) (replicate (n * (1 + 2 * s)) 0))
+    some (behind (Done (counts a) left) (tables a .present) (tables a .kinds) (tables a .values) (replicate s 0) (replicate s 0) (replicate (n * (1 + 2 * s)) 0))
 behindOf n s (stop (overBudget stage requested remaining) left) = some (behindZero n s (OverBudget requested remaining left))
 behindOf n s (stop noRoom left) = none
 behindOf n s unfinished = none

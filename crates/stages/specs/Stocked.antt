@@ -5,7 +5,8 @@ use mathlib.Core.Bool.{true}
 use mathlib.Core.List.{List}
 use Prim.Native.Nat.{ℕ, _+_, _*_, _≤_, _<_}
 use lib.ListN.{length, replicate}
-use Rattle.model.specs.Sheet.{codeCount, firstRange, layoutCount, layoutStart}
+use Rattle.model.specs.Sheet.{codeCount, firstRange, layoutCount, layoutStart, localSlots}
+use Rattle.model.specs.Call.{zeros}
 use Rattle.model.specs.Lookup.{ascends}
 use Rattle.memory.specs.Front.{Holds}
 use Rattle.sheet.specs.Measured.{Accepted}
@@ -34,3 +35,30 @@ pub record Zeroed (n s : ℕ) (present kinds values rowKinds rowValues list : Li
   pub row-kinds-zero : rowKinds ≡ replicate s 0
   pub row-values-zero : rowValues ≡ replicate s 0
   pub list-zero : list ≡ replicate (n * (1 + 2 * s)) 0
+
+-- tables and scratch of zeros, of any length
+pub record Empty (present kinds values rowKinds rowValues list : List ℕ) : Type 0 where
+  pub no-present : present ≡ zeros present
+  pub no-kinds : kinds ≡ zeros kinds
+  pub no-values : values ≡ zeros values
+  pub no-row-kinds : rowKinds ≡ zeros rowKinds
+  pub no-row-values : rowValues ≡ zeros rowValues
+  pub no-list : list ≡ zeros list
+
+-- slots, marks and stack of zeros, with room for the closure
+pub record Unmarked (sheet slots marks stack : List ℕ) : Type 0 where
+  pub no-slots : slots ≡ zeros slots
+  pub no-marks : marks ≡ zeros marks
+  pub no-stack : stack ≡ zeros stack
+  pub wide : localSlots sheet ≤ length marks
+  pub deep : localSlots sheet ≤ length stack
+
+-- question 8 for n and s above zero, as inequalities: the lengths of what is lent
+pub record Roomy (n s slots present kinds values rowKinds rowValues list : ℕ) : Type 0 where
+  pub slots-fit : s ≤ slots
+  pub present-fits : n ≤ present
+  pub kinds-fit : n * s ≤ kinds
+  pub values-fit : n * s ≤ values
+  pub row-kinds-fit : s ≤ rowKinds
+  pub row-values-fit : s ≤ rowValues
+  pub list-fits : n * (1 + 2 * s) ≤ list

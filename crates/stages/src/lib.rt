@@ -1,9 +1,12 @@
 // Each analysis with its closure, question 8 and its charges; and clearing.
+mod analysis;
+mod behind;
 mod clearing;
 mod entering;
 mod room;
 mod running;
 
+pub use analysis::analyze_stage;
 pub use clearing::clear_scratch;
 pub use clearing::clear_table;
 pub use clearing::clear_table_if;

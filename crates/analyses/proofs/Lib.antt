@@ -1,0 +1,9 @@
+pub mod Same
+pub mod Zeroed
+pub mod Steps
+pub mod Constants
+pub mod Order
+pub mod Whole
+pub mod Storing
+pub mod Asking
+pub mod Nexting

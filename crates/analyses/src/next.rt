@@ -1,0 +1,179 @@
+// The next analysis after an answer.
+ghost use mathlib.Core.Path.{_≡_};
+ghost use mathlib.Core.Option.{some};
+ghost use Rattle.model.specs.Sheet.{codeCount};
+ghost use Rattle.model.specs.Closure.{stageNumber};
+ghost use Rattle.model.specs.Analyses.{stage};
+ghost use Rattle.model.specs.Call.{roomFor};
+ghost use Rattle.worklist.specs.Turn.{lengthTable};
+ghost use Rattle.stages.specs.Stage.{table, scratch};
+ghost use Rattle.stages.specs.Stocked.{Found, Empty, Unmarked};
+ghost use Rattle.analyses.specs.Chain.{counted, afterStage, refusing, next, nextOf};
+use model::AnalysisKind;
+use model::Answer;
+use model::Counts;
+use model::VerifierResources;
+use sheet::Sizes;
+use stages::Staged;
+use stages::analyze_stage;
+
+// "stage (1 to 5 in charge order)"
+fn stage_number(which: AnalysisKind) -> u8
+    ensures { λ r. ⌜ r ≡ stageNumber which ⌝ }
+{
+    match which {
+        AnalysisKind::Constant => 3,
+        AnalysisKind::IndexCheck => 4,
+        AnalysisKind::Container => 5,
+    }
+}
+
+// The counts of all three, with those of this analysis.
+fn with_counts(
+    which: AnalysisKind,
+    counts: Counts,
+    constant: Counts,
+    index: Counts,
+    container: Counts,
+    left: VerifierResources,
+) -> Answer
+    ensures { λ r. ⌜ r ≡ counted which counts constant index container left ⌝ }
+{
+    match which {
+        AnalysisKind::Constant => Answer::Analyzed {
+            constant: counts,
+            index,
+            container,
+            left,
+        },
+        AnalysisKind::IndexCheck => Answer::Analyzed {
+            constant,
+            index: counts,
+            container,
+            left,
+        },
+        AnalysisKind::Container => Answer::Analyzed {
+            constant,
+            index,
+            container: counts,
+            left,
+        },
+    }
+}
+
+// The answer with what a stage came to.
+fn after_stage(
+    which: AnalysisKind,
+    ended: Staged,
+    constant: Counts,
+    index: Counts,
+    container: Counts,
+) -> Answer
+    ensures { λ r. ⌜ r ≡ afterStage which ended constant index container ⌝ }
+{
+    match ended {
+        Staged::Done { counts, left } => with_counts(
+            which,
+            counts,
+            constant,
+            index,
+            container,
+            left,
+        ),
+        Staged::OverBudget {
+            requested,
+            remaining,
+            left,
+        } => Answer::OverBudget {
+            stage: stage_number(which),
+            requested,
+            remaining,
+            left,
+        },
+        Staged::NoRoom { left } => Answer::NoRoom { left },
+    }
+}
+
+// Whether an answer is no success.
+pub fn refuses(answer: Answer) -> bool
+    ensures { λ r. ⌜ r ≡ refusing answer ⌝ }
+{
+    match answer {
+        Answer::Analyzed {
+            constant: _,
+            index: _,
+            container: _,
+            left: _,
+        } => false,
+        Answer::Invalid { number: _, left: _ } => true,
+        Answer::OverBudget {
+            stage: _,
+            requested: _,
+            remaining: _,
+            left: _,
+        } => true,
+        Answer::NoRoom { left: _ } => true,
+    }
+}
+
+// The next analysis, in an output and a scratch that are zero; nothing where the answer so far is a refusal.
+pub fn analyze_next(
+    before: Answer,
+    which: AnalysisKind,
+    sheet: &[u8],
+    sizes: Sizes,
+    firsts: &[u16],
+    starts: &[u16],
+    length_kinds: &[u8],
+    length_values: &[u64],
+    slots: &mut [u16],
+    present: &mut [u8],
+    kinds: &mut [u8],
+    values: &mut [u64],
+    marks: &mut [u8],
+    stack: &mut [u16],
+    row_kinds: &mut [u8],
+    row_values: &mut [u64],
+    list: &mut [u16],
+) -> Answer
+    requires { ⌜ Found (now sheet) sizes (now firsts) (now starts) (now «length_kinds») (now «length_values») × Unmarked (now sheet) (now slots) (now marks) (now stack) × Empty (now present) (now kinds) (now values) (now «row_kinds») (now «row_values») (now list) ⌝ }
+    ensures { λ r. ⌜ some (next r (table (now (slots .exit)) (now (present .exit)) (now (kinds .exit)) (now (values .exit))) (scratch (now (marks .exit)) (now (stack .exit)) (now («row_kinds» .exit)) (now («row_values» .exit)) (now (list .exit)))) ≡ nextOf before which (table (now (slots .entry)) (now (present .entry)) (now (kinds .entry)) (now (values .entry))) (scratch (now (marks .entry)) (now (stack .entry)) (now («row_kinds» .entry)) (now («row_values» .entry)) (now (list .entry))) (stage which (now (sheet .entry)) (roomFor (codeCount (now (sheet .entry))) (table (now (slots .entry)) (now (present .entry)) (now (kinds .entry)) (now (values .entry))) (now («row_kinds» .entry)) (now («row_values» .entry)) (now (list .entry))) (lengthTable (now («length_kinds» .entry)) (now («length_values» .entry)))) ⌝ }
+{
+    match before {
+        Answer::Analyzed {
+            constant,
+            index,
+            container,
+            left,
+        } => {
+            let ended = analyze_stage(
+                which,
+                sheet,
+                sizes,
+                firsts,
+                starts,
+                length_kinds,
+                length_values,
+                left,
+                slots,
+                present,
+                kinds,
+                values,
+                marks,
+                stack,
+                row_kinds,
+                row_values,
+                list,
+            );
+            after_stage(which, ended, constant, index, container)
+        }
+        Answer::Invalid { number: _, left: _ } => before,
+        Answer::OverBudget {
+            stage: _,
+            requested: _,
+            remaining: _,
+            left: _,
+        } => before,
+        Answer::NoRoom { left: _ } => before,
+    }
+}
