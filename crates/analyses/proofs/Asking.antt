@@ -8,7 +8,7 @@ use Prim.Native.Nat.{ℕ, _≤_, _<_}
 use native.Mathlib.Omega.{arith}
 use lib.Dec.{leb}
 use lib.ListN.{length}
-use borrow.Author.Tests.{le-leb, lt-leb}
+use borrow.Author.Tests.{le-leb, lt-leb, leb-true}
 use Rattle.model.specs.Sheet.{localSlots, sheetRefusal}
 use Rattle.model.specs.Charges.{overBudget, Spent, ok, stop, continue, _>>_}
 use Rattle.model.specs.Dependencies.{chargeDependencies}
@@ -20,6 +20,7 @@ use Rattle.model.specs.declared.Answer.the-variants.{Invalid}
 use Rattle.budget.specs.Metering.{asSpent}
 use Rattle.budget.specs.declared.Metering.{Metering}
 use Rattle.budget.specs.declared.Metering.the-variants as M
+use Rattle.sheet.proofs.Both.{both-left, both-right}
 use Rattle.sheet.specs.Sizes.{sizesOf}
 use Rattle.sheet.specs.Check.{checkOf, sheetCheck}
 use Rattle.sheet.specs.Measured.{Accepted}
@@ -96,6 +97,15 @@ module _ (sheet : List ℕ) (lent : Lent) {given : Admission} (e : given ≡ adm
           → Accepted sheet sizes × (leb (localSlots sheet) (length (lent .marks)) && leb (localSlots sheet) (length (lent .stack)) ≡ true)
       go none h p = unfold admissionOf in (let s = six _ p in (record { are = s .0; accepted = h }, s .1))
       go (some n) h p = unfold admissionOf in (let z : _≡_ {A = ℕ} 0 1 = cc in absurd (omega arith))
+
+  pub admitted-asks : {sizes : Sizes} → given ≡ Admitted sizes → Accepted sheet sizes × (localSlots sheet ≤ length (lent .marks)) × (localSlots sheet ≤ length (lent .stack))
+  unfolding closureRoom
+  admitted-asks c =
+      let t = taken-in c in (
+        t .0,
+        leb-true _ _ (both-left (leb (localSlots sheet) (length (lent .marks))) _ (t .1)),
+        leb-true _ _ (both-right (leb (localSlots sheet) (length (lent .marks))) _ (t .1)),
+      )
 
 -- ---- the graph's charges
 

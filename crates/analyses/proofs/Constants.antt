@@ -14,7 +14,7 @@ use Rattle.model.specs.Closure.{stageNumber}
 use Rattle.model.specs.Fact.{Fact, kind, value}
 use Rattle.model.specs.Tables.{presentBytes, cells}
 use Rattle.model.specs.Analyses.{Analysed, stage}
-use Rattle.model.specs.Call.{Table, roomFor, counts, tables, filled, filledTable}
+use Rattle.model.specs.Call.{Table, roomFor, counts, tables, filled, zeroTable, filledTable}
 use Rattle.model.specs.declared.VerifierResources.{VerifierResources}
 use Rattle.model.specs.declared.AnalysisKind.{AnalysisKind}
 use Rattle.model.specs.declared.AnalysisKind.the-variants.{Constant, IndexCheck, Container}
@@ -36,6 +36,7 @@ use Rattle.stages.proofs.Closing.{few-below}
 use Rattle.analyses.specs.Chain as chain
 use Rattle.analyses.specs.Chain.{refusedBy, Next, next, nextOf}
 use Rattle.analyses.specs.Lengths.{Stored}
+use Rattle.analyses.proofs.Zeroed.{fill-zero}
 use Rattle.analyses.proofs.Steps.{Stepped, went, quit, same-next, step}
 
 -- the refusals of a stage carry its number
@@ -89,9 +90,9 @@ module _ (sheet : List ℕ) {sizes : Sizes} (accepted : Accepted sheet sizes) (o
   -- an answer that goes on after the constants tells that they are there
   module _ {answer : Answer} {output : Table} {w′ : Scratch} {constant index container : Counts} {left : VerifierResources} (is : answer ≡ Analyzed constant index container left) where
     from-step : (none-counted index₀ container₀ : Counts) (before : VerifierResources)
-        → Stepped Constant none-counted index₀ container₀ (stage Constant sheet enough lengthFact before) old w answer output w′
+        → Stepped Constant none-counted index₀ container₀ (stage Constant sheet enough lengthFact before) (zeroTable old) w answer output w′
         → (x : Analysed) × Stored sheet x constant (output .slots) (output .present) (output .kinds) (output .values)
-    from-step c i k before (went x rest e a o s) = (x, stored before x rest e (counts-same a) o)
+    from-step c i k before (went x rest e a o s) = (x, stored before x rest e (counts-same a) (o ∙ fill-zero (tables x) old))
       where
         counts-same : answer ≡ chain.counted Constant (counts x) c i k rest → counts x ≡ constant
         counts-same p = unfold chain.counted in (let q : Analyzed (counts x) i k rest ≡ Analyzed constant index container left = sym p ∙ is in cc)
@@ -101,11 +102,11 @@ module _ (sheet : List ℕ) {sizes : Sizes} (accepted : Accepted sheet sizes) (o
         never (overBudget number requested remaining) p = unfold refusedBy in (let z : _≡_ {A = ℕ} 0 1 = cc in absurd (omega arith))
         never noRoom p = unfold refusedBy in (let z : _≡_ {A = ℕ} 0 1 = cc in absurd (omega arith))
 
-    pub constants-stored : (before : Answer) → some (next answer output w′) ≡ nextOf before Constant old w (stage Constant sheet enough lengthFact)
+    pub constants-stored : (before : Answer) → some (next answer output w′) ≡ nextOf before Constant (zeroTable old) w (stage Constant sheet enough lengthFact)
         → (x : Analysed) × Stored sheet x constant (output .slots) (output .present) (output .kinds) (output .values)
     unfolding nextOf
     constants-stored (Analyzed c i k budget) e =
-        from-step c i k budget (step Constant c i k old w (stage Constant sheet enough lengthFact budget) (named Constant sheet enough lengthFact budget) e)
+        from-step c i k budget (step Constant c i k (zeroTable old) w (stage Constant sheet enough lengthFact budget) (named Constant sheet enough lengthFact budget) e)
     constants-stored (Invalid number rest) e = let p = same-next e .0 in let z : _≡_ {A = ℕ} 0 1 = cc in absurd (omega arith)
     constants-stored (OverBudget number requested remaining rest) e = let p = same-next e .0 in let z : _≡_ {A = ℕ} 0 1 = cc in absurd (omega arith)
     constants-stored (NoRoom rest) e = let p = same-next e .0 in let z : _≡_ {A = ℕ} 0 1 = cc in absurd (omega arith)

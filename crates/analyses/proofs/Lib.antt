@@ -3,7 +3,9 @@ pub mod Zeroed
 pub mod Steps
 pub mod Constants
 pub mod Order
-pub mod Whole
-pub mod Storing
+pub mod Two
 pub mod Asking
+pub mod Storing
 pub mod Nexting
+pub mod Ready
+pub mod Whole

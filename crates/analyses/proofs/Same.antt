@@ -38,6 +38,11 @@ module _ (which : AnalysisKind) (sheet : List ℕ) (enough enough′ : ℕ → B
       ∙ continue-same _ _ (λ u rest. continue-same _ _ (λ v rest′. continue-same _ _ (λ entry started. run-on slots entry started) (firstRow which sheet slots rest′)) (chargeMatrix which sheet slots rest)) (askRoom (enough′ (length slots)) left))
       (trackedSlots which sheet budget)
 
+-- by the same length facts
+pub room-same : (which : AnalysisKind) (sheet : List ℕ) (enough enough′ : ℕ → Bool) (f : ℕ → Fact) → ((s : ℕ) → enough s ≡ enough′ s) → (budget : VerifierResources)
+    → stage which sheet enough f budget ≡ stage which sheet enough′ f budget
+room-same which sheet enough enough′ f room budget = stage-same which sheet enough enough′ f f room (λ slots entry left. refl) budget
+
 module _ (sheet : List ℕ) (enough enough′ : ℕ → Bool) (room : (s : ℕ) → enough s ≡ enough′ s) (f g : ℕ → Fact) where
   -- the constant and the container analysis read no length fact
   pub constants-same : (budget : VerifierResources) → stage Constant sheet enough f budget ≡ stage Constant sheet enough′ g budget

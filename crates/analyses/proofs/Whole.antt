@@ -14,20 +14,29 @@ use Rattle.model.specs.Call.{Table, Lent, tableOf, roomFor, tableRoom, closureR
 use Rattle.model.specs.declared.VerifierResources.{VerifierResources}
 use Rattle.model.specs.declared.AnalysisKind.{AnalysisKind}
 use Rattle.model.specs.declared.AnalysisKind.the-variants.{Constant, IndexCheck, Container}
+use Rattle.model.specs.CallDemand.{LentDemand}
+use lib.ListN.{length}
+use Rattle.model.proofs.Metered.{bound-parts, then-parts, given}
 use Rattle.model.specs.declared.Counts.{Counts}
 use Rattle.model.specs.declared.Answer.{Answer}
 use Rattle.model.specs.declared.Answer.the-variants.{Analyzed, Invalid, OverBudget, NoRoom}
-use Rattle.finality.proofs.Lengths.{SameLengths, stage-lengths}
+use Rattle.finality.proofs.Lengths.{stage-lengths}
 use Rattle.sheet.specs.declared.Sizes.{Sizes}
 use Rattle.sheet.specs.Measured.{Accepted}
 use Rattle.stages.specs.Stage.{Scratch, lent, zeroScratch, tableIf}
-use Rattle.analyses.specs.Chain.{noCounts, refusedBy, begunOf, chargeGraph, counted, Next, next, nextOf, refusing}
-use Rattle.analyses.specs.Lengths.{Stored}
-use Rattle.analyses.proofs.Same.{constants-same, index-same, containers-same}
-use Rattle.analyses.proofs.Zeroed.{zero-same, zero-twice, scratch-twice, fill-zero, room-zero}
+use Rattle.analyses.specs.Admitted.{admission}
+use Rattle.analyses.specs.Chain.{noCounts, refusedBy, counted, next, nextOf, refusing}
+use Rattle.analyses.specs.Values.{Values, values, ValuesEnd, valuesEnd, valuesOf}
+use Rattle.analyses.specs.declared.Admission.{Admission}
+use Rattle.analyses.specs.declared.Admission.the-variants.{Admitted}
+use Rattle.analyses.proofs.Same.{room-same}
+use Rattle.analyses.proofs.Zeroed.{zero-same, zero-twice}
 use Rattle.analyses.proofs.Steps.{Stepped, went, quit, step, stays, refusing-refused}
-use Rattle.analyses.proofs.Constants.{named, stored}
-use Rattle.analyses.proofs.Order.{quit-graph, quit-constants, quit-index, quit-containers, went-through}
+use Rattle.analyses.proofs.Constants.{named}
+use Rattle.analyses.proofs.Order.{quit-values, quit-containers, all-went}
+use Rattle.analyses.proofs.Two.{room-as-lent, again, filled-there, cleared-there}
+use Rattle.analyses.proofs.Asking.{taken-in}
+use Rattle.analyses.proofs.Ready.{demanded}
 
 module _ (sheet : List ℕ) {sizes : Sizes} (accepted : Accepted sheet sizes) (budget : VerifierResources) (C I K : Table) (W : Scratch)
     (six : closureRoom sheet (lent C I K W) ≡ true) where
@@ -67,110 +76,80 @@ module _ (sheet : List ℕ) {sizes : Sizes} (accepted : Accepted sheet sizes) (b
 
   -- ---- the chain
 
-  module _ {c i k : Table} {w : Scratch} (cz : c ≡ zeroTable C) (iz : i ≡ zeroTable I) (kz : k ≡ zeroTable K) (wz : w ≡ zeroScratch W)
-      (f₀ f₁ : ℕ → Fact) {b a₁ a₂ a₃ : Answer} {c₁ i₁ k₁ : Table} {w₁ w₂ w₃ : Scratch}
-      (e₀ : some b ≡ begunOf (chargeGraph sheet budget))
-      (e₁ : some (next a₁ c₁ w₁) ≡ nextOf b Constant c w (stage Constant sheet (roomFor (codeCount sheet) c (w .rowKinds) (w .rowValues) (w .workList)) f₀))
-      (e₂ : some (next a₂ i₁ w₂) ≡ nextOf a₁ IndexCheck i w₁ (stage IndexCheck sheet (roomFor (codeCount sheet) i (w₁ .rowKinds) (w₁ .rowValues) (w₁ .workList)) f₁))
-      (e₃ : some (next a₃ k₁ w₃) ≡ nextOf a₂ Container k w₂ (stage Container sheet (roomFor (codeCount sheet) k (w₂ .rowKinds) (w₂ .rowValues) (w₂ .workList)) f₁))
-      (read : (constant index container : Counts) (left : VerifierResources) → a₁ ≡ Analyzed constant index container left
-      → (x : Analysed) → Stored sheet x constant (c₁ .slots) (c₁ .present) (c₁ .kinds) (c₁ .values)
-      → (pc : ℕ) → pc < codeCount sheet → instruction sheet pc .op ≡ 121 → f₁ pc ≡ lengthFacts sheet x pc) where
-    -- question 8 of what was cleared is that of what was lent
-    room-same : (which : AnalysisKind) {t : Table} {v : Scratch} → t ≡ zeroTable (tableOf L which) → v ≡ zeroScratch W → (s : ℕ)
-        → roomFor (codeCount sheet) t (v .rowKinds) (v .rowValues) (v .workList) s ≡ tableRoom sheet L which s
-    unfolding tableRoom
-    room-same which tz vz s = rw (tz, vz) (room-zero (codeCount sheet) (tableOf L which) W s)
+  abbrev constantsRoom : ℕ → Bool
+  constantsRoom = roomFor (codeCount sheet) C (W .rowKinds) (W .rowValues) (W .workList)
 
-    again : {v v′ : Scratch} → v′ ≡ zeroScratch v → v ≡ zeroScratch W → v′ ≡ zeroScratch W
-    again p q = p ∙ ap zeroScratch q ∙ scratch-twice W
+  abbrev indexRoom : ℕ → Bool
+  indexRoom = roomFor (codeCount sheet) I (W .rowKinds) (W .rowValues) (W .workList)
 
-    cleared-again : (T : Table) {t t′ : Table} → t′ ≡ zeroTable t → t ≡ zeroTable T → t′ ≡ zeroTable T
-    cleared-again T p q = p ∙ ap zeroTable q ∙ zero-twice T
+  -- outputs of the first two that are cleared are as long as they were
+  values-zero : (v : Values) (left : VerifierResources) → values sheet constantsRoom indexRoom budget ≡ ok v left
+      → (zeroTable (filledTable (tables (v .constants)) C) ≡ zeroTable C) × (zeroTable (filledTable (tables (v .index)) I) ≡ zeroTable I)
+  unfolding values
+  values-zero v left e =
+      let graph = then-parts e in
+      let constants = bound-parts (graph .after) in
+      let index = bound-parts (constants .after) in
+      let is : record { constants = constants .a; index = index .a } ≡ v = given _ (index .rest) (index .after) in
+      rw (← is) (
+        zero-same _ C (stage-lengths Constant sheet C (W .rowKinds) (W .rowValues) (W .workList) (λ pc. unknown) (graph .rest) (constants .a) (constants .rest) (constants .before)),
+        zero-same _ I (stage-lengths IndexCheck sheet I (W .rowKinds) (W .rowValues) (W .workList) (lengthFacts sheet (constants .a)) (constants .rest) (index .a) (index .rest) (index .before)),
+      )
 
-    still-zero : (T : Table) {t : Table} → t ≡ zeroTable T → zeroTable t ≡ zeroTable T
-    still-zero T q = ap zeroTable q ∙ zero-twice T
+  rooms-same : values sheet (tableRoom sheet L Constant) (tableRoom sheet L IndexCheck) ≡ values sheet constantsRoom indexRoom
+  unfolding tableRoom tableOf
+  rooms-same = refl
 
-    filled-there : (x : Analysed) (T : Table) {t t′ : Table} → t′ ≡ filledTable (tables x) t → t ≡ zeroTable T → t′ ≡ filledTable (tables x) T
-    filled-there x T p q = p ∙ ap (filledTable (tables x)) q ∙ fill-zero (tables x) T
+  same-end : {a b : Answer} {x y u v : Table} {p q : Scratch} → _≡_ {A = Option ValuesEnd} (some (valuesEnd a x u p)) (some (valuesEnd b y v q)) → (a ≡ b) × (x ≡ y) × (u ≡ v) × (p ≡ q)
+  same-end {a} {b} {x} {y} {u} {v} {p} {q} e =
+      let h : valuesEnd a x u p ≡ valuesEnd b y v q = cc in
+      (ap (λ (n : ValuesEnd). n .answer) h, ap (λ (n : ValuesEnd). n .constants) h, ap (λ (n : ValuesEnd). n .index) h, ap (λ (n : ValuesEnd). n .scratch) h)
 
-    -- a filled output is as long as it was
-    filled-cleared : (which : AnalysisKind) (lengthFact : ℕ → Fact) (before : VerifierResources) (x : Analysed) (after : VerifierResources) {t : Table}
-        → stage which sheet (tableRoom sheet L which) lengthFact before ≡ ok x after → t ≡ filledTable (tables x) (tableOf L which) → zeroTable t ≡ zeroTable (tableOf L which)
-    unfolding tableRoom
-    filled-cleared which lengthFact before x after e p =
-        ap zeroTable p ∙ zero-same _ (tableOf L which) (stage-lengths which sheet (tableOf L which) (W .rowKinds) (W .rowValues) (W .workList) lengthFact before x after e)
+  containers-room : {w₂ : Scratch} → w₂ ≡ zeroScratch W → (s : ℕ) → roomFor (codeCount sheet) K (w₂ .rowKinds) (w₂ .rowValues) (w₂ .workList) s ≡ tableRoom sheet L Container s
+  unfolding tableRoom tableOf
+  containers-room wz s = room-as-lent (codeCount sheet) K W wz s
 
-    -- refused in the index analysis or before
-    after-index : (refusal : Refusal) (left : VerifierResources) → analyses sheet (tableRoom sheet L) budget ≡ stop refusal left → a₂ ≡ refusedBy refusal left
-        → zeroTable c₁ ≡ zeroTable C → zeroTable i₁ ≡ zeroTable I → w₂ ≡ zeroScratch W → Goal a₃ c₁ i₁ k₁ w₃
-    after-index refusal left e is cc₁ ic vz =
-        let s = stays refusal left Container k w₂ _ is e₃ in
-        ends-refused c₁ i₁ refusal left e (s .0) cc₁ ic (s .1 ∙ kz) (s .2 ∙ vz)
+  module _ (a₂ : Answer) {a₃ : Answer} {c₂ i₂ k₁ : Table} {w₂ w₃ : Scratch}
+      (e₃ : some (next a₃ k₁ w₃) ≡ nextOf a₂ Container (zeroTable K) w₂ (stage Container sheet (roomFor (codeCount sheet) K (w₂ .rowKinds) (w₂ .rowValues) (w₂ .workList)) (λ pc. unknown))) where
+    containers-step : (v : Values) (left : VerifierResources) → values sheet constantsRoom indexRoom budget ≡ ok v left → c₂ ≡ filledTable (tables (v .constants)) C → i₂ ≡ filledTable (tables (v .index)) I
+        → w₂ ≡ zeroScratch W
+        → Stepped Container (counts (v .constants)) (counts (v .index)) noCounts (stage Container sheet (roomFor (codeCount sheet) K (w₂ .rowKinds) (w₂ .rowValues) (w₂ .workList)) (λ pc. unknown) left) (zeroTable K) w₂ a₃ k₁ w₃
+        → Goal a₃ c₂ i₂ k₁ w₃
+    unfolding counted
+    containers-step v left e cf xf wz (went z rest h is o s) =
+        let d = sym (room-same Container sheet _ (tableRoom sheet L Container) (λ pc. unknown) (containers-room wz) left) ∙ h in
+        ends-done c₂ i₂ (v .constants) (v .index) z rest (all-went sheet (tableRoom sheet L) budget v left (rw rooms-same e) z rest d) is cf xf (filled-there z K o) (again W s wz)
+    containers-step v left e cf xf wz (quit refusal rest h is o s) =
+        let d = sym (room-same Container sheet _ (tableRoom sheet L Container) (λ pc. unknown) (containers-room wz) left) ∙ h in
+        let zero = values-zero v left e in
+        ends-refused c₂ i₂ refusal rest (quit-containers sheet (tableRoom sheet L) budget v left (rw rooms-same e) refusal rest d) is (ap zeroTable cf ∙ zero .0) (ap zeroTable xf ∙ zero .1) (cleared-there K o) (again W s wz)
 
-    -- refused in the constant analysis or before
-    after-constants : (refusal : Refusal) (left : VerifierResources) → analyses sheet (tableRoom sheet L) budget ≡ stop refusal left → a₁ ≡ refusedBy refusal left
-        → zeroTable c₁ ≡ zeroTable C → w₁ ≡ zeroScratch W → Goal a₃ c₁ i₁ k₁ w₃
-    after-constants refusal left e is cc₁ vz =
-        let s = stays refusal left IndexCheck i w₁ _ is e₂ in
-        after-index refusal left e (s .0) cc₁ (ap zeroTable (s .1) ∙ still-zero I iz) (s .2 ∙ vz)
-
-    module _ {u : Unit {0}} (left : VerifierResources) (graph : chargeGraph sheet budget ≡ ok u left) where
-      module _ (x : Analysed) (left₁ : VerifierResources) (constants : stage Constant sheet (tableRoom sheet L Constant) (λ pc. unknown) left ≡ ok x left₁)
-          (c-is : c₁ ≡ filledTable (tables x) C) (v₁ : w₁ ≡ zeroScratch W) where
-        c-zero : zeroTable c₁ ≡ zeroTable C
-        unfolding tableOf
-        c-zero = filled-cleared Constant (λ pc. unknown) left x left₁ constants c-is
-
-        module _ (y : Analysed) (left₂ : VerifierResources) (index : stage IndexCheck sheet (tableRoom sheet L IndexCheck) (lengthFacts sheet x) left₁ ≡ ok y left₂)
-            (i-is : i₁ ≡ filledTable (tables y) I) (v₂ : w₂ ≡ zeroScratch W) where
-          i-zero : zeroTable i₁ ≡ zeroTable I
-          unfolding tableOf
-          i-zero = filled-cleared IndexCheck (lengthFacts sheet x) left₁ y left₂ index i-is
-
-          containers-step : Stepped Container (counts x) (counts y) noCounts (stage Container sheet (roomFor (codeCount sheet) k (w₂ .rowKinds) (w₂ .rowValues) (w₂ .workList)) f₁ left₂) k w₂ a₃ k₁ w₃
-              → Goal a₃ c₁ i₁ k₁ w₃
-          unfolding tableOf counted
-          containers-step (went z rest e is o v) =
-              let d = sym (containers-same sheet _ (tableRoom sheet L Container) (room-same Container kz v₂) f₁ (λ pc. unknown) left₂) ∙ e in
-              ends-done c₁ i₁ x y z rest (went-through sheet (tableRoom sheet L) budget left graph x left₁ constants y left₂ index z rest d) is c-is i-is (filled-there z K o kz) (again v v₂)
-          containers-step (quit refusal rest e is o v) =
-              let d = sym (containers-same sheet _ (tableRoom sheet L Container) (room-same Container kz v₂) f₁ (λ pc. unknown) left₂) ∙ e in
-              ends-refused c₁ i₁ refusal rest (quit-containers sheet (tableRoom sheet L) budget left graph x left₁ constants y left₂ index refusal rest d) is c-zero i-zero (cleared-again K o kz) (again v v₂)
-
-        index-step : ((pc : ℕ) → pc < codeCount sheet → instruction sheet pc .op ≡ 121 → f₁ pc ≡ lengthFacts sheet x pc)
-            → Stepped IndexCheck (counts x) noCounts noCounts (stage IndexCheck sheet (roomFor (codeCount sheet) i (w₁ .rowKinds) (w₁ .rowValues) (w₁ .workList)) f₁ left₁) i w₁ a₂ i₁ w₂
-            → Goal a₃ c₁ i₁ k₁ w₃
-        unfolding tableOf counted nextOf
-        index-step reads (went y rest e is o v) =
-            let d = sym (index-same sheet _ (tableRoom sheet L IndexCheck) (room-same IndexCheck iz v₁) f₁ (lengthFacts sheet x) reads left₁) ∙ e in
-            containers-step y rest d (filled-there y I o iz) (again v v₁)
-            (step Container (counts x) (counts y) noCounts k w₂ _ (named Container sheet _ f₁ rest) (rw is at e₃))
-        index-step reads (quit refusal rest e is o v) =
-            let d = sym (index-same sheet _ (tableRoom sheet L IndexCheck) (room-same IndexCheck iz v₁) f₁ (lengthFacts sheet x) reads left₁) ∙ e in
-            after-index refusal rest (quit-index sheet (tableRoom sheet L) budget left graph x left₁ constants refusal rest d) is c-zero (still-zero I (cleared-again I o iz)) (again v v₁)
-
-      constants-step : Stepped Constant noCounts noCounts noCounts (stage Constant sheet (roomFor (codeCount sheet) c (w .rowKinds) (w .rowValues) (w .workList)) f₀ left) c w a₁ c₁ w₁
-          → Goal a₃ c₁ i₁ k₁ w₃
-      unfolding tableOf counted nextOf
-      constants-step (went x rest e is o v) =
-          let d = sym (constants-same sheet _ (tableRoom sheet L Constant) (room-same Constant cz wz) f₀ (λ pc. unknown) left) ∙ e in
-          index-step x rest d (filled-there x C o cz) (again v wz) (read (counts x) noCounts noCounts rest is x (stored sheet accepted c w f₀ left x rest e refl o))
-          (step IndexCheck (counts x) noCounts noCounts i w₁ _ (named IndexCheck sheet _ f₁ rest) (rw is at e₂))
-      constants-step (quit refusal rest e is o v) =
-          let d = sym (constants-same sheet _ (tableRoom sheet L Constant) (room-same Constant cz wz) f₀ (λ pc. unknown) left) ∙ e in
-          after-constants refusal rest (quit-constants sheet (tableRoom sheet L) budget left graph refusal rest d) is (still-zero C (cleared-again C o cz)) (again v wz)
-
-    pub whole : Goal a₃ c₁ i₁ k₁ w₃
-    unfolding begunOf nextOf
-    whole = go (chargeGraph sheet budget) refl e₀
+    whole : some (valuesEnd a₂ c₂ i₂ w₂) ≡ valuesOf C I W (values sheet constantsRoom indexRoom budget) → Goal a₃ c₂ i₂ k₁ w₃
+    unfolding valuesOf nextOf
+    whole e₂ = go (values sheet constantsRoom indexRoom budget) refl e₂
       where
-        go : (spent : Spent (Unit {0})) → chargeGraph sheet budget ≡ spent → some b ≡ begunOf spent → Goal a₃ c₁ i₁ k₁ w₃
-        go (ok u left) h e =
-            let is : b ≡ Analyzed noCounts noCounts noCounts left = cc in
-            constants-step left h (step Constant noCounts noCounts noCounts c w _ (named Constant sheet _ f₀ left) (rw is at e₁))
+        go : (spent : Spent Values) → values sheet constantsRoom indexRoom budget ≡ spent → some (valuesEnd a₂ c₂ i₂ w₂) ≡ valuesOf C I W spent → Goal a₃ c₂ i₂ k₁ w₃
+        go (ok v left) h e =
+            let p = same-end e in
+            containers-step v left h (p .1) (p .2) (p .3) (step Container (counts (v .constants)) (counts (v .index)) noCounts (zeroTable K) w₂ _ (named Container sheet _ (λ pc. unknown) left) (rw (p .0) at e₃))
         go (stop refusal left) h e =
-            let is : b ≡ refusedBy refusal left = cc in
-            let s = stays refusal left Constant c w _ is e₁ in
-            after-constants refusal left (quit-graph sheet (tableRoom sheet L) budget refusal left h) (s .0) (ap zeroTable (s .1) ∙ still-zero C cz) (s .2 ∙ wz)
+            let p = same-end e in
+            let s = stays refusal left Container (zeroTable K) w₂ _ (p .0) e₃ in
+            ends-refused c₂ i₂ refusal left (quit-values sheet (tableRoom sheet L) budget refusal left (rw rooms-same h)) (s .0) (ap zeroTable (p .1) ∙ zero-twice C) (ap zeroTable (p .2) ∙ zero-twice I) (s .1) (s .2 ∙ p .3)
         go unfinished h e = let z : _≡_ {A = ℕ} 0 1 = cc in absurd (omega arith)
+
+-- what `analyze` promises, from what the functions that it calls promise
+pub promise : (sheet : List ℕ) (budget : VerifierResources) (C I K : Table) (W : Scratch) {admitted : Admission} {sizes : Sizes}
+    → admitted ≡ admission sheet (length (W .marks)) (length (W .stack)) → admitted ≡ Admitted sizes
+    → {a₂ a₃ : Answer} {c₂ i₂ k₁ : Table} {w₂ w₃ : Scratch}
+    → some (valuesEnd a₂ c₂ i₂ w₂)
+    ≡ valuesOf C I W (values sheet (roomFor (codeCount sheet) C (W .rowKinds) (W .rowValues) (W .workList)) (roomFor (codeCount sheet) I (W .rowKinds) (W .rowValues) (W .workList)) budget)
+    → some (next a₃ k₁ w₃) ≡ nextOf a₂ Container (zeroTable K) w₂ (stage Container sheet (roomFor (codeCount sheet) K (w₂ .rowKinds) (w₂ .rowValues) (w₂ .workList)) (λ pc. unknown))
+    → {z : Bool} {c₃ i₃ : Table} → z ≡ refusing a₃ → c₃ ≡ tableIf z c₂ → i₃ ≡ tableIf z i₂
+    → (some (result a₃ (lent c₃ i₃ k₁ w₃)) ≡ analyzed sheet budget (lent C I K W))
+    × ((constant index container : Counts) (left : VerifierResources) → a₃ ≡ Analyzed constant index container left
+    → LentDemand sheet budget (lent C I K W) constant index container left (lent c₃ i₃ k₁ w₃))
+promise sheet budget C I K W given is {a₃ = a₃} {k₁ = k₁} {w₃ = w₃} e₂ e₃ {c₃ = c₃} {i₃ = i₃} p q r =
+    let taken = taken-in sheet (lent C I K W) given is in
+    let call : some (result a₃ (lent c₃ i₃ k₁ w₃)) ≡ analyzed sheet budget (lent C I K W) = rw (q, r, p) (whole sheet (taken .0) budget C I K W (taken .1) _ e₃ e₂) in
+    (call, demanded sheet budget (lent C I K W) a₃ (lent c₃ i₃ k₁ w₃) call)

@@ -42,17 +42,13 @@ unfolding filledTable zeroTable
 fill-zero new old =
     rw (filled-zero (new .slots) (old .slots), filled-zero (new .present) (old .present), filled-zero (new .kinds) (old .kinds), filled-zero (new .values) (old .values))
 
--- question 8 of what was cleared
-pub room-zero : (n : ℕ) (t : Table) (w : Scratch) (s : ℕ)
-    → roomFor n (zeroTable t) (zeroScratch w .rowKinds) (zeroScratch w .rowValues) (zeroScratch w .workList) s ≡ roomFor n t (w .rowKinds) (w .rowValues) (w .workList) s
-unfolding zeroTable zeroScratch roomFor
-room-zero n t w s =
-    rw (
-      zeros-length (t .slots),
-      zeros-length (t .present),
-      zeros-length (t .kinds),
-      zeros-length (t .values),
-      zeros-length (w .rowKinds),
-      zeros-length (w .rowValues),
-      zeros-length (w .workList),
-    )
+-- question 8 of an output that was cleared
+pub table-room : (n : ℕ) (t : Table) (rowKinds rowValues workList : List ℕ) (s : ℕ) → roomFor n (zeroTable t) rowKinds rowValues workList s ≡ roomFor n t rowKinds rowValues workList s
+unfolding zeroTable roomFor
+table-room n t rowKinds rowValues workList s = rw (zeros-length (t .slots), zeros-length (t .present), zeros-length (t .kinds), zeros-length (t .values))
+
+-- and of a scratch that was
+pub scratch-room : (n : ℕ) (t : Table) (w : Scratch) (s : ℕ)
+    → roomFor n t (zeroScratch w .rowKinds) (zeroScratch w .rowValues) (zeroScratch w .workList) s ≡ roomFor n t (w .rowKinds) (w .rowValues) (w .workList) s
+unfolding zeroScratch roomFor
+scratch-room n t w s = rw (zeros-length (w .rowKinds), zeros-length (w .rowValues), zeros-length (w .workList))

@@ -2,3 +2,4 @@
 pub mod Admitted
 pub mod Chain
 pub mod Lengths
+pub mod Values

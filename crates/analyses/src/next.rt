@@ -4,11 +4,12 @@ ghost use mathlib.Core.Option.{some};
 ghost use Rattle.model.specs.Sheet.{codeCount};
 ghost use Rattle.model.specs.Closure.{stageNumber};
 ghost use Rattle.model.specs.Analyses.{stage};
-ghost use Rattle.model.specs.Call.{roomFor};
+ghost use Rattle.model.specs.Call.{roomFor, zeroTable};
 ghost use Rattle.worklist.specs.Turn.{lengthTable};
 ghost use Rattle.stages.specs.Stage.{table, scratch};
-ghost use Rattle.stages.specs.Stocked.{Found, Empty, Unmarked};
+ghost use Rattle.stages.specs.Stocked.{Found};
 ghost use Rattle.analyses.specs.Chain.{counted, afterStage, refusing, next, nextOf};
+ghost use Rattle.analyses.specs.Values.{Clean};
 use model::AnalysisKind;
 use model::Answer;
 use model::Counts;
@@ -16,6 +17,7 @@ use model::VerifierResources;
 use sheet::Sizes;
 use stages::Staged;
 use stages::analyze_stage;
+use stages::clear_table;
 
 // "stage (1 to 5 in charge order)"
 fn stage_number(which: AnalysisKind) -> u8
@@ -116,7 +118,7 @@ pub fn refuses(answer: Answer) -> bool
     }
 }
 
-// The next analysis, in an output and a scratch that are zero; nothing where the answer so far is a refusal.
+// The next analysis, in a scratch that is zero; its output is cleared, and stays so where the answer so far is a refusal.
 pub fn analyze_next(
     before: Answer,
     which: AnalysisKind,
@@ -136,9 +138,10 @@ pub fn analyze_next(
     row_values: &mut [u64],
     list: &mut [u16],
 ) -> Answer
-    requires { ⌜ Found (now sheet) sizes (now firsts) (now starts) (now «length_kinds») (now «length_values») × Unmarked (now sheet) (now slots) (now marks) (now stack) × Empty (now present) (now kinds) (now values) (now «row_kinds») (now «row_values») (now list) ⌝ }
-    ensures { λ r. ⌜ some (next r (table (now (slots .exit)) (now (present .exit)) (now (kinds .exit)) (now (values .exit))) (scratch (now (marks .exit)) (now (stack .exit)) (now («row_kinds» .exit)) (now («row_values» .exit)) (now (list .exit)))) ≡ nextOf before which (table (now (slots .entry)) (now (present .entry)) (now (kinds .entry)) (now (values .entry))) (scratch (now (marks .entry)) (now (stack .entry)) (now («row_kinds» .entry)) (now («row_values» .entry)) (now (list .entry))) (stage which (now (sheet .entry)) (roomFor (codeCount (now (sheet .entry))) (table (now (slots .entry)) (now (present .entry)) (now (kinds .entry)) (now (values .entry))) (now («row_kinds» .entry)) (now («row_values» .entry)) (now (list .entry))) (lengthTable (now («length_kinds» .entry)) (now («length_values» .entry)))) ⌝ }
+    requires { ⌜ Found (now sheet) sizes (now firsts) (now starts) (now «length_kinds») (now «length_values») × Clean (now sheet) (now marks) (now stack) (now «row_kinds») (now «row_values») (now list) ⌝ }
+    ensures { λ r. ⌜ some (next r (table (now (slots .exit)) (now (present .exit)) (now (kinds .exit)) (now (values .exit))) (scratch (now (marks .exit)) (now (stack .exit)) (now («row_kinds» .exit)) (now («row_values» .exit)) (now (list .exit)))) ≡ nextOf before which (zeroTable (table (now (slots .entry)) (now (present .entry)) (now (kinds .entry)) (now (values .entry)))) (scratch (now (marks .entry)) (now (stack .entry)) (now («row_kinds» .entry)) (now («row_values» .entry)) (now (list .entry))) (stage which (now (sheet .entry)) (roomFor (codeCount (now (sheet .entry))) (table (now (slots .entry)) (now (present .entry)) (now (kinds .entry)) (now (values .entry))) (now («row_kinds» .entry)) (now («row_values» .entry)) (now (list .entry))) (lengthTable (now («length_kinds» .entry)) (now («length_values» .entry)))) ⌝ }
 {
+    clear_table(slots, present, kinds, values);
     match before {
         Answer::Analyzed {
             constant,

@@ -9,17 +9,11 @@ ghost use Rattle.model.specs.declared.VerifierResources.{VerifierResources};
 ghost use Rattle.stages.specs.Stage.{table, scratch, lent};
 use analyses::Admission;
 use analyses::admit;
-use analyses::analyze_next;
-use analyses::charge_graph;
+use analyses::analyze_containers;
+use analyses::analyze_values;
 use analyses::refuses;
-use analyses::store_lengths;
-use model::AnalysisKind;
 use model::Answer;
 use model::VerifierResources;
-use sheet::first_ranges;
-use sheet::layout_starts;
-use stages::clear_scratch;
-use stages::clear_table;
 use stages::clear_table_if;
 
 // "Questions, in order", the charges and the three analyses. What it answers and what every lent buffer holds afterwards is the call that the
@@ -56,66 +50,14 @@ pub fn analyze(
             left: resources,
         },
         Admission::Admitted { sizes } => {
-            clear_table(
+            let values = analyze_values(
+                sheet,
+                sizes,
+                resources,
                 constant_slots,
                 constant_present,
                 constant_kinds,
                 constant_values,
-            );
-            clear_table(index_slots, index_present, index_kinds, index_values);
-            clear_table(
-                container_slots,
-                container_present,
-                container_kinds,
-                container_values,
-            );
-            clear_scratch(marks, stack, row_kinds, row_values, work_list);
-            let mut firsts = [0u16; 4096];
-            first_ranges(sheet, sizes, &mut firsts);
-            let mut starts = [0u16; 1024];
-            layout_starts(sheet, sizes, &mut starts);
-            let mut length_kinds = [0u8; 4096];
-            let mut length_values = [0u64; 4096];
-            let begun = charge_graph(sheet, sizes, resources);
-            let constants = analyze_next(
-                begun,
-                AnalysisKind::Constant,
-                sheet,
-                sizes,
-                &firsts,
-                &starts,
-                &length_kinds,
-                &length_values,
-                constant_slots,
-                constant_present,
-                constant_kinds,
-                constant_values,
-                marks,
-                stack,
-                row_kinds,
-                row_values,
-                work_list,
-            );
-            store_lengths(
-                constants,
-                sheet,
-                sizes,
-                constant_slots,
-                constant_present,
-                constant_kinds,
-                constant_values,
-                &mut length_kinds,
-                &mut length_values,
-            );
-            let index = analyze_next(
-                constants,
-                AnalysisKind::IndexCheck,
-                sheet,
-                sizes,
-                &firsts,
-                &starts,
-                &length_kinds,
-                &length_values,
                 index_slots,
                 index_present,
                 index_kinds,
@@ -126,15 +68,10 @@ pub fn analyze(
                 row_values,
                 work_list,
             );
-            let answer = analyze_next(
-                index,
-                AnalysisKind::Container,
+            let answer = analyze_containers(
+                values,
                 sheet,
                 sizes,
-                &firsts,
-                &starts,
-                &length_kinds,
-                &length_values,
                 container_slots,
                 container_present,
                 container_kinds,

@@ -32,11 +32,10 @@ slice-aggregate-length-facts-4 : tie.Need-slice-aggregate-length-facts-4
 slice-aggregate-length-facts-4 c = let start = c .before .before .before .before .before .before .before .before .before .before .before .before .before .before in sym (length-take-le _ (start .args .values .now) (values-fit (start .pre .1 _ _ _ _ (c .before .before .before .before .before .before2 .given .1) .1) (counted (start .pre .0 .0 .are) .code-count) refl))
 
 length-facts-requires : tie.Need-length-facts-requires
-length-facts-requires c κs = let start = c .before .before .before .before .before .before .before .before .before .before .before .before .before .before .before .before in
-    (
-      (start .pre .0 .0, (_, stored-ended (start .pre .1 _ _ _ _ (c .before .before .before .before .before .before .before .before2 .given .1) .1) (counted (start .pre .0 .0 .are) .code-count) refl)),
-      (length-take-le _ (start .args .present .now) (present-fits (start .pre .1 _ _ _ _ (c .before .before .before .before .before .before .before .before2 .given .1) .1) (counted (start .pre .0 .0 .are) .code-count) refl), start .pre .0 .1, start .pre .0 .2),
-    )
+length-facts-requires c κs = let start = c .before .before .before .before .before .before .before .before .before .before .before .before .before .before .before .before in (
+  (start .pre .0 .0, (_, stored-ended (start .pre .1 _ _ _ _ (c .before .before .before .before .before .before .before .before2 .given .1) .1) (counted (start .pre .0 .0 .are) .code-count) refl)),
+  (length-take-le _ (start .args .present .now) (present-fits (start .pre .1 _ _ _ _ (c .before .before .before .before .before .before .before .before2 .given .1) .1) (counted (start .pre .0 .0 .are) .code-count) refl), start .pre .0 .1, start .pre .0 .2),
+)
 
 enum-told : tie.Need-enum-told
 enum-told c = search needs
@@ -57,8 +56,7 @@ returns : tie.Need-returns
 returns c = let start = c .before .before .before .before .before .before .before .before .before .before .before .before .before .before .before .before .before .before .before .before .before in
     let is = c .before .before .before .before .before .before .before .before .before .before .before .before .before2 .given .1 in
     let stored = c .before .before .before .before .length-facts .ensures .0 in
-    let read = c .before .before .before .before .length-facts .ensures .1 in
-    (
+    let read = c .before .before .before .before .length-facts .ensures .1 in (
       λ constant index container left same a st. lengthened st (counted (start .pre .0 .0 .are) .code-count) (tracked-same is same) stored read,
       λ refused. not-refusing is refused,
     )
