@@ -1,17 +1,16 @@
-// The charges before the analyses, and the three analyses in order: each takes the answer so far by value, and does nothing where that is
-// a refusal.
+// Questions 1 to 6, the charges before the analyses, and an analysis after an answer, which it takes by value; it does nothing where that is a
+// refusal.
 mod admitting;
-mod containers;
 mod graph;
 mod lengths;
 mod next;
-mod values;
 
 pub use admitting::admit;
-pub use containers::analyze_containers;
+pub use graph::charge_graph;
+pub use lengths::store_lengths;
+pub use next::analyze_next;
 pub use next::refuses;
 use sheet::Sizes;
-pub use values::analyze_values;
 
 // What questions 1 to 6 come to.
 pub enum Admission {

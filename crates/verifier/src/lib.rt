@@ -9,11 +9,11 @@ ghost use Rattle.model.specs.declared.VerifierResources.{VerifierResources};
 ghost use Rattle.stages.specs.Stage.{table, scratch, lent};
 use analyses::Admission;
 use analyses::admit;
-use analyses::analyze_containers;
-use analyses::analyze_values;
 use analyses::refuses;
 use model::Answer;
 use model::VerifierResources;
+use sequence::analyze_containers;
+use sequence::analyze_values;
 use stages::clear_table_if;
 
 // "Questions, in order", the charges and the three analyses. What it answers and what every lent buffer holds afterwards is the call that the

@@ -11,9 +11,9 @@ use Rattle.verifier.proofs.analyze.Tie as tie
 use Rattle.verifier.proofs.analyze.Reads as reads
 use Rattle.verifier.proofs.analyze.Lts as lts
 use Rattle.analyses.proofs.admit.Reads as admit-reads
-use Rattle.analyses.proofs.analyze_containers.Reads as analyze-containers-reads
+use Rattle.sequence.proofs.analyze_containers.Reads as analyze-containers-reads
 use Rattle.analyses.proofs.refuses.Reads as refuses-reads
-use Rattle.analyses.proofs.analyze_values.Reads as analyze-values-reads
+use Rattle.sequence.proofs.analyze_values.Reads as analyze-values-reads
 use Rattle.stages.proofs.clear_table_if.Reads as clear-table-if-reads
 
 admit-requires : tie.Need-admit-requires

@@ -4,18 +4,18 @@ use mathlib.Core.Path.{refl, sym, _∙_}
 use Rattle.model.specs.declared.AnalysisKind.the-variants.{Constant}
 use Rattle.sheet.proofs.Asked.{measured}
 use Rattle.stages.specs.Stage.{table, scratch}
 use Rattle.analyses.proofs.Ready.{few-code, few-layouts, found, clean, still-clear}
 use Rattle.analyses.proofs.Constants.{constants-stored}
 use Rattle.analyses.proofs.Two.{values-promise}
 use borrow.Author.Needs.{needs}
-use Rattle.analyses.proofs.values.analyze_values.Statement.{statement}
-use Rattle.analyses.proofs.values.analyze_values.Tie as tie
-use Rattle.analyses.proofs.values.analyze_values.Reads as reads
-use Rattle.analyses.proofs.values.analyze_values.Lts as lts
-use Rattle.analyses.proofs.graph.charge_graph.Reads as charge-graph-reads
-use Rattle.analyses.proofs.lengths.store_lengths.Reads as store-lengths-reads
-use Rattle.analyses.proofs.next.analyze_next.Reads as analyze-next-reads
-use Rattle.analyses.proofs.next.refuses.Reads as refuses-reads
+use Rattle.sequence.proofs.values.analyze_values.Statement.{statement}
+use Rattle.sequence.proofs.values.analyze_values.Tie as tie
+use Rattle.sequence.proofs.values.analyze_values.Reads as reads
+use Rattle.sequence.proofs.values.analyze_values.Lts as lts
+use Rattle.analyses.proofs.charge_graph.Reads as charge-graph-reads
+use Rattle.analyses.proofs.store_lengths.Reads as store-lengths-reads
+use Rattle.analyses.proofs.analyze_next.Reads as analyze-next-reads
+use Rattle.analyses.proofs.refuses.Reads as refuses-reads
 use Rattle.sheet.proofs.first_ranges.Reads as first-ranges-reads
 use Rattle.sheet.proofs.layout_starts.Reads as layout-starts-reads
 use Rattle.stages.proofs.clear_scratch.Reads as clear-scratch-reads

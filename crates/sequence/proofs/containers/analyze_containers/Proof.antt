@@ -2,14 +2,14 @@
 -- Assumes nothing.
 use mathlib.Core.Path.{refl, _∙_}
 use Rattle.stages.specs.Stage.{scratch}
 use Rattle.analyses.proofs.Ready.{few-code, few-layouts, found}
 use Rattle.analyses.proofs.Nexting.{containers-next}
 use borrow.Author.Needs.{needs}
-use Rattle.analyses.proofs.containers.analyze_containers.Statement.{statement}
-use Rattle.analyses.proofs.containers.analyze_containers.Tie as tie
-use Rattle.analyses.proofs.containers.analyze_containers.Reads as reads
-use Rattle.analyses.proofs.containers.analyze_containers.Lts as lts
-use Rattle.analyses.proofs.next.analyze_next.Reads as analyze-next-reads
+use Rattle.sequence.proofs.containers.analyze_containers.Statement.{statement}
+use Rattle.sequence.proofs.containers.analyze_containers.Tie as tie
+use Rattle.sequence.proofs.containers.analyze_containers.Reads as reads
+use Rattle.sequence.proofs.containers.analyze_containers.Lts as lts
+use Rattle.analyses.proofs.analyze_next.Reads as analyze-next-reads
 use Rattle.sheet.proofs.first_ranges.Reads as first-ranges-reads
 use Rattle.sheet.proofs.layout_starts.Reads as layout-starts-reads
 
