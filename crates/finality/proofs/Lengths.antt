@@ -27,7 +27,7 @@ use Rattle.finality.proofs.Call.{stage-made, made-demanded}
 use Rattle.finality.proofs.Cells.{length-present, length-cells}
 use Rattle.finality.proofs.Invariant.{none-some, rowAt-replicate, zero-or-above}
 
-zeros-length : (old : List ℕ) → length (zeros old) ≡ length old
+pub zeros-length : (old : List ℕ) → length (zeros old) ≡ length old
 unfolding zeros
 zeros-length old = length-replicate {A = ℕ} (length old) 0
 
