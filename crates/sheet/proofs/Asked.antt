@@ -1,4 +1,4 @@
--- Questions 1 to 5 in order: what a refusal says, and what none says.
+-- What a sheet is like that none of the questions 1 to 5 refuses.
 -- Assumes nothing.
 use mathlib.Core.Path.{_≡_, refl}
 use mathlib.Core.Bool.{Bool, true, false}
@@ -26,8 +26,6 @@ after : (b : Bool) (number : ℕ) (next : Option ℕ) → ask b number next ≡ 
 unfolding ask
 after true number next e = e
 after false number next e = let z : _≡_ {A = ℕ} 0 1 = cc in absurd (omega arith)
-
--- ---- a sheet that is accepted
 
 -- what each question has answered
 pub record Asked (sheet : List ℕ) : Type 0 where
