@@ -1,20 +1,19 @@
 -- The loop of the closure: a slot is taken, its edges are charged and followed, until the stack is empty.
 -- Assumes nothing.
 use mathlib.Core.Path.{_≡_, refl, sym, ap, _∙_}
-use mathlib.Core.Bool.{Bool, true, false, false≢true}
+use mathlib.Core.Bool.{true, false, false≢true}
 use mathlib.Core.Logic.{_⊎_, inl, inr}
 use mathlib.Core.List.{List, [], _∷_, List·Memᴰ as Member, List·Memᴰ·head as head, List·Memᴰ·tail as tail, List·Memᴰ·not-nil as not-nil}
 use Prim.Native.Nat.{ℕ, zero, suc, _+_, _-_, _≤_, _<_}
 use native.Mathlib.Omega.{arith}
 use lib.ListN.{length, getD, set, replicate, length-set, length-replicate}
-use Rattle.model.specs.Sheet.{codeCount, localSlots, instruction}
+use Rattle.model.specs.Sheet.{localSlots}
 use Rattle.model.specs.Charges.{Spent, ok, stop, overBudget, give, continue, _>>_, chargeWork, inStage, spendWork}
-use Rattle.model.specs.Dependencies.{dependencyBit, FactDependency, edgesTo, Field, field}
-use Rattle.model.specs.Closure.{Marked, mark, markFields, markSeeds, followIf, follow, unmarked, seeded, takeSlot, expand, stageNumber}
+use Rattle.model.specs.Dependencies.{dependencyBit, edgesTo}
+use Rattle.model.specs.Closure.{Marked, mark, follow, unmarked, seeded, takeSlot, expand, stageNumber}
 use Rattle.model.specs.CallDemand.{Passed, begun, marking, taking}
 use Rattle.model.specs.Tables.{stacked}
 use Rattle.model.specs.Call.{zeros}
-use Rattle.model.specs.declared.Instruction.{Instruction}
 use Rattle.model.specs.declared.AnalysisKind.{AnalysisKind}
 use Rattle.model.specs.declared.VerifierResources.{VerifierResources}
 use Rattle.model.specs.declared.Charge.{Charge}
@@ -26,7 +25,8 @@ use Rattle.sheet.specs.Measured.{Measured}
 use Rattle.sheet.specs.declared.Sizes.{Sizes}
 use Rattle.sheet.proofs.Counted.{counted}
 use Rattle.sheet.proofs.Limited.{limited}
-use Rattle.finality.proofs.Marks.{IsSet, mark-grows, free, weight, mark-weight, unmarked-weight, stack-fits}
+use Rattle.finality.proofs.Marks.{IsSet, mark-grows, free, weight, stack-fits}
+use Rattle.finality.proofs.Closure.{follow-weight, seeded-weight}
 use Rattle.finality.proofs.Cells.{stacked-top, stacked-pop}
 use Rattle.closure.specs.Marks.{Lies, Lain}
 use Rattle.closure.specs.Sources.{Follows}
@@ -145,30 +145,6 @@ takes which sheet {marks} {stack} {marks′} {stack′} {top} {r} some f = recor
 -- ---- each slot is taken once
 
 module _ (which : AnalysisKind) (sheet : List ℕ) where
-  follow-if-weight : (b : Bool) (slot : ℕ) (m : Marked) → weight (followIf b slot m) ≡ weight m
-  unfolding followIf
-  follow-if-weight true slot m = refl
-  follow-if-weight false slot m = mark-weight slot m
-
-  follow-weight : (bit : ℕ) (es : List FactDependency) (m : Marked) → weight (follow bit es m) ≡ weight m
-  unfolding follow
-  follow-weight bit [] m = refl
-  follow-weight bit (e ∷ es) m = follow-weight bit es _ ∙ follow-if-weight _ (e .source) m
-
-  fields-weight : (inst : Instruction) (fs : List Field) (m : Marked) → weight (markFields inst fs m) ≡ weight m
-  unfolding markFields
-  fields-weight inst [] m = refl
-  fields-weight inst (f ∷ fs) m = fields-weight inst fs (mark (field inst f) m) ∙ mark-weight (field inst f) m
-
-  seeds-weight : (count : ℕ) (m : Marked) → weight (markSeeds which sheet count m) ≡ weight m
-  unfolding markSeeds
-  seeds-weight zero m = refl
-  seeds-weight (suc pc) m = fields-weight (instruction sheet pc) _ (markSeeds which sheet pc m) ∙ seeds-weight pc m
-
-  seeded-weight : weight (seeded which sheet) ≡ localSlots sheet
-  unfolding seeded
-  seeded-weight = seeds-weight (codeCount sheet) (unmarked sheet) ∙ unmarked-weight sheet
-
   module _ (m : Marked) (t : Topped (m .stack)) where
     next : Marked
     next = topTaken which sheet (m .stack) m
@@ -180,7 +156,7 @@ module _ (which : AnalysisKind) (sheet : List ℕ) where
     weight-falls : weight m ≡ suc (weight next)
     unfolding weight
     weight-falls =
-        let w = ap weight taken ∙ follow-weight (dependencyBit which) (edgesTo sheet (t .d)) (record { marks = m .marks; stack = t .ds }) in
+        let w = ap weight taken ∙ follow-weight which sheet (dependencyBit which) (edgesTo sheet (t .d)) (record { marks = m .marks; stack = t .ds }) in
         omega (arith, w, ap length (t .is))
 
     -- what the closure goes on with
@@ -208,7 +184,7 @@ module _ (which : AnalysisKind) (sheet : List ℕ) where
 
   pub expanding-begun : {budget : VerifierResources} {room : ℕ} {marks stack : List ℕ} {top : ℕ} → Lies sheet room (seeded which sheet) marks stack top
       → Expanding budget room marks stack top budget
-  expanding-begun {budget} l = record { m = seeded which sheet; lies = l; so-far = ap (λ (k : ℕ). expand which sheet k (seeded which sheet) budget) (sym seeded-weight) }
+  expanding-begun {budget} l = record { m = seeded which sheet; lies = l; so-far = ap (λ (k : ℕ). expand which sheet k (seeded which sheet) budget) (sym (seeded-weight which sheet)) }
 
   pub expanding-standing : {budget left : VerifierResources} {room : ℕ} {marks stack : List ℕ} {top : ℕ} → Expanding budget room marks stack top left
       → Standing sheet marks stack top

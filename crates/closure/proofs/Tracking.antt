@@ -4,7 +4,7 @@ use mathlib.Core.Path.{_≡_, refl, sym, ap, _∙_}
 use mathlib.Core.List.{List, [], _∷_, _++_}
 use Prim.Native.Nat.{ℕ, zero, suc, _≤_}
 use native.Mathlib.Omega.{arith}
-use lib.ListN.{length, take, drop, replicate, take-append-drop, length-replicate}
+use lib.ListN.{length, take, drop, replicate, take-append-drop}
 use lib.Seq.{length-take-le}
 use Rattle.model.specs.Sheet.{localSlots}
 use Rattle.model.specs.Charges.{overBudget, noRoom, Spent, ok, stop, unfinished, Metered, give, continue, _>>=_, _>>_}
@@ -114,10 +114,6 @@ module _ (which : AnalysisKind) (sheet : List ℕ) (l : ℕ) (all : l ≡ localS
             closed-with slots w e p q a
 
 -- ---- the marks that are lent
-
-pub length-zeros : (xs : List ℕ) → length (zeros xs) ≡ length xs
-unfolding zeros
-length-zeros xs = length-replicate (length xs) 0
 
 take-zeros : (l : ℕ) (xs : List ℕ) → xs ≡ replicate (length xs) 0 → take l xs ≡ replicate (length (take l xs)) 0
 take-zeros zero xs e = refl

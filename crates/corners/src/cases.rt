@@ -11,7 +11,7 @@ use crate::input::question_of;
 use crate::input::read_front;
 use crate::lines;
 use libc::STDIN_FILENO;
-use sheet::SheetCheck;
+use questions::SheetCheck;
 use sheet::Sizes;
 
 // What a question asks.
@@ -64,7 +64,7 @@ fn answer_sheet(length: usize, questions: u16) -> bool {
 
 // A sheet that is refused can be asked nothing more.
 fn check_and_answer(sheet: &[u8], questions: u16) -> bool {
-    match sheet::check_sheet(sheet) {
+    match questions::check_sheet(sheet) {
         SheetCheck::Accepted { sizes } => {
             lines::accepted(sizes);
             answer_accepted(sheet, sizes, questions)
@@ -87,7 +87,7 @@ fn answer_accepted(sheet: &[u8], sizes: Sizes, questions: u16) -> bool
     requires { ⌜ Accepted (now sheet) sizes ⌝ }
 {
     let mut firsts = no_ranges();
-    sheet::first_ranges(sheet, sizes, &mut firsts);
+    starts::first_ranges(sheet, sizes, &mut firsts);
     answer_questions(sheet, sizes, &firsts, questions)
 }
 

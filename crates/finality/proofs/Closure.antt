@@ -302,7 +302,7 @@ module _ (which : AnalysisKind) (sheet : List ℕ) where
   follow-if-weight true slot m = refl
   follow-if-weight false slot m = mark-weight slot m
 
-  follow-weight : (bit : ℕ) (es : List FactDependency) (m : Marked) → weight (follow bit es m) ≡ weight m
+  pub follow-weight : (bit : ℕ) (es : List FactDependency) (m : Marked) → weight (follow bit es m) ≡ weight m
   unfolding follow
   follow-weight bit [] m = refl
   follow-weight bit (e ∷ es) m = follow-weight bit es _ ∙ follow-if-weight _ (e .source) m
@@ -316,6 +316,10 @@ module _ (which : AnalysisKind) (sheet : List ℕ) where
   unfolding markSeeds
   seeds-weight zero m = refl
   seeds-weight (suc pc) m = fields-weight (instruction sheet pc) _ (markSeeds which sheet pc m) ∙ seeds-weight pc m
+
+  pub seeded-weight : weight (seeded which sheet) ≡ localSlots sheet
+  unfolding seeded
+  seeded-weight = seeds-weight (codeCount sheet) (unmarked sheet) ∙ unmarked-weight sheet
 
   take-finishes : (ds : List ℕ) (go : Marked → Metered Marked) (m : Marked) → m .stack ≡ ds
       → ((d : ℕ) (rest : List ℕ) → ds ≡ d ∷ rest → Finishes (go (follow (dependencyBit which) (edgesTo sheet d) (record { marks = m .marks; stack = rest }))))
@@ -339,11 +343,11 @@ module _ (which : AnalysisKind) (sheet : List ℕ) where
 
   -- the closure ends, whatever the budget
   pub closure-finishes : Finishes (trackedSlots which sheet)
-  unfolding trackedSlots seeded
+  unfolding trackedSlots
   closure-finishes =
       then-finishes (bytes-finish (stageNumber which) _)
       (then-finishes (bytes-finish (stageNumber which) _)
-      (bound-finishes (expand-finishes (localSlots sheet) _ (omega (arith, seeds-weight (codeCount sheet) (unmarked sheet), unmarked-weight sheet)))
+      (bound-finishes (expand-finishes (localSlots sheet) _ (omega (arith, seeded-weight)))
       (λ m budget left e k. give-finishes (places 0 (m .marks)) left k)))
 
   all-set : (out : Marked) → Ended (seeded which sheet) out → (t : ℕ) → Tracked which sheet t → IsSet (out .marks) t

@@ -12,12 +12,6 @@ use Rattle.model.specs.Tables.{factOf, factsOf}
 
 -- ---- rows of cells
 
-pub length-factsOf : (ks vs : List ℕ) → length vs ≡ length ks → length (factsOf ks vs) ≡ length ks
-unfolding factsOf
-length-factsOf [] vs e = refl
-length-factsOf (k ∷ ks) [] e = absurd (omega arith)
-length-factsOf (k ∷ ks) (v ∷ vs) e = ap suc (length-factsOf ks vs (suc-inj e))
-
 pub factsOf-get : (f : Fact → ℕ) (ks vs : List ℕ) (i : ℕ) → length vs ≡ length ks → i < length ks
     → getD (map f (factsOf ks vs)) i 0 ≡ f (factOf (getD ks i 0) (getD vs i 0))
 unfolding factsOf

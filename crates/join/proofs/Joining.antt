@@ -16,7 +16,8 @@ use Rattle.join.specs.Rows.{Encoded, JoinedRow}
 use Rattle.join.proofs.Cells.{cell}
 use Rattle.join.proofs.Fill.{fill-get, fill-set, fill-done}
 use Rattle.join.proofs.Changes.{kept, same-kind, other-kind}
-use Rattle.join.proofs.Joined.{length-factsOf, factsOf-get, or-false, or-true, joined, joinAt, changedTo, length-joinRow, joined-get, changedTo-suc}
+use Rattle.model.proofs.Facts.{length-facts}
+use Rattle.join.proofs.Joined.{factsOf-get, or-false, or-true, joined, joinAt, changedTo, length-joinRow, joined-get, changedTo-suc}
 
 pub record Partly (same : ℕ → ℕ → ℕ → ℕ → Bool) (ok ov nk nv kinds values : List ℕ) (changed : Bool) (i : ℕ) : Type 0 where
   pub within : i ≤ length ok
@@ -51,17 +52,17 @@ module _ {same : ℕ → ℕ → ℕ → ℕ → Bool} {ok ov nk nv : List ℕ} 
 
   module _ {kinds values : List ℕ} {changed : Bool} {i : ℕ} (p : Partly same ok ov nk nv kinds values changed i) where
     long : (f : Fact → ℕ) → length (map f (joined same ok ov nk nv)) ≡ length ok
-    long f = length-map (joined same ok ov nk nv) f ∙ length-joinRow same (factsOf ok ov) (factsOf nk nv) ∙ length-factsOf ok ov (p .encoded .level)
+    long f = length-map (joined same ok ov nk nv) f ∙ length-joinRow same (factsOf ok ov) (factsOf nk nv) ∙ length-facts ok ov (p .encoded .level)
 
     pub partly-end : length kinds ≤ i → JoinedRow same ok ov nk nv kinds values changed
     unfolding changedTo
     partly-end h =
         let end : i ≡ length ok = omega (arith, p .within, p .kinds-long) in
-        let all : length (joined same ok ov nk nv) ≡ i = length-joinRow same (factsOf ok ov) (factsOf nk nv) ∙ length-factsOf ok ov (p .encoded .level) ∙ sym end in
+        let all : length (joined same ok ov nk nv) ≡ i = length-joinRow same (factsOf ok ov) (factsOf nk nv) ∙ length-facts ok ov (p .encoded .level) ∙ sym end in
         record {
           kinds-are = p .kinds-are ∙ fill-done (map kind (joined same ok ov nk nv)) ok i (sym (long kind)) (omega (arith, long kind));
           values-are = p .values-are ∙ fill-done (map value (joined same ok ov nk nv)) ov i (p .encoded .level ∙ sym (long value)) (omega (arith, long value));
-          changed-is = rw (take-all i (factsOf ok ov) (omega (arith, length-factsOf ok ov (p .encoded .level))), take-all i (joined same ok ov nk nv) (omega (arith, all))) at (p .changed-is);
+          changed-is = rw (take-all i (factsOf ok ov) (omega (arith, length-facts ok ov (p .encoded .level))), take-all i (joined same ok ov nk nv) (omega (arith, all))) at (p .changed-is);
         }
 
     module _ (h : i < length kinds) where

@@ -8,7 +8,7 @@ ghost use Rattle.sheet.specs.Measured.{Accepted};
 use crate::facts::merge_fact;
 use model::FactCell;
 use sheet::Sizes;
-use sheet::equal_layouts;
+use starts::equal_layouts;
 
 // Whether two containers are equal: by kind, and A and B by content ("value A × 65,536 + B"). Equal values are answered at once.
 pub fn equal_containers(

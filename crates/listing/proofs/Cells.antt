@@ -12,17 +12,12 @@ use borrow.Author.Tests.{eq-eqb, ne-eqb}
 use Rattle.model.specs.Fact.{Fact, unknown, Row}
 use Rattle.model.specs.Tables.{factOf, factsOf}
 use Rattle.model.specs.Listing.{decimal, space, newline, rowLines, presentLines}
+use Rattle.model.proofs.Facts.{length-facts}
 use Rattle.listing.specs.Text.{Wrote, Added, cellLine}
 use Rattle.listing.specs.Rows.{rowIf, tableRowOf}
 use Rattle.listing.proofs.Writing.{then, reword, front}
 
 -- ---- the facts of a row's kinds and values
-
-pub length-facts : (kinds values : List ℕ) → length values ≡ length kinds → length (factsOf kinds values) ≡ length kinds
-unfolding factsOf
-length-facts [] values h = refl
-length-facts (k ∷ ks) [] h = h
-length-facts (k ∷ ks) (v ∷ vs) h = ap suc (length-facts ks vs (omega arith))
 
 fact-at : (kinds values : List ℕ) (j : ℕ) → j < length kinds → j < length values → getD (factsOf kinds values) j unknown ≡ factOf (getD kinds j 0) (getD values j 0)
 unfolding factsOf

@@ -18,8 +18,8 @@ use Rattle.sheet.specs.declared.Sizes.{Sizes}
 use Rattle.sheet.proofs.Counted.{counted}
 use Rattle.sheet.proofs.Inside.{layout-length-past}
 use Rattle.sheet.proofs.Asked.{measured, layout-fits}
-use Rattle.sheet.proofs.Content.{parts-differ, parts-same}
-use Rattle.sheet.proofs.Equal.{named, layout-inside, both-empty, same-content}
+use Rattle.starts.proofs.Content.{parts-differ, parts-same}
+use Rattle.starts.proofs.Equal.{named, layout-inside, both-empty, same-content}
 use Rattle.listing.specs.Readable.{Readable, startOf}
 
 -- ---- the layouts in order

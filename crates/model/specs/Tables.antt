@@ -3,7 +3,7 @@
 use mathlib.Core.List.{List, [], _∷_, _++_, map, reverse}
 use mathlib.Core.Option.{Option, none, some}
 use Prim.Native.Nat.{ℕ, zero, suc, _*_, _-_}
-use lib.ListN.{length, replicate, take, drop}
+use lib.ListN.{length, getD, replicate, take, drop}
 use Rattle.model.specs.Fact.{Fact, unknown, conflict, known, kind, value, Row}
 use Rattle.model.specs.declared.FactCell.{FactCell}
 
@@ -59,6 +59,10 @@ factsOf (k ∷ kinds) (v ∷ values) = factOf k v ∷ factsOf kinds values
 unfoldable pub tableRow : ℕ → List ℕ → List ℕ → ℕ → Row
 tableRow s kinds values p = factsOf (take s (drop (p * s) kinds)) (take s (drop (p * s) values))
 
+-- "for index, the ended constant run": its facts of b, one for each instruction, in two tables
+unfoldable pub lengthTable : List ℕ → List ℕ → ℕ → Fact
+lengthTable kinds values pc = factOf (getD kinds pc 0) (getD values pc 0)
+
 unfoldable pub tablesCompute : Unit {0}
-unfolding presentByte presentBytes rowCells cells stacked factOf factIn cellOf factsOf tableRow
+unfolding presentByte presentBytes rowCells cells stacked factOf factIn cellOf factsOf tableRow lengthTable
 tablesCompute = tt

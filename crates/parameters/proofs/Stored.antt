@@ -10,12 +10,12 @@ use borrow.Author.Tests.{eq-eqb, ne-eqb}
 use Rattle.model.specs.Fact.{unknown, kind, value, Row}
 use Rattle.model.specs.Sheet.{codeCount, instruction}
 use Rattle.model.specs.Run.{rowAt}
-use Rattle.model.specs.Tables.{cellOf}
+use Rattle.model.specs.Tables.{cellOf, lengthTable}
 use Rattle.model.specs.Analyses.{Analysed, rowFact, lengthFacts}
 use Rattle.model.specs.declared.FactCell.{FactCell}
 use Rattle.memory.proofs.Front.{getD-front}
 use Rattle.memory.proofs.Turned.{Turned, start, turn}
-use Rattle.parameters.specs.Lengths.{Ended, lengthFactIf, lengthFact, lengthKinds, lengthValues, lengthTable}
+use Rattle.parameters.specs.Lengths.{Ended, lengthFactIf, lengthFact, lengthKinds, lengthValues}
 use Rattle.parameters.proofs.Facts.{fact-back, kind-of, value-of}
 
 -- ---- one fact

@@ -6,12 +6,12 @@ use mathlib.Core.List.{List}
 use mathlib.Core.Option.{Option, some}
 use Prim.Native.Nat.{ℕ}
 use lib.Dec.{eqb}
-use lib.ListN.{length, getD}
+use lib.ListN.{length}
 use Rattle.model.specs.Fact.{Fact, unknown, kind, value, Row}
 use Rattle.model.specs.Sheet.{codeCount, instruction}
 use Rattle.model.specs.Opcode as O
 use Rattle.model.specs.Run.{rowAt}
-use Rattle.model.specs.Tables.{presentBytes, cells, factOf}
+use Rattle.model.specs.Tables.{presentBytes, cells}
 use Rattle.model.specs.Analyses.{rowFact}
 use Rattle.model.specs.Lookup.{ascends}
 use Rattle.memory.specs.Front.{front}
@@ -40,7 +40,3 @@ lengthKinds sheet slots rows old = front (λ pc. kind (lengthFact sheet slots ro
 -- and their values
 unfoldable pub lengthValues : List ℕ → List ℕ → List (Option Row) → List ℕ → List ℕ
 lengthValues sheet slots rows old = front (λ pc. value (lengthFact sheet slots rows pc)) (codeCount sheet) old
-
--- the facts that two such tables stand for
-unfoldable pub lengthTable : List ℕ → List ℕ → ℕ → Fact
-lengthTable kinds values pc = factOf (getD kinds pc 0) (getD values pc 0)

@@ -6,7 +6,3 @@ pub mod Laid
 pub mod Inside
 pub mod Adding
 pub mod Asked
-pub mod Content
-pub mod Equal
-pub mod Summed
-pub mod Tabled

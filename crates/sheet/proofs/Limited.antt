@@ -1,16 +1,14 @@
 -- Question 2: sizes within their limits.
 -- Assumes nothing.
-use mathlib.Core.Path.{_≡_, sym, _∙_, subst}
-use mathlib.Core.Bool.{Bool, true, false, _&&_}
+use mathlib.Core.Path.{_≡_, sym, subst}
+use mathlib.Core.Bool.{true}
 use mathlib.Core.List.{List, [], _∷_}
 use Prim.Native.Nat.{ℕ, zero, suc, _+_, _≤_, _<_}
 use native.Mathlib.Nat.{not-suc-le-zero, le-of-suc-le-suc}
-use native.Mathlib.Numerals.{add-one}
 use native.Mathlib.Omega.{arith}
 use lib.Dec.{leb}
-use lib.ListN.{length, getD, drop}
-use lib.Seq.{drop-cons, drop-length}
-use borrow.Author.Tests.{leb-true, le-leb, lt-leb}
+use lib.ListN.{length, getD}
+use borrow.Author.Tests.{leb-true}
 use Rattle.model.specs.Sheet.{size, limits, withinLimits}
 use Rattle.model.specs.Sheet.{codeCount, rangeCount, constantCount, paramCount, layoutCount, slotKindCount, localSlots, paramSlots, recvSlots, isClosure}
 use Rattle.sheet.specs.Sizes.{sizesOf}
@@ -60,20 +58,3 @@ limited-by sheet e within = subst (λ (s : Sizes). Limited s) (sym e) (of-sheet 
 
 pub limited : {sheet : List ℕ} {sizes : Sizes} → Measured sheet sizes → Limited sizes
 limited {sheet} m = limited-by sheet (m .are) (m .within)
-
--- ---- the loop that asks: from size j on, after those below have passed
-
-within-step : (sheet ls : List ℕ) (j : ℕ) → j < length ls → withinLimits sheet j (drop j ls) ≡ (leb (size sheet j) (getD ls j 0) && withinLimits sheet (j + 1) (drop (j + 1) ls))
-unfolding withinLimits
-within-step sheet ls j h = rw (add-one, drop-cons ls j 0)
-
-module _ (sheet : List ℕ) (j : ℕ) (ls : List ℕ) {answer : Bool} (so : answer ≡ withinLimits sheet j (drop j ls)) (h : j < length ls) where
-  pub within-passed : size sheet j ≤ getD ls j 0 → answer ≡ withinLimits sheet (j + 1) (drop (j + 1) ls)
-  within-passed p = so ∙ within-step sheet ls j h ∙ rw (le-leb _ _ p)
-
-  pub within-failed : getD ls j 0 < size sheet j → answer ≡ false
-  within-failed p = so ∙ within-step sheet ls j h ∙ rw (lt-leb _ _ p)
-
-pub within-all : (sheet : List ℕ) (j : ℕ) (ls : List ℕ) {answer : Bool} → answer ≡ withinLimits sheet j (drop j ls) → j ≡ length ls → answer ≡ true
-unfolding withinLimits
-within-all sheet j ls so e = so ∙ rw (e, drop-length ls)

@@ -1,5 +1,3 @@
 -- What the functions of this crate answer and ask, by the definitions of `model`.
 pub mod Sizes
-pub mod Check
 pub mod Measured
-pub mod Tables

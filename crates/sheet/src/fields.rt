@@ -3,7 +3,7 @@ ghost use mathlib.Core.Path.{_≡_};
 ghost use Prim.Native.Nat.{_+_, _*_, _<_, _≤_};
 ghost use lib.ListN.{length};
 ghost use Rattle.model.specs.Bytes.{byte};
-ghost use Rattle.model.specs.Sheet.{instruction, noteKind, noteA, noteB, writeCount, rangesOf, rangeStart, rangeLength};
+ghost use Rattle.model.specs.Sheet.{size, instruction, noteKind, noteA, noteB, writeCount, rangesOf, rangeStart, rangeLength};
 ghost use Rattle.model.specs.Sheet.{constantKind, constantBits, paramWidth, paramKind, paramA, paramB, layoutLength, slotKindsAt};
 ghost use Rattle.sheet.specs.Measured.{Measured};
 use crate::Sizes;
@@ -14,6 +14,14 @@ use crate::bytes::u16_in;
 use crate::bytes::u32_in;
 use crate::bytes::u64_in;
 use model::Instruction;
+
+// The size j, which may be any 32 bits until its limit has been asked.
+pub fn size_at(sheet: &[u8], j: usize) -> usize
+    requires { ⌜ (40 ≤ length (now sheet)) × (j < 10) ⌝ }
+    ensures { λ r. ⌜ (r ≡ size (now (sheet .entry)) j) × (r < 4294967296) ⌝ }
+{
+    u32_in(sheet, 0, j) as usize
+}
 
 // The instruction at pc: op, flags, a, b, c.
 pub fn instruction_at(sheet: &[u8], pc: usize) -> Instruction

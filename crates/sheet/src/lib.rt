@@ -1,12 +1,6 @@
-// The sheet: its sizes, the questions 1 to 5, and a reader for each field.
+// The sheet: its sizes, and a reader for each field.
 mod bytes;
 mod fields;
-mod kinds;
-mod layouts;
-mod limits;
-mod questions;
-mod sums;
-mod tables;
 
 pub use fields::constant_bits_at;
 pub use fields::constant_kind_at;
@@ -22,12 +16,9 @@ pub use fields::param_width_at;
 pub use fields::range_length_at;
 pub use fields::range_start_at;
 pub use fields::ranges_of;
+pub use fields::size_at;
 pub use fields::slot_kind_at;
 pub use fields::write_count_at;
-pub use layouts::equal_layouts;
-pub use questions::check_sheet;
-pub use tables::first_ranges;
-pub use tables::layout_starts;
 
 // Where each array of a sheet begins; the code begins at 40.
 pub struct Places {
@@ -60,10 +51,4 @@ pub struct Sizes {
     pub recv_slots: usize,
     pub is_closure: usize,
     pub places: Places,
-}
-
-// What questions 1 to 5 come to: the sheet's sizes, or the number of the first that refuses it.
-pub enum SheetCheck {
-    Accepted { sizes: Sizes },
-    Refused { number: u8 },
 }

@@ -2,14 +2,15 @@
 -- Assumes nothing.
 use mathlib.Core.Path.{_≡_}
 use mathlib.Core.Bool.{true}
-use mathlib.Core.List.{List, [], _∷_, map}
+use mathlib.Core.List.{List, map}
 use mathlib.Core.Option.{Option, none, some}
 use Prim.Native.Nat.{ℕ, _+_, _*_, _≤_, _<_}
-use lib.ListN.{length, getD, replicate}
-use Rattle.model.specs.Fact.{Fact, kind, value, Row}
+use lib.ListN.{length, replicate}
+use Rattle.model.specs.Fact.{kind, value, Row}
 use Rattle.model.specs.Sheet.{codeCount, firstRange, layoutCount, layoutStart}
 use Rattle.model.specs.Run.{Analysis, State, RunEnd, finished, overdrawn, fuelSpent, bound, run}
-use Rattle.model.specs.Tables.{presentBytes, cells, factOf, factsOf, tableRow}
+use Rattle.model.specs.Tables.{presentBytes, cells, factsOf, tableRow}
+unfoldable pub use Rattle.model.specs.Tables.{lengthTable}
 use Rattle.model.specs.Analyses.{analysis}
 use Rattle.model.specs.Call.{zeros}
 use Rattle.model.specs.Lookup.{ascends}
@@ -21,10 +22,6 @@ use Rattle.model.specs.declared.AnalysisKind.{AnalysisKind}
 use Rattle.worklist.specs.Laid.{RowsLaid, StateLaid}
 use Rattle.worklist.specs.declared.Run.{Run}
 use Rattle.worklist.specs.declared.Run.the-variants.{Finished, Overdrawn}
-
--- "for index, the ended constant run": its facts of b, one for each instruction, in two tables
-unfoldable pub lengthTable : List ℕ → List ℕ → ℕ → Fact
-lengthTable lengthKinds lengthValues pc = factOf (getD lengthKinds pc 0) (getD lengthValues pc 0)
 
 -- the analysis that the loop runs, from its first row
 unfoldable pub ranAnalysis : AnalysisKind → List ℕ → List ℕ → List ℕ → List ℕ → Row → Analysis

@@ -8,8 +8,8 @@ use borrow.Author.Needs.{needs}
 use lib.ListN.{length, replicate}
 use Rattle.model.specs.Closure.{seeded}
 use Rattle.finality.proofs.Marks.{free}
+use Rattle.finality.proofs.Lengths.{zeros-length}
 use Rattle.closure.proofs.Marking.{some-lain, goes-long}
-use Rattle.closure.proofs.Tracking.{length-zeros}
 use Rattle.closure.proofs.Expanding.{Expanding, blank-lies, lies-room, expanding-begun, expanding-standing, expanding-less, expanding-on, expanding-refused, expanding-done, expanding-empty, refused-end, done-end, zeros-same}
 use Rattle.closure.proofs.expand.expand.Statement.{statement}
 use Rattle.closure.proofs.expand.expand.Tie as tie
@@ -63,7 +63,7 @@ same-length c =
     let take-slot = clear-u8 .before .before .before .before .before .before .before .before .before in
     let at-loop = take-slot .before .before .before .before in
     let start = at-loop .before .before .before .before .before .before .before .before .before .before .before in
-    ap length (clear-u8 .clear-u8 .ensures) ∙ length-zeros _ ∙ omega
+    ap length (clear-u8 .clear-u8 .ensures) ∙ zeros-length _ ∙ omega
     (arith, take-slot .take-slot .ensures .lies (at-loop .loop .inv .lies) .wide, start .pre .1 .wide)
 
 same-length-2 : tie.Need-same-length-2 Inv-loop μ-loop

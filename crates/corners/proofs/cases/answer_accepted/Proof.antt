@@ -5,7 +5,7 @@ use borrow.Author.Needs.{needs}
 use Rattle.sheet.proofs.Asked.{measured}
 use Rattle.sheet.proofs.Counted.{counted}
 use Rattle.sheet.proofs.Limited.{limited}
-use Rattle.sheet.proofs.Tabled.{first-ranges-hold}
+use Rattle.starts.proofs.Tabled.{first-ranges-hold}
 use Rattle.corners.proofs.cases.answer_accepted.Statement.{statement}
 use Rattle.corners.proofs.cases.answer_accepted.Tie as tie
 

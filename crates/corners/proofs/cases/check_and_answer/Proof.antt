@@ -2,7 +2,7 @@
 -- Assumes nothing.
 use mathlib.Core.Path.{sym, _∙_}
 use borrow.Author.Needs.{needs}
-use Rattle.sheet.proofs.Asked.{accepted}
+use Rattle.questions.proofs.Refused.{accepted}
 use Rattle.corners.proofs.cases.check_and_answer.Statement.{statement}
 use Rattle.corners.proofs.cases.check_and_answer.Tie as tie
 

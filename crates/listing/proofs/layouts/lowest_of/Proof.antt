@@ -3,7 +3,7 @@ use mathlib.Core.Path.{_≡_, refl, sym, _∙_}
 use Prim.Native.Nat.{_-_, _≤_}
 use borrow.Author.Count.{below-none, below-more}
 use Rattle.sheet.proofs.Asked.{measured}
-use Rattle.sheet.proofs.Equal.{other-length}
+use Rattle.starts.proofs.Equal.{other-length}
 use Rattle.listing.proofs.Search.{None, Agree, found, absent, starts-long, first-inside, second-inside, kinds-differ, kinds-agree}
 use native.Mathlib.Omega.{arith}
 use Rattle.listing.proofs.layouts.lowest_of.Statement.{statement}

@@ -1,0 +1,2 @@
+-- What the questions come to, by the definitions of `model`.
+pub mod Check

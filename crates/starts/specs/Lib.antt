@@ -1,0 +1,2 @@
+-- What the tables of this crate hold, by the definitions of `model`.
+pub mod Tables
