@@ -22,11 +22,11 @@ use Rattle.budget.specs.declared.Metering.{Metering}
 use Rattle.budget.specs.declared.Metering.the-variants as M
 use Rattle.sheet.proofs.Both.{both-left, both-right}
 use Rattle.sheet.specs.Sizes.{sizesOf}
-use Rattle.sheet.specs.Check.{checkOf, sheetCheck}
+use Rattle.questions.specs.Check.{checkOf, sheetCheck}
 use Rattle.sheet.specs.Measured.{Accepted}
 use Rattle.sheet.specs.declared.Sizes.{Sizes}
-use Rattle.sheet.specs.declared.SheetCheck.{SheetCheck}
-use Rattle.sheet.specs.declared.SheetCheck.the-variants as Q
+use Rattle.questions.specs.declared.SheetCheck.{SheetCheck}
+use Rattle.questions.specs.declared.SheetCheck.the-variants as Q
 use Rattle.analyses.specs.Admitted.{admittedIf, admissionOf, admission}
 use Rattle.analyses.specs.Chain.{begunBy, begunOf, chargeGraph}
 use Rattle.analyses.specs.declared.Admission.{Admission}

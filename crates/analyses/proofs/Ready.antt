@@ -23,7 +23,7 @@ use Rattle.finality.proofs.Lent.{analyzed-demand}
 use Rattle.finality.proofs.Lengths.{zeros-length, SameRoom, call-lengths}
 use Rattle.memory.proofs.Front.{front-holds}
 use Rattle.sheet.specs.Measured.{Accepted}
-use Rattle.sheet.specs.Tables.{firstRanges, layoutStarts}
+use Rattle.starts.specs.Tables.{firstRanges, layoutStarts}
 use Rattle.sheet.specs.declared.Sizes.{Sizes}
 use Rattle.sheet.proofs.Asked.{measured}
 use Rattle.sheet.proofs.Counted.{counted}

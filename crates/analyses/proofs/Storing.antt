@@ -15,9 +15,8 @@ use Rattle.model.specs.declared.Counts.{Counts}
 use Rattle.model.specs.declared.VerifierResources.{VerifierResources}
 use Rattle.model.specs.declared.Answer.{Answer}
 use Rattle.model.specs.declared.Answer.the-variants.{Analyzed, Invalid, OverBudget, NoRoom}
-use Rattle.parameters.specs.Lengths as parameters
 use Rattle.parameters.specs.Lengths.{Ended, lengthKinds, lengthValues}
-use Rattle.worklist.specs.Turn.{lengthTable}
+use Rattle.model.specs.Tables.{lengthTable}
 use Rattle.analyses.specs.Chain.{refusing}
 use Rattle.analyses.specs.Lengths.{Stored, Lengthened}
 
@@ -61,9 +60,8 @@ module _ {sheet : List ℕ} {a : Analysed} {given : Counts} {slots present kinds
       → ((rows : List (Option Row)) → Ended (take s slots) rows (take n present) (take (n * s) kinds) (take (n * s) values)
       → (lk′ ≡ lengthKinds sheet (take s slots) rows lk) × (lv′ ≡ lengthValues sheet (take s slots) rows lv))
       → ((constants : Analysed) → constants .slots ≡ take s slots → Ended (take s slots) (constants .rows) (take n present) (take (n * s) kinds) (take (n * s) values)
-      → (pc : ℕ) → pc < codeCount sheet → instruction sheet pc .op ≡ 121 → parameters.lengthTable lk′ lv′ pc ≡ lengthFacts sheet constants pc)
+      → (pc : ℕ) → pc < codeCount sheet → instruction sheet pc .op ≡ 121 → lengthTable lk′ lv′ pc ≡ lengthFacts sheet constants pc)
       → Lengthened sheet a lk lv lk′ lv′
-  unfolding parameters.lengthTable lengthTable
   lengthened {lk} {lv} stores reads = record {
     kinds-are = stores (a .rows) stored-ended .0 ∙ ap (λ (xs : List ℕ). lengthKinds sheet xs (a .rows) lk) slots-are;
     values-are = stores (a .rows) stored-ended .1 ∙ ap (λ (xs : List ℕ). lengthValues sheet xs (a .rows) lv) slots-are;

@@ -20,7 +20,7 @@ use Rattle.model.specs.declared.Answer.the-variants.{Analyzed}
 use Rattle.finality.proofs.Lengths.{stage-lengths}
 use Rattle.sheet.specs.declared.Sizes.{Sizes}
 use Rattle.sheet.specs.Measured.{Accepted}
-use Rattle.worklist.specs.Turn.{lengthTable}
+use Rattle.model.specs.Tables.{lengthTable}
 use Rattle.stages.specs.Stage.{Scratch, zeroScratch, tableIf}
 use Rattle.analyses.specs.Chain.{noCounts, refusedBy, begunOf, chargeGraph, counted, next, nextOf, refusing}
 use Rattle.analyses.specs.Lengths.{Stored, Lengthened}

@@ -14,7 +14,7 @@ use Rattle.model.specs.Analyses.{Analysed, lengthFacts}
 use Rattle.model.specs.Lookup.{ascends}
 use Rattle.model.specs.declared.Counts.{Counts}
 use Rattle.parameters.specs.Lengths.{lengthKinds, lengthValues}
-use Rattle.worklist.specs.Turn.{lengthTable}
+use Rattle.model.specs.Tables.{lengthTable}
 
 -- the tables of an ended analysis in the first places of an output
 pub record Stored (sheet : List ℕ) (a : Analysed) (given : Counts) (slots present kinds values : List ℕ) : Type 0 where

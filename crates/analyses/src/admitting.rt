@@ -4,9 +4,9 @@ ghost use mathlib.Core.Bool.{_&&_};
 ghost use lib.Dec.{leb};
 ghost use Rattle.analyses.specs.Admitted.{admittedIf, admission};
 use crate::Admission;
-use sheet::SheetCheck;
+use questions::SheetCheck;
+use questions::check_sheet;
 use sheet::Sizes;
-use sheet::check_sheet;
 
 // "6. Have the marks and the closure's stack at least L entries each?"
 fn closure_room(sizes: Sizes, marks: usize, stack: usize) -> Admission

@@ -5,7 +5,7 @@ ghost use Rattle.model.specs.Sheet.{codeCount};
 ghost use Rattle.model.specs.Closure.{stageNumber};
 ghost use Rattle.model.specs.Analyses.{stage};
 ghost use Rattle.model.specs.Call.{roomFor, zeroTable};
-ghost use Rattle.worklist.specs.Turn.{lengthTable};
+ghost use Rattle.model.specs.Tables.{lengthTable};
 ghost use Rattle.stages.specs.Stage.{table, scratch};
 ghost use Rattle.stages.specs.Stocked.{Found};
 ghost use Rattle.analyses.specs.Chain.{counted, afterStage, refusing, next, nextOf};

@@ -14,8 +14,8 @@ use analyses::analyze_next;
 use model::AnalysisKind;
 use model::Answer;
 use sheet::Sizes;
-use sheet::first_ranges;
-use sheet::layout_starts;
+use starts::first_ranges;
+use starts::layout_starts;
 
 // The container analysis, which reads no other analysis' facts, in a scratch that is zero.
 pub fn analyze_containers(

@@ -16,10 +16,10 @@ use model::AnalysisKind;
 use model::Answer;
 use model::VerifierResources;
 use sheet::Sizes;
-use sheet::first_ranges;
-use sheet::layout_starts;
 use stages::clear_scratch;
 use stages::clear_table_if;
+use starts::first_ranges;
+use starts::layout_starts;
 
 // The charges of the graph, then the constant and the index analysis, which reads the constants; both outputs are zero after a refusal.
 pub fn analyze_values(

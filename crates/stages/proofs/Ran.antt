@@ -11,7 +11,7 @@ use Rattle.model.specs.Charges.{Refusal, overBudget, Spent, ok, stop, unfinishe
 use Rattle.model.specs.Closure.{stageNumber}
 use Rattle.model.specs.Fact.{Fact, kind, value, Row}
 use Rattle.model.specs.Run.{RunEnd, finished, overdrawn, fuelSpent, run}
-use Rattle.model.specs.Tables.{factsOf, presentBytes, cells}
+use Rattle.model.specs.Tables.{lengthTable, factsOf, presentBytes, cells}
 use Rattle.model.specs.Analyses.{Analysed, analysis, chargeMatrix, firstRow, ranTo}
 use Rattle.model.specs.Call.{counts, tables}
 use Rattle.model.specs.declared.VerifierResources.{VerifierResources}
@@ -28,7 +28,7 @@ use Rattle.sheet.proofs.Asked.{measured}
 use Rattle.sheet.proofs.Counted.{counted}
 use Rattle.sheet.proofs.Limited.{limited}
 use Rattle.parameters.specs.First.{Blank, First, first, firstOf}
-use Rattle.worklist.specs.Turn.{lengthTable, ranAnalysis, Lending, Fresh, RunResult, runResult, ranOf}
+use Rattle.worklist.specs.Turn.{ranAnalysis, Lending, Fresh, RunResult, runResult, ranOf}
 use Rattle.worklist.specs.declared.Run.{Run}
 use Rattle.worklist.specs.declared.Run.the-variants.{Finished, Overdrawn}
 use Rattle.stages.specs.Parts.{entering, behindRoom, stagedOf, Behind, behind, behindZero, behindOf}

@@ -4,7 +4,7 @@ ghost use mathlib.Core.Option.{some};
 ghost use Rattle.model.specs.Sheet.{codeCount};
 ghost use Rattle.model.specs.Analyses.{stage};
 ghost use Rattle.model.specs.Call.{roomFor};
-ghost use Rattle.worklist.specs.Turn.{lengthTable};
+ghost use Rattle.model.specs.Tables.{lengthTable};
 ghost use Rattle.stages.specs.Stage.{table, scratch};
 ghost use Rattle.stages.specs.Ends.{slotsAfter, stageEnd, stageOf};
 ghost use Rattle.stages.specs.Stocked.{Found, Empty, Unmarked};

@@ -6,7 +6,7 @@ ghost use Prim.Native.Nat.{_≤_};
 ghost use lib.ListN.{length, take};
 ghost use Rattle.model.specs.Sheet.{codeCount};
 ghost use Rattle.model.specs.Lookup.{ascends};
-ghost use Rattle.worklist.specs.Turn.{lengthTable};
+ghost use Rattle.model.specs.Tables.{lengthTable};
 ghost use Rattle.stages.specs.Parts.{behindRoom, behind};
 ghost use Rattle.stages.specs.Stage.{roomBy};
 ghost use Rattle.stages.specs.Ends.{afterClosure, atOnce, behindIn};

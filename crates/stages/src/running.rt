@@ -3,7 +3,7 @@ ghost use mathlib.Core.Path.{_≡_};
 ghost use mathlib.Core.Option.{some};
 ghost use lib.ListN.{length};
 ghost use Rattle.model.specs.Sheet.{codeCount};
-ghost use Rattle.worklist.specs.Turn.{lengthTable};
+ghost use Rattle.model.specs.Tables.{lengthTable};
 ghost use Rattle.stages.specs.Parts.{behindRoom, behind, behindOf};
 ghost use Rattle.stages.specs.Stocked.{Found, Slotted, Zeroed};
 use crate::Staged;

@@ -7,7 +7,7 @@ use Rattle.analyses.proofs.admitting.admit.Tie as tie
 use Rattle.analyses.proofs.admitting.admit.Reads as reads
 use Rattle.analyses.proofs.admitting.admit.Lts as lts
 use Rattle.analyses.proofs.admitting.closure_room.Reads as closure-room-reads
-use Rattle.sheet.proofs.check_sheet.Reads as check-sheet-reads
+use Rattle.questions.proofs.check_sheet.Reads as check-sheet-reads
 
 check-sheet-requires : tie.Need-check-sheet-requires
 check-sheet-requires c κs = search needs

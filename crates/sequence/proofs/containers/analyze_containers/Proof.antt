@@ -10,8 +10,8 @@ use Rattle.sequence.proofs.containers.analyze_containers.Tie as tie
 use Rattle.sequence.proofs.containers.analyze_containers.Reads as reads
 use Rattle.sequence.proofs.containers.analyze_containers.Lts as lts
 use Rattle.analyses.proofs.analyze_next.Reads as analyze-next-reads
-use Rattle.sheet.proofs.first_ranges.Reads as first-ranges-reads
-use Rattle.sheet.proofs.layout_starts.Reads as layout-starts-reads
+use Rattle.starts.proofs.first_ranges.Reads as first-ranges-reads
+use Rattle.starts.proofs.layout_starts.Reads as layout-starts-reads
 
 slice-aggregate-first-ranges : tie.Need-slice-aggregate-first-ranges
 slice-aggregate-first-ranges c = search needs

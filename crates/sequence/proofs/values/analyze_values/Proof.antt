@@ -16,8 +16,8 @@ use Rattle.analyses.proofs.charge_graph.Reads as charge-graph-reads
 use Rattle.analyses.proofs.store_lengths.Reads as store-lengths-reads
 use Rattle.analyses.proofs.analyze_next.Reads as analyze-next-reads
 use Rattle.analyses.proofs.refuses.Reads as refuses-reads
-use Rattle.sheet.proofs.first_ranges.Reads as first-ranges-reads
-use Rattle.sheet.proofs.layout_starts.Reads as layout-starts-reads
+use Rattle.starts.proofs.first_ranges.Reads as first-ranges-reads
+use Rattle.starts.proofs.layout_starts.Reads as layout-starts-reads
 use Rattle.stages.proofs.clear_scratch.Reads as clear-scratch-reads
 use Rattle.stages.proofs.clear_table_if.Reads as clear-table-if-reads
 
