@@ -1,0 +1,2 @@
+-- What the numbers of C say of a call
+pub mod Handed

@@ -1,0 +1,18 @@
+-- `vo_facts_is_reachable` meets its contract. Assumes nothing.
+use mathlib.Core.Path.{ap, _∙_}
+use Rattle.export.specs.Facts.{reachedNumber}
+use borrow.Author.Needs.{needs}
+use Rattle.export.proofs.vo_facts_is_reachable.Statement.{statement}
+use Rattle.export.proofs.vo_facts_is_reachable.Tie as tie
+
+is-reachable-requires : tie.Need-is-reachable-requires
+is-reachable-requires c κs = search needs
+
+reached-requires : tie.Need-reached-requires
+reached-requires c κs = search needs
+
+returns : tie.Need-returns
+returns c = c .reached .ensures ∙ ap reachedNumber (c .before .is-reachable .ensures)
+
+pub vo-facts-is-reachable-spec : {M : Type 1} → statement M
+vo-facts-is-reachable-spec = tie.close (tie.spec is-reachable-requires reached-requires returns)

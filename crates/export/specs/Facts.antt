@@ -1,0 +1,46 @@
+-- The numbers of what a lookup answers.
+-- Assumes nothing.
+use mathlib.Core.Bool.{Bool, true, false}
+use mathlib.Core.List.{List, _++_}
+use Prim.Native.Nat.{ℕ}
+use lib.ListN.{length, drop}
+use Rattle.model.specs.Call.{Numbered}
+use Rattle.model.specs.Lookup.{slotFactNumbered}
+use Rattle.model.specs.declared.SlotFact.{SlotFact}
+use Rattle.model.specs.declared.SlotFact.the-variants.{Cell, Absent, Damaged}
+use Rattle.model.specs.declared.Reachability.{Reachability}
+use Rattle.model.specs.declared.Reachability.the-variants.{Yes, No, Unreadable}
+
+-- What a lookup leaves: the number that it returns, and the memory for the fact.
+pub record Looked : Type 0 where
+  pub returned : ℕ
+  pub out : List ℕ
+
+-- what a lookup leaves, from its two parts
+abbrev pub looked : ℕ → List ℕ → Looked
+looked returned out = record { returned = returned; out = out }
+
+-- "0 .., 254 for "none", 9": document 01's number, but for "none", which has that of a cell there
+unfoldable pub factNumber : SlotFact → ℕ
+factNumber (Cell kind value) = slotFactNumbered (Cell kind value) .number
+factNumber Absent = 254
+factNumber Damaged = slotFactNumbered Damaged .number
+
+-- values at the front of the memory, which keeps what is behind them
+unfoldable pub inFront : List ℕ → List ℕ → List ℕ
+inFront values old = values ++ drop (length values) old
+
+-- "255 where out has fewer than 2 entries"; "kind and value in out[0..2]"; "but for 0, out keeps its content"
+unfoldable pub lookedUp : Bool → SlotFact → List ℕ → Looked
+lookedUp false fact old = looked 255 old
+lookedUp true fact old = looked (factNumber fact) (inFront (slotFactNumbered fact .given) old)
+
+-- "1 yes, 0 no, 9"
+unfoldable pub reachedNumber : Reachability → ℕ
+reachedNumber Yes = 1
+reachedNumber No = 0
+reachedNumber Unreadable = 9
+
+unfoldable pub factsCompute : Unit {0}
+unfolding slotFactNumbered factNumber inFront lookedUp reachedNumber
+factsCompute = tt
