@@ -1,7 +1,8 @@
-// Numbers and bytes from standard input.
-ghost use Prim.Native.Nat.{_<_};
-ghost use Rattle.io.specs.Counts.{Counts};
-use libc::STDIN_FILENO;
+// What a case is made of.
+use input::u16_of;
+use input::u32_of;
+use input::u64_of;
+use input::wide;
 use model::FactCell;
 
 // What comes first in a case, in 8 bytes: the length of its name (8-bit), 0, how many questions it asks (16-bit), the length of its sheet (32-bit).
@@ -18,25 +19,6 @@ pub struct Question {
     pub pc: usize,
     pub slot: u16,
     pub before: FactCell,
-}
-
-fn wide(x: u8) -> u16
-    ensures { λ r. ⌜ r < 256 ⌝ }
-{
-    x as u16
-}
-
-// Little-endian numbers, from two halves.
-fn u16_of(low: u8, high: u8) -> u16 {
-    wide(low) + 256 * wide(high)
-}
-
-fn u32_of(low: u16, high: u16) -> u32 {
-    low as u32 + 65536 * high as u32
-}
-
-fn u64_of(low: u32, high: u32) -> u64 {
-    low as u64 + 4294967296 * high as u64
 }
 
 pub fn head_of(b: &[u8; 8]) -> Head {
@@ -59,14 +41,4 @@ pub fn question_of(b: &[u8; 16]) -> Question {
             value: u64_of(low, high),
         },
     }
-}
-
-// Reads count bytes to the front of the buffer, and answers how many came: fewer where they do not fit or the input ends.
-pub fn read_front(buffer: &mut [u8], count: usize) -> usize
-    ensures { λ r. ⌜ Counts r (now (buffer .exit)) ⌝ }
-{
-    if buffer.len() < count {
-        return 0;
-    }
-    io::read_full(STDIN_FILENO, &mut buffer[..count])
 }

@@ -1,4 +1,4 @@
--- `corners::input::read_front` meets its contract.
+-- `input::read_front` meets its contract.
 -- Assumes nothing.
 use mathlib.Core.List.{List, _++_}
 use mathlib.Core.Path.{sym}
@@ -9,8 +9,8 @@ use lib.Seq.{length-take-le}
 use denote.Ref.{now}
 use borrow.Author.Needs.{needs}
 use Rattle.io.specs.Counts.{Counts}
-use Rattle.corners.proofs.input.read_front.Statement.{statement}
-use Rattle.corners.proofs.input.read_front.Tie as tie
+use Rattle.input.proofs.read_front.Statement.{statement}
+use Rattle.input.proofs.read_front.Tie as tie
 
 returns : tie.Need-returns
 returns c = search needs

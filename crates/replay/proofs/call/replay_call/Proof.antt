@@ -1,0 +1,230 @@
+-- `replay::call::replay_call` is safe: the call leaves each buffer as long as it was.
+-- Assumes nothing.
+use borrow.Author.Needs.{needs}
+use Rattle.replay.proofs.call.replay_call.Statement.{statement}
+use Rattle.replay.proofs.call.replay_call.Tie as tie
+
+sheet-of-requires : tie.Need-sheet-of-requires
+sheet-of-requires c κs = search needs
+
+analyze-requires : tie.Need-analyze-requires
+analyze-requires c κs = search needs
+
+expected-requires : tie.Need-expected-requires
+expected-requires c κs = search needs
+
+table-at-requires : tie.Need-table-at-requires
+table-at-requires c κs = search needs
+
+end-of-requires : tie.Need-end-of-requires
+end-of-requires c κs = search needs
+
+table-at-requires-2 : tie.Need-table-at-requires-2
+table-at-requires-2 c κs = search needs
+
+end-of-requires-2 : tie.Need-end-of-requires-2
+end-of-requires-2 c κs = search needs
+
+table-at-requires-3 : tie.Need-table-at-requires-3
+table-at-requires-3 c κs = search needs
+
+numbers-of-requires : tie.Need-numbers-of-requires
+numbers-of-requires c κs = search needs
+
+wrong-numbers-requires : tie.Need-wrong-numbers-requires
+wrong-numbers-requires c κs = search needs
+
+wrong-table-requires : tie.Need-wrong-table-requires
+wrong-table-requires c κs = search needs
+
+wrong-table-requires-2 : tie.Need-wrong-table-requires-2
+wrong-table-requires-2 c κs = search needs
+
+wrong-table-requires-3 : tie.Need-wrong-table-requires-3
+wrong-table-requires-3 c κs = search needs
+
+wrong-scratch-requires : tie.Need-wrong-scratch-requires
+wrong-scratch-requires c κs = search needs
+
+same-length : tie.Need-same-length
+same-length c =
+    c .before .before .before .before .before .before .before .before .before .before .before .before .before .before
+    .before .before .before .before .before .before .before .before .before .before .before .before .before .before
+    .before .before .before .before .before .before .before .before .before .before .before .before .before .before
+    .before .before .before .before .before .before .before .before .before .before .before .before .before .before
+    .before .before .before .before .before .before .before .before .analyze .kept .1 .1 .0
+
+same-length-2 : tie.Need-same-length-2
+same-length-2 c =
+    c .before .before .before .before .before .before .before .before .before .before .before .before .before .before
+    .before .before .before .before .before .before .before .before .before .before .before .before .before .before
+    .before .before .before .before .before .before .before .before .before .before .before .before .before .before
+    .before .before .before .before .before .before .before .before .before .before .before .before .before .before
+    .before .before .before .before .before .before .before .before .analyze .kept .1 .1 .1 .0
+
+same-length-3 : tie.Need-same-length-3
+same-length-3 c =
+    c .before .before .before .before .before .before .before .before .before .before .before .before .before .before
+    .before .before .before .before .before .before .before .before .before .before .before .before .before .before
+    .before .before .before .before .before .before .before .before .before .before .before .before .before .before
+    .before .before .before .before .before .before .before .before .before .before .before .before .before .before
+    .before .before .before .before .before .before .before .before .analyze .kept .1 .1 .1 .1 .0
+
+same-length-4 : tie.Need-same-length-4
+same-length-4 c =
+    c .before .before .before .before .before .before .before .before .before .before .before .before .before .before
+    .before .before .before .before .before .before .before .before .before .before .before .before .before .before
+    .before .before .before .before .before .before .before .before .before .before .before .before .before .before
+    .before .before .before .before .before .before .before .before .before .before .before .before .before .before
+    .before .before .before .before .before .before .before .before .analyze .kept .1 .1 .1 .1 .1 .0
+
+same-length-5 : tie.Need-same-length-5
+same-length-5 c =
+    c .before .before .before .before .before .before .before .before .before .before .before .before .before .before
+    .before .before .before .before .before .before .before .before .before .before .before .before .before .before
+    .before .before .before .before .before .before .before .before .before .before .before .before .before .before
+    .before .before .before .before .before .before .before .before .before .before .before .before .before .before
+    .before .before .before .before .before .before .before .before .analyze .kept .1 .1 .1 .1 .1 .1 .0
+
+same-length-6 : tie.Need-same-length-6
+same-length-6 c =
+    c .before .before .before .before .before .before .before .before .before .before .before .before .before .before
+    .before .before .before .before .before .before .before .before .before .before .before .before .before .before
+    .before .before .before .before .before .before .before .before .before .before .before .before .before .before
+    .before .before .before .before .before .before .before .before .before .before .before .before .before .before
+    .before .before .before .before .before .before .before .before .analyze .kept .1 .1 .1 .1 .1 .1 .1 .0
+
+same-length-7 : tie.Need-same-length-7
+same-length-7 c =
+    c .before .before .before .before .before .before .before .before .before .before .before .before .before .before
+    .before .before .before .before .before .before .before .before .before .before .before .before .before .before
+    .before .before .before .before .before .before .before .before .before .before .before .before .before .before
+    .before .before .before .before .before .before .before .before .before .before .before .before .before .before
+    .before .before .before .before .before .before .before .before .analyze .kept .1 .1 .1 .1 .1 .1 .1 .1 .0
+
+same-length-8 : tie.Need-same-length-8
+same-length-8 c =
+    c .before .before .before .before .before .before .before .before .before .before .before .before .before .before
+    .before .before .before .before .before .before .before .before .before .before .before .before .before .before
+    .before .before .before .before .before .before .before .before .before .before .before .before .before .before
+    .before .before .before .before .before .before .before .before .before .before .before .before .before .before
+    .before .before .before .before .before .before .before .before .analyze .kept .1 .1 .1 .1 .1 .1 .1 .1 .1 .0
+
+same-length-9 : tie.Need-same-length-9
+same-length-9 c =
+    c .before .before .before .before .before .before .before .before .before .before .before .before .before .before
+    .before .before .before .before .before .before .before .before .before .before .before .before .before .before
+    .before .before .before .before .before .before .before .before .before .before .before .before .before .before
+    .before .before .before .before .before .before .before .before .before .before .before .before .before .before
+    .before .before .before .before .before .before .before .before .analyze .kept .1 .1 .1 .1 .1 .1 .1 .1 .1 .1 .0
+
+same-length-10 : tie.Need-same-length-10
+same-length-10 c =
+    c .before .before .before .before .before .before .before .before .before .before .before .before .before .before
+    .before .before .before .before .before .before .before .before .before .before .before .before .before .before
+    .before .before .before .before .before .before .before .before .before .before .before .before .before .before
+    .before .before .before .before .before .before .before .before .before .before .before .before .before .before
+    .before .before .before .before .before .before .before .before .analyze .kept .1 .1 .1 .1 .1 .1 .1 .1 .1 .1 .1 .0
+
+same-length-11 : tie.Need-same-length-11
+same-length-11 c =
+    c .before .before .before .before .before .before .before .before .before .before .before .before .before .before
+    .before .before .before .before .before .before .before .before .before .before .before .before .before .before
+    .before .before .before .before .before .before .before .before .before .before .before .before .before .before
+    .before .before .before .before .before .before .before .before .before .before .before .before .before .before
+    .before .before .before .before .before .before .before .before .analyze .kept .1 .1 .1 .1 .1 .1 .1 .1 .1 .1 .1 .1
+    .0
+
+same-length-12 : tie.Need-same-length-12
+same-length-12 c =
+    c .before .before .before .before .before .before .before .before .before .before .before .before .before .before
+    .before .before .before .before .before .before .before .before .before .before .before .before .before .before
+    .before .before .before .before .before .before .before .before .before .before .before .before .before .before
+    .before .before .before .before .before .before .before .before .before .before .before .before .before .before
+    .before .before .before .before .before .before .before .before .analyze .kept .1 .1 .1 .1 .1 .1 .1 .1 .1 .1 .1 .1
+    .1 .0
+
+same-length-13 : tie.Need-same-length-13
+same-length-13 c =
+    c .before .before .before .before .before .before .before .before .before .before .before .before .before .before
+    .before .before .before .before .before .before .before .before .before .before .before .before .before .before
+    .before .before .before .before .before .before .before .before .before .before .before .before .before .before
+    .before .before .before .before .before .before .before .before .before .before .before .before .before .before
+    .before .before .before .before .before .before .before .before .analyze .kept .1 .1 .1 .1 .1 .1 .1 .1 .1 .1 .1 .1
+    .1 .1 .0
+
+same-length-14 : tie.Need-same-length-14
+same-length-14 c =
+    c .before .before .before .before .before .before .before .before .before .before .before .before .before .before
+    .before .before .before .before .before .before .before .before .before .before .before .before .before .before
+    .before .before .before .before .before .before .before .before .before .before .before .before .before .before
+    .before .before .before .before .before .before .before .before .before .before .before .before .before .before
+    .before .before .before .before .before .before .before .before .analyze .kept .1 .1 .1 .1 .1 .1 .1 .1 .1 .1 .1 .1
+    .1 .1 .1 .0
+
+same-length-15 : tie.Need-same-length-15
+same-length-15 c =
+    c .before .before .before .before .before .before .before .before .before .before .before .before .before .before
+    .before .before .before .before .before .before .before .before .before .before .before .before .before .before
+    .before .before .before .before .before .before .before .before .before .before .before .before .before .before
+    .before .before .before .before .before .before .before .before .before .before .before .before .before .before
+    .before .before .before .before .before .before .before .before .analyze .kept .1 .1 .1 .1 .1 .1 .1 .1 .1 .1 .1 .1
+    .1 .1 .1 .1 .0
+
+same-length-16 : tie.Need-same-length-16
+same-length-16 c =
+    c .before .before .before .before .before .before .before .before .before .before .before .before .before .before
+    .before .before .before .before .before .before .before .before .before .before .before .before .before .before
+    .before .before .before .before .before .before .before .before .before .before .before .before .before .before
+    .before .before .before .before .before .before .before .before .before .before .before .before .before .before
+    .before .before .before .before .before .before .before .before .analyze .kept .1 .1 .1 .1 .1 .1 .1 .1 .1 .1 .1 .1
+    .1 .1 .1 .1 .1 .0
+
+same-length-17 : tie.Need-same-length-17
+same-length-17 c =
+    c .before .before .before .before .before .before .before .before .before .before .before .before .before .before
+    .before .before .before .before .before .before .before .before .before .before .before .before .before .before
+    .before .before .before .before .before .before .before .before .before .before .before .before .before .before
+    .before .before .before .before .before .before .before .before .before .before .before .before .before .before
+    .before .before .before .before .before .before .before .before .analyze .kept .1 .1 .1 .1 .1 .1 .1 .1 .1 .1 .1 .1
+    .1 .1 .1 .1 .1 .1 .0
+
+returns : tie.Need-returns
+returns c = search needs
+
+pub replay-call-spec : {M : Type 1} → statement M
+replay-call-spec =
+    tie.close
+    (tie.spec
+    sheet-of-requires
+    analyze-requires
+    expected-requires
+    table-at-requires
+    end-of-requires
+    table-at-requires-2
+    end-of-requires-2
+    table-at-requires-3
+    numbers-of-requires
+    wrong-numbers-requires
+    wrong-table-requires
+    wrong-table-requires-2
+    wrong-table-requires-3
+    wrong-scratch-requires
+    same-length
+    same-length-2
+    same-length-3
+    same-length-4
+    same-length-5
+    same-length-6
+    same-length-7
+    same-length-8
+    same-length-9
+    same-length-10
+    same-length-11
+    same-length-12
+    same-length-13
+    same-length-14
+    same-length-15
+    same-length-16
+    same-length-17
+    returns)
