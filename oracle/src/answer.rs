@@ -42,16 +42,25 @@ pub struct Answer {
 
 /// Questions 1 to 5 and 7: buffers are the Rust's own, so 6 and 8 do not arise.
 pub fn answer(sheet: &[u8], budget: Budget) -> Answer {
+    answer_and_facts(sheet, budget).0
+}
+
+/// The same, and after success the Rust's own analyses, for its lookups.
+pub fn answer_and_facts(sheet: &[u8], budget: Budget) -> (Answer, Option<Facts>) {
     let sheet = match Sheet::load(sheet) {
         Ok(sheet) => sheet,
-        Err(number) => return Answer { outcome: Outcome::Refused(number), left: budget, closed: Vec::new() },
+        Err(number) => {
+            return (Answer { outcome: Outcome::Refused(number), left: budget, closed: Vec::new() }, None);
+        }
     };
     let (facts, left, closed) = analyze_watched(&sheet, budget);
-    let outcome = match facts {
-        Ok(facts) => Outcome::Facts(counted(&facts, &closed, left)),
-        Err(spent) => Outcome::Spent(spent),
-    };
-    Answer { outcome, left, closed }
+    match facts {
+        Ok(facts) => {
+            let outcome = Outcome::Facts(counted(&facts, &closed, left));
+            (Answer { outcome, left, closed }, Some(facts))
+        }
+        Err(spent) => (Answer { outcome: Outcome::Spent(spent), left, closed }, None),
+    }
 }
 
 /// Between an analysis' closure and its end the only work charged is s for each entry taken, so the pop count is

@@ -15,7 +15,7 @@ mod verifier;
 // The cut text names this path.
 use outside::instruction_effects;
 
-pub use answer::{answer, record, request, Answer, Budget, Closed, Outcome, Table, NAMES};
+pub use answer::{answer, answer_and_facts, record, request, Answer, Budget, Closed, Outcome, Table, NAMES};
 pub use corners::corners;
 pub use listing::listing;
 pub use sheet::{Sheet, LIMITS};

@@ -105,9 +105,9 @@ impl<T: ?Sized> Clone for Arc<T> {
 }
 
 impl From<Vec<SlotType>> for Arc<[SlotType]> {
-    fn from(slots: Vec<SlotType>) -> Self {
-        let number = LENT.get().to_le_bytes().map(SlotType);
-        Arc(slots.into_iter().chain(number).collect())
+    fn from(mut slots: Vec<SlotType>) -> Self {
+        slots.extend(LENT.get().to_le_bytes().map(SlotType));
+        Arc(slots.into())
     }
 }
 
@@ -123,8 +123,9 @@ impl Arc<[SlotType]> {
 }
 
 impl PartialEq for Arc<[SlotType]> {
+    /// The standard library's looks at the address first, too.
     fn eq(&self, other: &Self) -> bool {
-        self.content() == other.content()
+        std::sync::Arc::ptr_eq(&self.0, &other.0) || self.content() == other.content()
     }
 }
 

@@ -1,0 +1,137 @@
+//! What a call answers.
+
+use crate::raw::ANSWER_LENGTH;
+use std::fmt;
+
+/// What is left to spend: bytes and work units of the analyses, any two numbers.
+#[derive(Clone, Copy, Debug, PartialEq, Eq)]
+pub struct Budget {
+    pub bytes: u64,
+    pub work: u64,
+}
+
+impl Budget {
+    /// "a fresh one has 268,435,456 of each"
+    pub const FRESH: Budget = Budget { bytes: 268_435_456, work: 268_435_456 };
+}
+
+/// Of one analysis: how many slots it tracks, and how many entries it took from its work list.
+#[derive(Clone, Copy, Debug, PartialEq, Eq)]
+pub struct Counts {
+    pub tracked: usize,
+    pub pops: u64,
+}
+
+/// A call that ended with facts.
+#[derive(Clone, Copy, Debug, PartialEq, Eq)]
+pub struct Analyzed {
+    pub constant: Counts,
+    pub index: Counts,
+    pub container: Counts,
+    pub left: Budget,
+}
+
+/// A call that was refused, and the budget left.
+#[derive(Clone, Copy, Debug, PartialEq, Eq)]
+pub struct Refused {
+    pub refusal: Refusal,
+    pub left: Budget,
+}
+
+/// The first question that refuses, in the order in which they are asked.
+#[derive(Clone, Copy, Debug, PartialEq, Eq)]
+pub enum Refusal {
+    /// 1: the sheet has fewer than 40 bytes.
+    NoHead,
+    /// 2: a size is past its limit.
+    SizeLimit,
+    /// 3: the length is not what the sizes give.
+    Length,
+    /// 4: the write counts do not sum to the number of ranges, or the layout lengths to the number of slot kinds.
+    Sums,
+    /// 5: a kind byte is not named, or a used layout number names no layout.
+    Kinds,
+    /// 6: marks or stack is shorter than the number of local slots.
+    ClosureRoom,
+    /// 7: what is left does not cover a charge. Both amounts are in the unit charged, bytes or work.
+    OverBudget { stage: Stage, requested: u64, remaining: u64 },
+    /// 8: an output, the row scratch or the work list is too short.
+    NoRoom,
+}
+
+/// Where a charge was not covered, in charge order.
+#[derive(Clone, Copy, Debug, PartialEq, Eq)]
+pub enum Stage {
+    FlowGraph = 1,
+    Dependencies,
+    Constant,
+    Index,
+    Container,
+}
+
+impl Refusal {
+    /// Document 01's number.
+    pub fn number(&self) -> u8 {
+        match self {
+            Refusal::NoHead => 1,
+            Refusal::SizeLimit => 2,
+            Refusal::Length => 3,
+            Refusal::Sums => 4,
+            Refusal::Kinds => 5,
+            Refusal::ClosureRoom => 6,
+            Refusal::OverBudget { .. } => 7,
+            Refusal::NoRoom => 8,
+        }
+    }
+}
+
+impl fmt::Display for Refused {
+    fn fmt(&self, out: &mut fmt::Formatter<'_>) -> fmt::Result {
+        write!(out, "refused {}: ", self.refusal.number())?;
+        match self.refusal {
+            Refusal::NoHead => write!(out, "the sheet has fewer than 40 bytes"),
+            Refusal::SizeLimit => write!(out, "a size is past its limit"),
+            Refusal::Length => write!(out, "the length is not what the sizes give"),
+            Refusal::Sums => write!(out, "write counts or layout lengths do not add up"),
+            Refusal::Kinds => write!(out, "a kind byte or a layout number has no meaning"),
+            Refusal::ClosureRoom => write!(out, "marks or stack is shorter than the number of local slots"),
+            Refusal::OverBudget { stage, requested, remaining } => {
+                write!(out, "stage {stage:?} asks for {requested}, and {remaining} is left")
+            }
+            Refusal::NoRoom => write!(out, "an output, the row scratch or the work list is too short"),
+        }
+    }
+}
+
+impl std::error::Error for Refused {}
+
+/// The answer that the library wrote. It writes no others than those that its header names.
+pub(crate) fn read(answer: &[u64; ANSWER_LENGTH]) -> Result<Analyzed, Refused> {
+    let [number, ref counts @ .., bytes, work, stage, requested, remaining] = *answer;
+    let left = Budget { bytes, work };
+    let counted = |which: usize| Counts { tracked: counts[2 * which] as usize, pops: counts[2 * which + 1] };
+    let refusal = match number {
+        0 => return Ok(Analyzed { constant: counted(0), index: counted(1), container: counted(2), left }),
+        1 => Refusal::NoHead,
+        2 => Refusal::SizeLimit,
+        3 => Refusal::Length,
+        4 => Refusal::Sums,
+        5 => Refusal::Kinds,
+        6 => Refusal::ClosureRoom,
+        7 => Refusal::OverBudget { stage: stage_of(stage), requested, remaining },
+        8 => Refusal::NoRoom,
+        _ => unreachable!("vo_facts_analyze answered {number}"),
+    };
+    Err(Refused { refusal, left })
+}
+
+fn stage_of(number: u64) -> Stage {
+    match number {
+        1 => Stage::FlowGraph,
+        2 => Stage::Dependencies,
+        3 => Stage::Constant,
+        4 => Stage::Index,
+        5 => Stage::Container,
+        _ => unreachable!("vo_facts_analyze refused in stage {number}"),
+    }
+}

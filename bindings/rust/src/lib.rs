@@ -1,0 +1,30 @@
+//! Register facts of a routing script, from the proved library `libvo_facts.a`.
+//!
+//! A loader sizes [`Buffers`] from a sheet, calls [`Buffers::analyze`] and reads the [`Facts`]:
+//!
+//! ```
+//! use vo_facts::{Budget, Buffers, ConstantFact};
+//!
+//! # let sheet = include_bytes!("../../../examples/worked.sheet");
+//! let mut buffers = Buffers::for_sheet(sheet, 1 << 30)?;
+//! let facts = buffers.analyze(sheet, Budget::FRESH)?;
+//! assert_eq!(facts.constant.fact_for_slot(1, 0)?, Some(ConstantFact::Int(7)));
+//! assert_eq!(facts.constant.fact_for_slot(3, 0)?, Some(ConstantFact::Conflict));
+//! # Ok::<(), Box<dyn std::error::Error>>(())
+//! ```
+//!
+//! A caller with memory of its own lends it as [`Lent`] to [`analyze`]. [`raw`] has the C functions as they are.
+//! "Document 01" is the contract of the project, and "question" one of its numbered questions.
+
+mod answer;
+mod buffers;
+mod facts;
+mod lent;
+pub mod raw;
+mod room;
+
+pub use answer::{Analyzed, Budget, Counts, Refusal, Refused, Stage};
+pub use buffers::{Buffers, Facts, TooLarge};
+pub use facts::{ConstantFact, Constants, ContainerFact, Containers, Damaged, IndexCheckFact, IndexChecks, Table};
+pub use lent::{analyze, Lent, Output};
+pub use room::Room;

@@ -1,0 +1,118 @@
+//! Lent memory: filled with a pattern before a call, between guards, and compared element by element after it.
+
+use std::fmt::Debug;
+
+/// What stands on both sides of a buffer, in elements.
+const GUARD: usize = 8;
+
+pub trait Element: Copy + PartialEq + Debug {
+    const ZERO: Self;
+
+    /// Never 0, so that what was not cleared shows.
+    fn pattern(at: usize, salt: u64) -> Self;
+}
+
+macro_rules! element {
+    ($of:ty) => {
+        impl Element for $of {
+            const ZERO: Self = 0;
+
+            fn pattern(at: usize, salt: u64) -> Self {
+                (at as $of).wrapping_mul(37).wrapping_add(salt as $of) | 1
+            }
+        }
+    };
+}
+element!(u8);
+element!(u16);
+element!(u64);
+
+/// What a buffer must hold after a call.
+#[derive(Clone, Copy)]
+pub enum After<'a, T> {
+    /// What it held before.
+    Kept,
+    /// These elements, and zeros behind them.
+    Front(&'a [T]),
+    /// These elements, and behind them what it held before.
+    Written(&'a [T]),
+}
+
+impl<T> After<'_, T> {
+    pub const ZERO: Self = After::Front(&[]);
+}
+
+pub struct Buffer<T> {
+    cells: Vec<T>,
+    guard: usize,
+    salt: u64,
+}
+
+impl<T: Element> Buffer<T> {
+    /// A bare buffer has no guards and is allocated anew for each call, exactly as long as it is lent: a tool that
+    /// watches the heap then sees every step past its ends, reading ones too.
+    pub fn new(bare: bool) -> Buffer<T> {
+        Buffer { cells: Vec::new(), guard: if bare { 0 } else { GUARD }, salt: 0 }
+    }
+
+    /// So long, and filled.
+    pub fn fill(&mut self, length: usize, salt: u64) {
+        let all = length + 2 * self.guard;
+        if self.guard == 0 {
+            self.cells = Vec::with_capacity(all);
+        }
+        self.salt = salt;
+        self.cells.clear();
+        self.cells.extend((0..all).map(|at| T::pattern(at, salt)));
+    }
+
+    pub fn lent(&self) -> &[T] {
+        &self.cells[self.guard..self.cells.len() - self.guard]
+    }
+
+    pub fn lend(&mut self) -> &mut [T] {
+        let end = self.cells.len() - self.guard;
+        &mut self.cells[self.guard..end]
+    }
+
+    pub fn len(&self) -> usize {
+        self.cells.len() - 2 * self.guard
+    }
+
+    /// What is not as it must be, if anything.
+    pub fn wrong(&self, after: After<'_, T>) -> Option<String> {
+        let (start, end) = (self.guard, self.cells.len() - self.guard);
+        if !self.patterned(0, start) {
+            return Some("has its guard before it overwritten".into());
+        }
+        if !self.patterned(end, self.cells.len()) {
+            return Some("has its guard behind it overwritten".into());
+        }
+        let front = match after {
+            After::Kept => &[],
+            After::Front(front) | After::Written(front) => front,
+        };
+        if front.len() > self.len() {
+            return Some(format!("has {} elements and must hold {}", self.len(), front.len()));
+        }
+        let rest = start + front.len();
+        let as_it_must = match after {
+            After::Front(_) => self.cells[rest..end].iter().all(|is| *is == T::ZERO),
+            After::Kept | After::Written(_) => self.patterned(rest, end),
+        };
+        if as_it_must && self.cells[start..rest] == *front {
+            return None;
+        }
+        let must = |at: usize| match after {
+            _ if at < front.len() => front[at],
+            After::Front(_) => T::ZERO,
+            After::Kept | After::Written(_) => T::pattern(start + at, self.salt),
+        };
+        let at = (0..self.len()).find(|at| self.lent()[*at] != must(*at))?;
+        Some(format!("[{at}] is {:?} and must be {:?}", self.lent()[at], must(at)))
+    }
+
+    fn patterned(&self, from: usize, to: usize) -> bool {
+        self.cells[from..to].iter().zip(from..).all(|(is, at)| *is == T::pattern(at, self.salt))
+    }
+}
