@@ -1,4 +1,4 @@
--- What `vo_facts_analyze` promises, from what the functions that it calls promise.
+-- What the C functions promise, from what the functions that they call promise.
 -- Assumes nothing.
 use mathlib.Core.Path.{_≡_, ap, _∙_}
 use mathlib.Core.List.{List, _++_}
@@ -7,7 +7,7 @@ use Prim.Native.Nat.{ℕ, _≤_, _<_}
 use borrow.Author.Tests.{lt-leb, le-leb}
 use lib.Dec.{leb}
 use lib.ListN.{length, drop}
-use Rattle.model.specs.Call.{Lent, Numbered, answerNumbered, result, analyzed}
+use Rattle.model.specs.Call.{Lent, answerNumbered, result, analyzed}
 use Rattle.model.specs.declared.VerifierResources.{VerifierResources}
 use Rattle.model.specs.declared.Answer.{Answer}
 use Rattle.model.specs.declared.SlotFact.{SlotFact}

@@ -5,7 +5,7 @@ use mathlib.Core.List.{List, _++_}
 use mathlib.Core.Option.{Option, none, some}
 use Prim.Native.Nat.{ℕ}
 use lib.ListN.{drop}
-use Rattle.model.specs.Call.{Lent, Numbered, Result, analyzed}
+use Rattle.model.specs.Call.{Lent, Result, analyzed}
 use Rattle.model.specs.declared.VerifierResources.{VerifierResources}
 use Rattle.export.specs.Numbers.{answerNumbers}
 

@@ -3,13 +3,11 @@
 use mathlib.Core.Bool.{Bool, true, false}
 use mathlib.Core.List.{List, _++_}
 use Prim.Native.Nat.{ℕ}
-use lib.ListN.{length, drop}
-use Rattle.model.specs.Call.{Numbered}
-use Rattle.model.specs.Lookup.{slotFactNumbered}
+use lib.ListN.{length, drop, getD}
+use Rattle.model.specs.Lookup.{slotFactNumbered, reachabilityNumbered}
 use Rattle.model.specs.declared.SlotFact.{SlotFact}
 use Rattle.model.specs.declared.SlotFact.the-variants.{Cell, Absent, Damaged}
 use Rattle.model.specs.declared.Reachability.{Reachability}
-use Rattle.model.specs.declared.Reachability.the-variants.{Yes, No, Unreadable}
 
 -- What a lookup leaves: the number that it returns, and the memory for the fact.
 pub record Looked : Type 0 where
@@ -35,12 +33,10 @@ unfoldable pub lookedUp : Bool → SlotFact → List ℕ → Looked
 lookedUp false fact old = looked 255 old
 lookedUp true fact old = looked (factNumber fact) (inFront (slotFactNumbered fact .given) old)
 
--- "1 yes, 0 no, 9"
+-- "1 yes, 0 no, 9": the value that comes with document 01's number, or the number where there is none
 unfoldable pub reachedNumber : Reachability → ℕ
-reachedNumber Yes = 1
-reachedNumber No = 0
-reachedNumber Unreadable = 9
+reachedNumber answer = getD (reachabilityNumbered answer .given) 0 (reachabilityNumbered answer .number)
 
 unfoldable pub factsCompute : Unit {0}
-unfolding slotFactNumbered factNumber inFront lookedUp reachedNumber
+unfolding slotFactNumbered reachabilityNumbered factNumber inFront lookedUp reachedNumber
 factsCompute = tt

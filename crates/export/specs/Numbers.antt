@@ -1,7 +1,10 @@
 -- The 12 numbers of an answer.
 -- Assumes nothing.
+use mathlib.Core.Path.{_≡_, refl}
 use mathlib.Core.List.{List, [], _∷_}
 use Prim.Native.Nat.{ℕ}
+use lib.ListN.{getD}
+use Rattle.model.specs.Call.{answerNumbered}
 use Rattle.model.specs.declared.VerifierResources.{VerifierResources}
 use Rattle.model.specs.declared.Counts.{Counts}
 use Rattle.model.specs.declared.Answer.{Answer}
@@ -22,3 +25,11 @@ answerNumbers (Analyzed constant index container left) = twelve 0 constant index
 answerNumbers (Invalid number left) = twelve number nothing nothing nothing left 0 0 0
 answerNumbers (OverBudget stage requested remaining left) = twelve 7 nothing nothing nothing left stage requested remaining
 answerNumbers (NoRoom left) = twelve 8 nothing nothing nothing left 0 0 0
+
+-- the first is document 01's number, which is what the call returns
+pub first-number : (a : Answer) → getD (answerNumbers a) 0 0 ≡ answerNumbered a .number
+unfolding twelve answerNumbers answerNumbered
+first-number (Analyzed constant index container left) = refl
+first-number (Invalid number left) = refl
+first-number (OverBudget stage requested remaining left) = refl
+first-number (NoRoom left) = refl

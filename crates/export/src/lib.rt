@@ -24,7 +24,7 @@ mod answers;
 mod facts;
 
 // 0, or the number of the first question that refuses; the first 12 entries of answer hold the answer's numbers. 255 where it has fewer: nothing
-// lent changes then.
+// lent changes then. The result, what is lent and answer are those of the call that the definitions give (`exportedOf`).
 #[no_mangle]
 pub extern "C" fn vo_facts_analyze(
     sheet: &[u8],
