@@ -164,12 +164,12 @@ fn closure(case: &Case, time: Duration) -> Row {
     let mut buffers = Buffers::of(case, 0);
     let nothing = Budget { bytes: 0, work: 0 };
     turns(time, || {
-        let (before, answer) = timed(|| buffers.analyze(case, N - 1, nothing));
+        let (before, answer) = settled(|| buffers.analyze(case, N - 1, nothing));
         let number = answer.map_err(|refused| refused.refusal.number());
         assert_eq!(number, Err(7), "{}", case.name());
         let (behind, answer) = timed(|| buffers.analyze(case, N - 1, Budget::FRESH));
         case.check_no_room(answer, left);
-        let (rust, closed) = timed(|| oracle::until_closed(black_box(&sheet), oracle::fresh(), case.which));
+        let (rust, closed) = settled(|| oracle::until_closed(black_box(&sheet), oracle::fresh(), case.which));
         assert!(closed.is_ok_and(|(s, _)| s == case.s), "{}", case.name());
         (behind - before, rust)
     })
@@ -187,7 +187,7 @@ fn run(case: &Case, time: Duration) -> Row {
     let spent = Budget { bytes: Budget::FRESH.bytes - ended.bytes, ..Budget::FRESH };
     let budget = if case.which == CONTAINER { Budget::FRESH } else { spent };
     turns(time, || {
-        let (closed, answer) = timed(|| buffers.analyze(case, N - 1, Budget::FRESH));
+        let (closed, answer) = settled(|| buffers.analyze(case, N - 1, Budget::FRESH));
         case.check_no_room(answer, left);
         let (whole, answer) = timed(|| buffers.analyze(case, N, budget));
         let end = match answer {
@@ -200,7 +200,7 @@ fn run(case: &Case, time: Duration) -> Row {
             _ => panic!("{}: {answer:?}", case.name()),
         };
         assert_eq!((end.bytes, end.work), (ended.bytes, ended.work), "{}", case.name());
-        let (rust_closed, answer) = timed(|| oracle::until_closed(black_box(&sheet), oracle::fresh(), case.which));
+        let (rust_closed, answer) = settled(|| oracle::until_closed(black_box(&sheet), oracle::fresh(), case.which));
         assert!(answer.is_ok(), "{}", case.name());
         let (rust_whole, answer) = timed(|| oracle::until_ended(black_box(&sheet), oracle::fresh(), case.which));
         assert!(answer.is_ok(), "{}", case.name());
@@ -213,6 +213,12 @@ fn timed<T>(call: impl FnOnce() -> T) -> (f64, T) {
     let start = Instant::now();
     let answer = black_box(call());
     (start.elapsed().as_secs_f64(), answer)
+}
+
+/// The second of two calls, since the first finds the caches as the other side left them.
+fn settled<T>(mut call: impl FnMut() -> T) -> (f64, T) {
+    black_box(call());
+    timed(call)
 }
 
 /// Port and Rust take turns, so that what else the machine does falls on both.
