@@ -135,7 +135,7 @@ struct Begun {
     container: Option<ContainerLayoutAnalysis>,
 }
 
-/// The first two stages, and as many analyses.
+/// The first two stages, and this many of the three analyses.
 fn begun(sheet: &Sheet, resources: &mut VerifierResources, analyses: usize) -> Result<Begun, Spent> {
     let Sheet { func, module } = sheet;
     let cfg = FunctionCfg::build(func, resources).map_err(spent_at(1))?;
