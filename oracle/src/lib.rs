@@ -19,4 +19,4 @@ pub use answer::{answer, answer_and_facts, record, request, Answer, Budget, Clos
 pub use corners::corners;
 pub use listing::listing;
 pub use sheet::{Sheet, LIMITS};
-pub use verifier::{analyze, fresh, sizes, successors, Facts, Spent};
+pub use verifier::{analyze, fresh, sizes, successors, until_closed, until_ended, Facts, Spent};

@@ -10,6 +10,7 @@ use crate::outside::{
 use crate::sheet::Sheet;
 use core::mem::size_of;
 use std::collections::BTreeMap;
+use std::hint::black_box;
 
 include!(concat!(env!("OUT_DIR"), "/cut.rs"));
 
@@ -105,6 +106,55 @@ fn stages(
     let container =
         ContainerLayoutAnalysis::analyze(func, module, &cfg, &dependencies, resources).map_err(spent_at(5))?;
     Ok(Facts { constant, index, container })
+}
+
+/// The stages up to the closure of one analysis (0 constant, 1 index, 2 container), with that closure: its s and what
+/// is left. This and `until_ended` are for the times of the parts.
+pub fn until_closed(sheet: &Sheet, budget: Budget, which: usize) -> Result<(usize, Budget), Spent> {
+    let tracked: [Tracked; 3] = [tracked_constant_slots, tracked_index_check_slots, tracked_container_slots];
+    let mut resources = resources_of(budget);
+    let begun = begun(sheet, &mut resources, which)?;
+    let slots = tracked[which](&sheet.func, &begun.dependencies, &mut resources).map_err(spent_at(3 + which as u8))?;
+    // So that the flow graph, which no closure reads, is made all the same.
+    black_box(&begun);
+    Ok((slots.len(), left_of(&resources)))
+}
+
+/// The stages up to the end of one analysis, and what is left.
+pub fn until_ended(sheet: &Sheet, budget: Budget, which: usize) -> Result<Budget, Spent> {
+    let mut resources = resources_of(budget);
+    black_box(begun(sheet, &mut resources, which + 1)?);
+    Ok(left_of(&resources))
+}
+
+struct Begun {
+    cfg: FunctionCfg,
+    dependencies: FactDependencyGraph,
+    constant: Option<ConstantFactAnalysis>,
+    index: Option<IndexCheckAnalysis>,
+    container: Option<ContainerLayoutAnalysis>,
+}
+
+/// The first two stages, and this many of the three analyses.
+fn begun(sheet: &Sheet, resources: &mut VerifierResources, analyses: usize) -> Result<Begun, Spent> {
+    let Sheet { func, module } = sheet;
+    let cfg = FunctionCfg::build(func, resources).map_err(spent_at(1))?;
+    let dependencies = FactDependencyGraph::build(func, resources).map_err(spent_at(2))?;
+    let mut begun = Begun { cfg, dependencies, constant: None, index: None, container: None };
+    let Begun { cfg, dependencies, constant, index, container } = &mut begun;
+    if analyses > 0 {
+        let ended = ConstantFactAnalysis::analyze(func, module, cfg, dependencies, resources).map_err(spent_at(3))?;
+        let ended = constant.insert(ended);
+        if analyses > 1 {
+            let checks = IndexCheckAnalysis::analyze(func, module, cfg, dependencies, ended, resources);
+            *index = Some(checks.map_err(spent_at(4))?);
+        }
+    }
+    if analyses > 2 {
+        let ended = ContainerLayoutAnalysis::analyze(func, module, cfg, dependencies, resources);
+        *container = Some(ended.map_err(spent_at(5))?);
+    }
+    Ok(begun)
 }
 
 fn spent_at(stage: u8) -> impl Fn(ModuleVerificationError) -> Spent {

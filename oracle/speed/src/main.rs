@@ -1,9 +1,12 @@
 //! The port and the Rust on the same sheets in one process: medians of many runs, as a Markdown table.
 //!
 //!     speed SECONDS [FILTER]
+//!     speed parts [SECONDS [FILTER]]
 //!
-//! SECONDS is what each of the two may take for a sheet; FILTER leaves out shapes whose names do not have it.
+//! SECONDS is what each of the two may take for a sheet; FILTER leaves out shapes whose names do not have it. With
+//! `parts` closure and run are timed apart, on the largest sheets.
 
+mod parts;
 mod shapes;
 
 use oracle::Sheet;
@@ -21,9 +24,12 @@ const RUNS: (usize, usize) = (5, 1001);
 
 fn main() -> ExitCode {
     let words: Vec<String> = std::env::args().skip(1).collect();
+    if words.first().is_some_and(|word| word == "parts") {
+        return parts::main(&words[1..]);
+    }
     let seconds = words.first().and_then(|word| word.parse().ok()).map(Duration::from_secs_f64);
     let Some(time) = seconds else {
-        eprintln!("speed SECONDS [FILTER]");
+        eprintln!("speed SECONDS [FILTER], speed parts [SECONDS [FILTER]]");
         return ExitCode::FAILURE;
     };
     let filter = words.get(1).map_or("", String::as_str);

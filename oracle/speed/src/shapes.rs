@@ -23,9 +23,13 @@ const TAIL: usize = 5;
 const NOWHERE: u16 = 60000;
 
 impl Shape {
-    /// The sheet. The body tracks nothing new: the tail's three uses of slot s − 1 and its CopyN, which shifts the
-    /// slots by one, make every closure take all slots below s.
     pub fn sheet(&self, n: usize, s: usize) -> Vec<u8> {
+        self.draft(n, s).bytes()
+    }
+
+    /// The body tracks nothing new: the tail's three uses of slot s − 1 and its CopyN, which shifts the slots by one,
+    /// make every closure take all slots below s.
+    pub fn draft(&self, n: usize, s: usize) -> Draft {
         let (last, beyond) = (s as u16 - 1, s as u16);
         let mut lines = (self.body)(n - TAIL, s);
         lines.truncate(n - TAIL);
@@ -37,7 +41,7 @@ impl Shape {
             line(90, beyond, last, 0),
             line(64, 0, 0, 0),
         ]);
-        Draft { layouts: (self.layouts)(), ..Draft::of(beyond + 2, lines) }.bytes()
+        Draft { layouts: (self.layouts)(), ..Draft::of(beyond + 2, lines) }
     }
 }
 
