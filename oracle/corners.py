@@ -18,7 +18,7 @@ sys.dont_write_bytecode = True
 sys.path.insert(0, os.path.join(HERE, 'second'))
 import facts
 
-CRATE = os.path.join(HERE, '..', 'crates', 'corners')
+CRATES = os.path.join(HERE, '..', 'crates')
 SUCCESSORS, WRITES, INDEX_WRITES = 1, 2, 3
 TOP = 65535
 SIZES = ('n', 'w', 'k', 'p', 'y', 'q', 'L', 'parameter slots', 'receiver slots', 'closure flag')
@@ -289,24 +289,29 @@ def main(words):
         for name, data, questions in cases():
             sys.stdout.write(case_lines(name, data, [each for each in questions if len(each) < 4 or each[3][1] <= TOP]))
         return 0
-    files = {
-        'stdin': b''.join(case_bytes(*case) for case in cases()),
-        'stdout': ''.join(case_lines(*case) for case in cases()).encode(),
-    }
-    differ = [name for name, text in files.items() if text != stored(name)]
+    return settle('corners', words, __doc__, {
+        os.path.join('corners', 'stdin'): b''.join(case_bytes(*case) for case in cases()),
+        os.path.join('corners', 'stdout'): ''.join(case_lines(*case) for case in cases()).encode(),
+    })
+
+
+# Stored files
+
+def settle(maker, words, usage, files):
+    """Writes the files of crates/ that differ, or with --check says which do."""
+    differ = [name for name, text in files.items() if text != stored(os.path.join(CRATES, name))]
     if words == ['--check']:
         for name in differ:
-            print('crates/corners/%s is not what oracle/corners.py gives' % name)
+            print('crates/%s is not what oracle/%s.py gives' % (name, maker))
         return 1 if differ else 0
-    assert not words, __doc__
+    assert not words, usage
     for name in differ:
-        with open(os.path.join(CRATE, name), 'wb') as file:
+        with open(os.path.join(CRATES, name), 'wb') as file:
             file.write(files[name])
     return 0
 
 
-def stored(name):
-    path = os.path.join(CRATE, name)
+def stored(path):
     if not os.path.exists(path):
         return None
     with open(path, 'rb') as file:

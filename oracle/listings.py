@@ -12,11 +12,10 @@ import os
 import subprocess
 import sys
 
-from corners import ONE_OF_EACH, TOP, goes, line, packed, resized, sheet
+from corners import ONE_OF_EACH, TOP, goes, line, packed, resized, settle, sheet, stored
 import facts
 
 HERE = os.path.dirname(os.path.abspath(__file__))
-CRATES = os.path.join(HERE, '..', 'crates')
 EXAMPLES = os.path.join(HERE, '..', 'examples')
 LONGEST, MOST_CODE, MOST_LOCALS, MOST_TRACKED = 65536, 256, 4096, 32
 
@@ -210,24 +209,7 @@ def compare_with(oracle):
 def main(words):
     if words[:1] == ['--rust']:
         return compare_with(*words[1:])
-    made_files = files()
-    differ = [name for name, text in made_files.items() if text != stored(os.path.join(CRATES, name))]
-    if words == ['--check']:
-        for name in differ:
-            print('crates/%s is not what oracle/listings.py gives' % name)
-        return 1 if differ else 0
-    assert not words, __doc__
-    for name in differ:
-        with open(os.path.join(CRATES, name), 'wb') as file:
-            file.write(made_files[name])
-    return 0
-
-
-def stored(path):
-    if not os.path.exists(path):
-        return None
-    with open(path, 'rb') as file:
-        return file.read()
+    return settle('listings', words, __doc__, files())
 
 
 if __name__ == '__main__':
