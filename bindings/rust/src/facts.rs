@@ -1,8 +1,8 @@
 //! The tables of a call, and lookups in them.
 
 use crate::raw::{
-    vo_facts_constant, vo_facts_container, vo_facts_fixed, vo_facts_index_check, vo_facts_is_reachable, Lookup,
-    DAMAGED, NONE, OUT_LENGTH,
+    self, vo_facts_constant, vo_facts_container, vo_facts_index_check, vo_facts_is_reachable, Lookup, DAMAGED, NONE,
+    OUT_LENGTH,
 };
 use std::fmt;
 
@@ -75,24 +75,8 @@ impl Constants<'_> {
 
     /// The one known number that the slot holds before every present instruction but 0.
     pub fn fixed(&self, slot: u16) -> Result<Option<ConstantFact>, Damaged> {
-        let Table { slots, present, kinds, values } = self.0;
         let mut out = [0; OUT_LENGTH];
-        // Sound: slices have true lengths, and `out` is this function's own.
-        let number = unsafe {
-            vo_facts_fixed(
-                slots.as_ptr(),
-                slots.len(),
-                present.as_ptr(),
-                present.len(),
-                kinds.as_ptr(),
-                kinds.len(),
-                values.as_ptr(),
-                values.len(),
-                slot,
-                out.as_mut_ptr(),
-                out.len(),
-            )
-        };
+        let number = raw::fixed(self.0, slot, &mut out);
         Ok(found(number, out)?.map(constant))
     }
 
@@ -162,25 +146,9 @@ fn found(number: u8, out: [u64; OUT_LENGTH]) -> Result<Option<(u64, u64)>, Damag
 
 impl Table<'_> {
     fn look(&self, lookup: Lookup, pc: usize, slot: u16) -> Result<Option<(u64, u64)>, Damaged> {
-        let Table { slots, present, kinds, values } = *self;
         let mut out = [0; OUT_LENGTH];
-        // Sound: slices have true lengths, and `out` is this function's own.
-        let number = unsafe {
-            lookup(
-                slots.as_ptr(),
-                slots.len(),
-                present.as_ptr(),
-                present.len(),
-                kinds.as_ptr(),
-                kinds.len(),
-                values.as_ptr(),
-                values.len(),
-                pc as u64,
-                slot,
-                out.as_mut_ptr(),
-                out.len(),
-            )
-        };
+        // Sound: `lookup` is one of the three.
+        let number = unsafe { raw::look(lookup, *self, pc as u64, slot, &mut out) };
         found(number, out)
     }
 

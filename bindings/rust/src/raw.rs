@@ -6,6 +6,8 @@
 //! overlaps another of the same call, and nothing else uses what is lent until the call returns. Slices of Rust meet
 //! this.
 
+use crate::facts::Table;
+
 /// The elements of `answer` that [`vo_facts_analyze`] writes.
 pub const ANSWER_LENGTH: usize = 12;
 /// The elements of `out` that a lookup writes: kind and value.
@@ -144,4 +146,38 @@ extern "C" {
 
     /// 1 where an instruction was reached, 0 where not, 9 where its byte is neither.
     pub fn vo_facts_is_reachable(present: *const u8, present_length: usize, pc: u64) -> u8;
+}
+
+/// A lookup over the four slices of a table, with what is asked.
+macro_rules! look_up {
+    ($lookup:expr, $table:expr, $out:expr; $($asked:expr),+) => {
+        $lookup(
+            $table.slots.as_ptr(),
+            $table.slots.len(),
+            $table.present.as_ptr(),
+            $table.present.len(),
+            $table.kinds.as_ptr(),
+            $table.kinds.len(),
+            $table.values.as_ptr(),
+            $table.values.len(),
+            $($asked,)+
+            $out.as_mut_ptr(),
+            $out.len(),
+        )
+    };
+}
+
+/// The number of a lookup at an instruction, which writes `out`.
+///
+/// # Safety
+///
+/// `lookup` is one of the three that are declared here.
+pub unsafe fn look(lookup: Lookup, table: Table<'_>, pc: u64, slot: u16, out: &mut [u64]) -> u8 {
+    look_up!(lookup, table, out; pc, slot)
+}
+
+/// The number of [`vo_facts_fixed`], which writes `out`.
+pub fn fixed(table: Table<'_>, slot: u16, out: &mut [u64]) -> u8 {
+    // Sound: slices have true lengths, and a `&mut` one overlaps with nothing.
+    unsafe { look_up!(vo_facts_fixed, table, out; slot) }
 }

@@ -6,8 +6,8 @@ use crate::question::{fact, fixed, is_reachable, Look};
 use oracle::generate::Rng;
 use oracle::{Facts, NAMES};
 use vo_facts::raw::{
-    vo_facts_constant, vo_facts_container, vo_facts_fixed, vo_facts_index_check, vo_facts_is_reachable, Lookup,
-    DAMAGED, NONE, OUT_LENGTH, TOO_SHORT,
+    self, vo_facts_constant, vo_facts_container, vo_facts_index_check, vo_facts_is_reachable, Lookup, DAMAGED, NONE,
+    OUT_LENGTH, TOO_SHORT,
 };
 use vo_facts::Table;
 
@@ -87,25 +87,8 @@ impl Lookups {
         (pc, slot): (u64, u16),
         must: Look,
     ) -> Option<String> {
-        let Table { slots, present, kinds, values } = *table;
-        let out = self.lend(rng);
-        // Sound: slices have true lengths, and `out` overlaps with none.
-        let number = unsafe {
-            LOOKUPS[which](
-                slots.as_ptr(),
-                slots.len(),
-                present.as_ptr(),
-                present.len(),
-                kinds.as_ptr(),
-                kinds.len(),
-                values.as_ptr(),
-                values.len(),
-                pc,
-                slot,
-                out.as_mut_ptr(),
-                out.len(),
-            )
-        };
+        // Sound: it is one of the three lookups.
+        let number = unsafe { raw::look(LOOKUPS[which], *table, pc, slot, self.lend(rng)) };
         self.wrong(number, must).map(|wrong| format!("{} at {pc} of slot {slot}{}: {wrong}", NAMES[which], told(table)))
     }
 
@@ -113,24 +96,7 @@ impl Lookups {
         if which != 0 {
             return None;
         }
-        let Table { slots, present, kinds, values } = *table;
-        let out = self.lend(rng);
-        // Sound: slices have true lengths, and `out` overlaps with none.
-        let number = unsafe {
-            vo_facts_fixed(
-                slots.as_ptr(),
-                slots.len(),
-                present.as_ptr(),
-                present.len(),
-                kinds.as_ptr(),
-                kinds.len(),
-                values.as_ptr(),
-                values.len(),
-                slot,
-                out.as_mut_ptr(),
-                out.len(),
-            )
-        };
+        let number = raw::fixed(*table, slot, self.lend(rng));
         self.wrong(number, fixed(table, slot)).map(|wrong| format!("fixed of slot {slot}{}: {wrong}", told(table)))
     }
 
