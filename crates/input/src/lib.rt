@@ -1,25 +1,32 @@
 // Bytes and little-endian numbers from standard input, for the programs that read records.
-ghost use Prim.Native.Nat.{_<_};
+ghost use mathlib.Core.Path.{_≡_};
+ghost use Prim.Native.Nat.{_+_, _*_, _<_};
 ghost use Rattle.io.specs.Counts.{Counts};
 use libc::STDIN_FILENO;
 
 // A byte as a number of 16 bits.
 pub fn wide(x: u8) -> u16
-    ensures { λ r. ⌜ r < 256 ⌝ }
+    ensures { λ r. ⌜ (r ≡ x) × (r < 256) ⌝ }
 {
     x as u16
 }
 
 // Little-endian numbers, from two halves.
-pub fn u16_of(low: u8, high: u8) -> u16 {
+pub fn u16_of(low: u8, high: u8) -> u16
+    ensures { λ r. ⌜ r ≡ low + 256 * high ⌝ }
+{
     wide(low) + 256 * wide(high)
 }
 
-pub fn u32_of(low: u16, high: u16) -> u32 {
+pub fn u32_of(low: u16, high: u16) -> u32
+    ensures { λ r. ⌜ r ≡ low + 65536 * high ⌝ }
+{
     low as u32 + 65536 * high as u32
 }
 
-pub fn u64_of(low: u32, high: u32) -> u64 {
+pub fn u64_of(low: u32, high: u32) -> u64
+    ensures { λ r. ⌜ r ≡ low + 4294967296 * high ⌝ }
+{
     low as u64 + 4294967296 * high as u64
 }
 
