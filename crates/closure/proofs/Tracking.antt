@@ -116,7 +116,7 @@ module _ (which : AnalysisKind) (sheet : List ℕ) (l : ℕ) (all : l ≡ localS
 
 -- ---- the marks that are lent
 
-take-zeros : (l : ℕ) (xs : List ℕ) → xs ≡ replicate (length xs) 0 → take l xs ≡ replicate (length (take l xs)) 0
+pub take-zeros : (l : ℕ) (xs : List ℕ) → xs ≡ replicate (length xs) 0 → take l xs ≡ replicate (length (take l xs)) 0
 take-zeros zero xs e = refl
 take-zeros (suc l) [] e = refl
 take-zeros (suc l) (x ∷ xs) e =
