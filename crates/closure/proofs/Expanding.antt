@@ -28,12 +28,12 @@ use Rattle.sheet.proofs.Limited.{limited}
 use Rattle.finality.proofs.Marks.{IsSet, mark-grows, free, weight, stack-fits}
 use Rattle.finality.proofs.Closure.{follow-weight, seeded-weight}
 use Rattle.finality.proofs.Cells.{stacked-top, stacked-pop}
-use Rattle.closure.specs.Marks.{Lies, Lain}
-use Rattle.closure.specs.Sources.{Follows}
+use Rattle.marks.specs.Marks.{Lies, Lain}
+use Rattle.follow.specs.Sources.{Follows}
 use Rattle.closure.specs.Taking.{Standing, topEdges, topTaken, Takes}
 use Rattle.closure.specs.Closed.{Blank, expandedTo, expandedOf}
-use Rattle.closure.specs.declared.Followed.{Followed}
-use Rattle.closure.proofs.Marking.{some-lain}
+use Rattle.follow.specs.declared.Followed.{Followed}
+use Rattle.marks.proofs.Marking.{some-lain}
 
 -- ---- what is on the stack is below L
 

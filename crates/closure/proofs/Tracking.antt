@@ -15,7 +15,8 @@ use Rattle.model.specs.declared.VerifierResources.{VerifierResources}
 use Rattle.budget.specs.Metering.{asSpent}
 use Rattle.budget.specs.declared.Metering.{Metering}
 use Rattle.budget.specs.declared.Metering.the-variants as M
-use Rattle.closure.specs.Closed.{scratchCharges, Blank, Expanded, expandedTo, expandedOf, fitted, closedBy, closedTo, closedOf}
+use Rattle.marks.specs.Slots.{fitted}
+use Rattle.closure.specs.Closed.{scratchCharges, Blank, Expanded, expandedTo, expandedOf, closedBy, closedTo, closedOf}
 use Rattle.closure.specs.declared.Closed.{Closed}
 use Rattle.budget.proofs.Spending.{covered, refused, then-covered, then-refused}
 
@@ -115,7 +116,7 @@ module _ (which : AnalysisKind) (sheet : List ℕ) (l : ℕ) (all : l ≡ localS
 
 -- ---- the marks that are lent
 
-take-zeros : (l : ℕ) (xs : List ℕ) → xs ≡ replicate (length xs) 0 → take l xs ≡ replicate (length (take l xs)) 0
+pub take-zeros : (l : ℕ) (xs : List ℕ) → xs ≡ replicate (length xs) 0 → take l xs ≡ replicate (length (take l xs)) 0
 take-zeros zero xs e = refl
 take-zeros (suc l) [] e = refl
 take-zeros (suc l) (x ∷ xs) e =

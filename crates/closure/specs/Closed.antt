@@ -1,18 +1,17 @@
 -- What a closure leaves: its answer, the marks, and the slots.
 -- Assumes nothing.
 use mathlib.Core.Path.{_≡_}
-use mathlib.Core.Bool.{Bool, true, false}
-use mathlib.Core.List.{List, _++_}
+use mathlib.Core.List.{List}
 use mathlib.Core.Option.{Option, none, some}
 use Prim.Native.Nat.{ℕ, _*_, _≤_}
-use lib.Dec.{leb}
-use lib.ListN.{length, set, drop}
+use lib.ListN.{length}
 use Rattle.model.specs.Sheet.{localSlots}
 use Rattle.model.specs.Charges.{overBudget, noRoom, Spent, ok, stop, unfinished, Metered, _>>_, spendBytes}
 use Rattle.model.specs.Closure.{Marked}
 use Rattle.model.specs.Call.{zeros}
 use Rattle.budget.specs.declared.Metering.{Metering}
 use Rattle.budget.specs.declared.Metering.the-variants as M
+use Rattle.marks.specs.Slots.{fitted}
 use Rattle.closure.specs.declared.Closed.{Closed}
 use Rattle.closure.specs.declared.Closed.the-variants.{Tracked, Refused}
 
@@ -45,21 +44,6 @@ expandedOf old (ok m left) = expandedTo (M.Covered left) (m .marks)
 expandedOf old (stop (overBudget stage requested remaining) left) = expandedTo (M.Refused requested remaining left) (zeros old)
 expandedOf old (stop noRoom left) = none
 expandedOf old unfinished = none
-
--- ---- the slots
-
--- an element stored, unless the test holds
-unfoldable pub storedIf : Bool → List ℕ → ℕ → ℕ → List ℕ
-storedIf true old at x = old
-storedIf false old at x = set old at x
-
-unfoldable pub fittedIf : Bool → List ℕ → List ℕ → List ℕ
-fittedIf true slots old = slots ++ drop (length slots) old
-fittedIf false slots old = old
-
--- the slots in the first places, where they fit; else what was there
-unfoldable pub fitted : List ℕ → List ℕ → List ℕ
-fitted slots old = fittedIf (leb (length slots) (length old)) slots old
 
 -- ---- the whole
 

@@ -7,17 +7,17 @@ ghost use Rattle.model.specs.Call.{zeros};
 ghost use Rattle.sheet.specs.Measured.{Measured};
 ghost use Rattle.closure.specs.Taking.{Standing, Takes};
 ghost use Rattle.closure.specs.Closed.{Blank, expandedTo, expandedOf};
-use crate::Followed;
-use crate::follow::follow_edges;
-use crate::seeds::seed_slots;
 use budget::Metering;
 use budget::charge_work;
 use budget::metered;
+use follow::Followed;
+use follow::follow_edges;
 use memory::clear_u8;
 use memory::clear_u16;
 use model::AnalysisKind;
 use model::Charge;
 use model::VerifierResources;
+use seeds::seed_slots;
 use sheet::Sizes;
 
 // The slot on top is taken from the stack, its place is zero again, and its edges are followed.

@@ -30,7 +30,8 @@ use Rattle.sheet.proofs.Asked.{measured}
 use Rattle.sheet.proofs.Counted.{counted}
 use Rattle.sheet.proofs.Limited.{limited}
 use Rattle.sheet.proofs.Both.{both-left, both-right}
-use Rattle.closure.specs.Closed.{Ended, closedTo, closedOf, fittedIf, fitted}
+use Rattle.marks.specs.Slots.{fittedIf, fitted}
+use Rattle.closure.specs.Closed.{Ended, closedTo, closedOf}
 use Rattle.closure.specs.declared.Closed.{Closed}
 use Rattle.closure.specs.declared.Closed.the-variants.{Tracked, Refused}
 use Rattle.stages.specs.Parts.{entering, behindRoom, Behind, behind}

@@ -8,8 +8,8 @@ use Rattle.analyses.proofs.graph.charge_graph.Tie as tie
 use Rattle.analyses.proofs.graph.charge_graph.Reads as reads
 use Rattle.analyses.proofs.graph.charge_graph.Lts as lts
 use Rattle.analyses.proofs.graph.begun.Reads as begun-reads
-use Rattle.closure.proofs.charge_dependencies.Reads as charge-dependencies-reads
-use Rattle.closure.proofs.charge_flow.Reads as charge-flow-reads
+use Rattle.dependencies.proofs.charge_dependencies.Reads as charge-dependencies-reads
+use Rattle.dependencies.proofs.charge_flow.Reads as charge-flow-reads
 
 charge-flow-requires : tie.Need-charge-flow-requires
 charge-flow-requires c κs = limited (c .before .pre) .code-count

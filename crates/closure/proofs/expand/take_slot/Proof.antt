@@ -5,7 +5,7 @@ use Prim.Native.Nat.{_-_}
 use native.Mathlib.Omega.{arith}
 use lib.ListN.{length-set}
 use Rattle.sheet.proofs.Counted.{counted}
-use Rattle.closure.proofs.Marking.{goes-long}
+use Rattle.marks.proofs.Marking.{goes-long}
 use Rattle.closure.proofs.Expanding.{standing-below, slot-below, popped-lain, takes}
 use borrow.Author.Needs.{needs}
 use Rattle.closure.proofs.expand.take_slot.Statement.{statement}

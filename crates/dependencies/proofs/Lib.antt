@@ -1,0 +1,4 @@
+-- The edges of an instruction as rows
+pub mod Rows
+-- What the instructions' charges are
+pub mod Charging

@@ -1,0 +1,2 @@
+-- The edges of an instruction, by the definitions of `model`.
+pub mod Rows

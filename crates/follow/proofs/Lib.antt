@@ -1,0 +1,2 @@
+-- The edges to one slot
+pub mod Following

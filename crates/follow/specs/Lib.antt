@@ -1,0 +1,2 @@
+-- The edges to one slot, by the definitions of `model`.
+pub mod Sources

@@ -1,0 +1,59 @@
+-- `marks::slots::write_slots` meets its contract: the marked slots passed are written.
+-- Assumes nothing.
+use Prim.Native.Nat.{_-_}
+use native.Mathlib.Omega.{arith}
+use lib.ListN.{length}
+use Rattle.marks.proofs.Listing.{Writing, writing-none, writing-within, writing-room, writing-more, writing-all}
+use Rattle.marks.proofs.slots.write_slots.Statement.{statement}
+use Rattle.marks.proofs.slots.write_slots.Tie as tie
+
+abbrev Inv-loop : tie.InvT-loop
+Inv-loop marks slots₀ at₀ i₀ slots at i = Writing marks slots₀ slots at i
+
+abbrev μ-loop : tie.MeasureT-loop
+μ-loop marks slots₀ at₀ i₀ slots at i = length marks - i
+
+loop-holds : tie.Need-loop-holds Inv-loop μ-loop
+loop-holds c = writing-none _ _
+
+shared-slice-read-write-slot : tie.Need-shared-slice-read-write-slot Inv-loop μ-loop
+shared-slice-read-write-slot c = omega arith
+
+write-slot-requires : tie.Need-write-slot-requires Inv-loop μ-loop
+write-slot-requires c κs =
+    let w = c .before .before .before .loop .inv in let h = c .before .before .loop-test .taken in let f = c .before .before .before .before .before .before .pre .1 in (omega arith, writing-within w h f, writing-room w h f)
+
+add-i : tie.Need-add-i Inv-loop μ-loop
+add-i c = omega (arith, c .before .before .before .before .before .loop-test .taken)
+
+loop-less : tie.Need-loop-less Inv-loop μ-loop
+loop-less c = omega (arith, c .before .before .before .before .before .loop-test .taken)
+
+loop-again : tie.Need-loop-again Inv-loop μ-loop
+loop-again c =
+    let write-slot = c .before .before in
+    let in-loop = write-slot .before .before .before in
+    let at-loop = in-loop .before in
+    let start = at-loop .before .before .before in
+    writing-more (at-loop .loop .inv) (in-loop .loop-test .taken) (start .pre .1) (write-slot .write-slot .ensures .0) (write-slot .write-slot .ensures .1)
+
+same-length : tie.Need-same-length Inv-loop μ-loop
+same-length c = c .before .loop .inv .long
+
+returns : tie.Need-returns Inv-loop μ-loop
+returns c = writing-all (c .before .loop .inv) (c .loop-test .left)
+
+pub write-slots-spec : {M : Type 1} → statement M
+write-slots-spec =
+    tie.close
+    (tie.spec
+    Inv-loop
+    μ-loop
+    loop-holds
+    shared-slice-read-write-slot
+    write-slot-requires
+    add-i
+    loop-less
+    loop-again
+    same-length
+    returns)

@@ -1,0 +1,2 @@
+-- The seeds of an analysis
+pub mod Seeding

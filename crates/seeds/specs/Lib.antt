@@ -1,0 +1,2 @@
+-- The fields that are seeds, by the definitions of `model`.
+pub mod Fields
