@@ -1,4 +1,3 @@
--- What the functions of this crate write and ask, by the definitions of `model`, and the whole listing line after line.
-pub mod Text
-pub mod Readable
+-- What the functions of this crate write, by the definitions of `model`, and the whole listing line after line.
+pub mod Lines
 pub mod Rows

@@ -16,7 +16,8 @@ use Rattle.model.specs.declared.VerifierResources.{VerifierResources}
 use Rattle.model.specs.declared.Counts.{Counts}
 use Rattle.model.specs.declared.AnalysisKind.{AnalysisKind}
 use Rattle.model.specs.declared.AnalysisKind.the-variants.{Constant, IndexCheck, Container}
-use Rattle.listing.specs.Text.{factText, headLine}
+use Rattle.fact_text.specs.Facts.{factText}
+use Rattle.listing.specs.Lines.{headLine}
 
 -- a row that is there or not
 unfoldable pub rowIf : Bool → Row → Option Row

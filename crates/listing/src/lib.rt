@@ -1,9 +1,6 @@
 // The text of a listing, a line or a row at a time, at the front of a lent buffer.
-mod facts;
-mod layouts;
 mod lines;
 mod rows;
-mod text;
 
 pub use lines::head_line;
 pub use lines::left_line;

@@ -2,12 +2,13 @@
 ghost use Prim.Native.Nat.{_+_, _≤_};
 ghost use lib.ListN.{length};
 ghost use Rattle.model.specs.Listing.{leftLine, refusedLine, tooLarge};
-ghost use Rattle.listing.specs.Text.{Added, Wrote, analysisName, headLine};
-use crate::text::put;
-use crate::text::put_decimal;
-use crate::text::put_spaced;
+ghost use Rattle.text.specs.Text.{Added, Wrote};
+ghost use Rattle.listing.specs.Lines.{analysisName, headLine};
 use model::AnalysisKind;
 use model::VerifierResources;
+use text::put;
+use text::put_decimal;
+use text::put_spaced;
 
 // The word of an analysis.
 fn put_name(which: AnalysisKind, at: usize, out: &mut [u8]) -> usize

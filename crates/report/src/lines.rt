@@ -2,7 +2,7 @@
 ghost use Prim.Native.Nat.{_*_, _≤_};
 ghost use mathlib.Core.Path.{_≡_};
 ghost use lib.ListN.{length};
-ghost use Rattle.listing.specs.Readable.{Readable};
+ghost use Rattle.layouts.specs.Readable.{Readable};
 use crate::room;
 use libc::STDOUT_FILENO;
 use listing::head_line;

@@ -1,7 +1,7 @@
 -- `listing::lines::head_line` meets its contract. Assumes nothing.
 use Rattle.model.specs.Listing.{ascii, decimal, space, newline}
-use Rattle.listing.specs.Text.{headLine}
-use Rattle.listing.proofs.Writing.{then, then-two, front}
+use Rattle.listing.specs.Lines.{headLine}
+use Rattle.text.proofs.Writing.{then, then-two, front}
 use borrow.Author.Needs.{needs}
 use Rattle.listing.proofs.lines.head_line.Statement.{statement}
 use Rattle.listing.proofs.lines.head_line.Tie as tie

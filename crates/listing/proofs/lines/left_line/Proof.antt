@@ -1,6 +1,6 @@
 -- `listing::lines::left_line` meets its contract. Assumes nothing.
 use Rattle.model.specs.Listing.{ascii, decimal, space, newline, leftLine}
-use Rattle.listing.proofs.Writing.{then, then-two, front}
+use Rattle.text.proofs.Writing.{then, then-two, front}
 use borrow.Author.Needs.{needs}
 use Rattle.listing.proofs.lines.left_line.Statement.{statement}
 use Rattle.listing.proofs.lines.left_line.Tie as tie

@@ -1,8 +1,8 @@
 -- `listing::lines::put_name` meets its contract. Assumes nothing.
 use mathlib.Core.Path.{refl}
 use Rattle.model.specs.Listing.{ascii}
-use Rattle.listing.specs.Text.{analysisName}
-use Rattle.listing.proofs.Writing.{reword}
+use Rattle.listing.specs.Lines.{analysisName}
+use Rattle.text.proofs.Writing.{reword}
 use borrow.Author.Needs.{needs}
 use native.Mathlib.Omega.{arith}
 use Rattle.listing.proofs.lines.put_name.Statement.{statement}

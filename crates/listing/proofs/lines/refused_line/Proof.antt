@@ -1,6 +1,6 @@
 -- `listing::lines::refused_line` meets its contract. Assumes nothing.
 use Rattle.model.specs.Listing.{ascii, newline, refusedLine}
-use Rattle.listing.proofs.Writing.{then, front}
+use Rattle.text.proofs.Writing.{then, front}
 use borrow.Author.Needs.{needs}
 use Rattle.listing.proofs.lines.refused_line.Statement.{statement}
 use Rattle.listing.proofs.lines.refused_line.Tie as tie

@@ -1,6 +1,6 @@
 -- `listing::lines::too_large` meets its contract. Assumes nothing.
 use Rattle.model.specs.Listing.{ascii, tooLarge}
-use Rattle.listing.proofs.Writing.{front}
+use Rattle.text.proofs.Writing.{front}
 use borrow.Author.Needs.{needs}
 use Rattle.listing.proofs.lines.too_large.Statement.{statement}
 use Rattle.listing.proofs.lines.too_large.Tie as tie
