@@ -5,10 +5,10 @@ use native.Mathlib.Omega.{arith}
 use borrow.Author.Tests.{lt-leb, le-leb}
 use lib.ListN.{length}
 use lib.Seq.{sets-eq}
-use Rattle.export.specs.Facts.{looked, lookedUp, factsCompute}
+use Rattle.numbers.specs.Facts.{looked, lookedUp, factsCompute}
 use borrow.Author.Needs.{needs}
-use Rattle.export.proofs.facts.put_fact.Statement.{statement}
-use Rattle.export.proofs.facts.put_fact.Tie as tie
+use Rattle.numbers.proofs.facts.put_fact.Statement.{statement}
+use Rattle.numbers.proofs.facts.put_fact.Tie as tie
 
 returns : tie.Need-returns
 unfolding lookedUp

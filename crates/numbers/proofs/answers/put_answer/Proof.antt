@@ -1,10 +1,10 @@
 -- `answers::put_answer` meets its contract. Assumes nothing.
 use mathlib.Core.Path.{refl}
 use Rattle.model.specs.Call.{answerNumbered}
-use Rattle.export.specs.Numbers.{answerNumbers}
+use Rattle.numbers.specs.Numbers.{answerNumbers}
 use borrow.Author.Needs.{needs}
-use Rattle.export.proofs.answers.put_answer.Statement.{statement}
-use Rattle.export.proofs.answers.put_answer.Tie as tie
+use Rattle.numbers.proofs.answers.put_answer.Statement.{statement}
+use Rattle.numbers.proofs.answers.put_answer.Tie as tie
 
 enum-known-answer : tie.Need-enum-known-answer
 enum-known-answer c = search needs

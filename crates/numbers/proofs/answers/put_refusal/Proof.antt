@@ -1,9 +1,9 @@
 -- `answers::put_refusal` meets its contract. Assumes nothing.
 use mathlib.Core.Path.{refl}
-use Rattle.export.specs.Numbers.{nothing}
+use Rattle.numbers.specs.Numbers.{nothing}
 use borrow.Author.Needs.{needs}
-use Rattle.export.proofs.answers.put_refusal.Statement.{statement}
-use Rattle.export.proofs.answers.put_refusal.Tie as tie
+use Rattle.numbers.proofs.answers.put_refusal.Statement.{statement}
+use Rattle.numbers.proofs.answers.put_refusal.Tie as tie
 
 put-twelve-requires : tie.Need-put-twelve-requires
 put-twelve-requires c κs = search needs

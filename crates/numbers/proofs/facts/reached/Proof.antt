@@ -1,8 +1,8 @@
 -- `facts::reached` meets its contract. Assumes nothing.
-use Rattle.export.specs.Facts.{factsCompute}
+use Rattle.numbers.specs.Facts.{factsCompute}
 use borrow.Author.Needs.{needs}
-use Rattle.export.proofs.facts.reached.Statement.{statement}
-use Rattle.export.proofs.facts.reached.Tie as tie
+use Rattle.numbers.proofs.facts.reached.Statement.{statement}
+use Rattle.numbers.proofs.facts.reached.Tie as tie
 
 enum-told : tie.Need-enum-told
 enum-told c = search needs

@@ -2,10 +2,10 @@
 use native.Mathlib.Omega.{arith}
 use lib.ListN.{length-set}
 use lib.Seq.{sets-eq}
-use Rattle.export.specs.Numbers.{twelve}
+use Rattle.numbers.specs.Numbers.{twelve}
 use borrow.Author.Needs.{needs}
-use Rattle.export.proofs.answers.put_twelve.Statement.{statement}
-use Rattle.export.proofs.answers.put_twelve.Tie as tie
+use Rattle.numbers.proofs.answers.put_twelve.Statement.{statement}
+use Rattle.numbers.proofs.answers.put_twelve.Tie as tie
 
 slice-write-out : tie.Need-slice-write-out
 slice-write-out c = search needs

@@ -5,7 +5,7 @@ ghost use mathlib.Core.List.{_++_};
 ghost use Prim.Native.Nat.{_≤_};
 ghost use lib.ListN.{length, drop};
 ghost use Rattle.model.specs.Call.{answerNumbered};
-ghost use Rattle.export.specs.Numbers.{twelve, nothing, answerNumbers};
+ghost use Rattle.numbers.specs.Numbers.{twelve, nothing, answerNumbers};
 use model::Answer;
 use model::Counts;
 use model::VerifierResources;
