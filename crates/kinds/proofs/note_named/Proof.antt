@@ -1,9 +1,9 @@
--- `questions::kinds::note_named` meets its contract. Assumes nothing.
+-- `kinds::note_named` meets its contract. Assumes nothing.
 use Rattle.model.specs.Sheet.{noteNamed}
 use Rattle.sheet.proofs.Counted.{counted}
 use borrow.Author.Needs.{needs}
-use Rattle.questions.proofs.kinds.note_named.Statement.{statement}
-use Rattle.questions.proofs.kinds.note_named.Tie as tie
+use Rattle.kinds.proofs.note_named.Statement.{statement}
+use Rattle.kinds.proofs.note_named.Tie as tie
 
 note-kind-at-requires : tie.Need-note-kind-at-requires
 note-kind-at-requires c κs = c .before .pre

@@ -1,7 +1,7 @@
--- `questions::kinds::constant_named` meets its contract. Assumes nothing.
+-- `kinds::constant_named` meets its contract. Assumes nothing.
 use Rattle.model.specs.Sheet.{constantNamed}
-use Rattle.questions.proofs.kinds.constant_named.Statement.{statement}
-use Rattle.questions.proofs.kinds.constant_named.Tie as tie
+use Rattle.kinds.proofs.constant_named.Statement.{statement}
+use Rattle.kinds.proofs.constant_named.Tie as tie
 
 constant-kind-at-requires : tie.Need-constant-kind-at-requires
 constant-kind-at-requires c κs = c .before .pre

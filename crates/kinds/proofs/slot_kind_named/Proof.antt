@@ -1,7 +1,7 @@
--- `questions::kinds::slot_kind_named` meets its contract. Assumes nothing.
+-- `kinds::slot_kind_named` meets its contract. Assumes nothing.
 use Rattle.model.specs.Sheet.{slotKindNamed}
-use Rattle.questions.proofs.kinds.slot_kind_named.Statement.{statement}
-use Rattle.questions.proofs.kinds.slot_kind_named.Tie as tie
+use Rattle.kinds.proofs.slot_kind_named.Statement.{statement}
+use Rattle.kinds.proofs.slot_kind_named.Tie as tie
 
 slot-kind-at-requires : tie.Need-slot-kind-at-requires
 slot-kind-at-requires c κs = c .before .pre

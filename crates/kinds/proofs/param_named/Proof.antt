@@ -1,9 +1,9 @@
--- `questions::kinds::param_named` meets its contract. Assumes nothing.
+-- `kinds::param_named` meets its contract. Assumes nothing.
 use Rattle.model.specs.Sheet.{paramNamed}
 use Rattle.sheet.proofs.Counted.{counted}
 use borrow.Author.Needs.{needs}
-use Rattle.questions.proofs.kinds.param_named.Statement.{statement}
-use Rattle.questions.proofs.kinds.param_named.Tie as tie
+use Rattle.kinds.proofs.param_named.Statement.{statement}
+use Rattle.kinds.proofs.param_named.Tie as tie
 
 param-kind-at-requires : tie.Need-param-kind-at-requires
 param-kind-at-requires c κs = c .before .pre

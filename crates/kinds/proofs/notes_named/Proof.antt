@@ -1,13 +1,13 @@
--- `questions::kinds::notes_named` meets its contract. Assumes nothing.
+-- `kinds::notes_named` meets its contract. Assumes nothing.
 use Prim.Native.Nat.{_-_, _≤_}
 use mathlib.Core.Path.{_≡_}
 use Rattle.model.specs.Count.{every}
 use Rattle.model.specs.Sheet.{noteNamed}
 use Rattle.sheet.proofs.Counted.{counted}
-use Rattle.questions.proofs.Every.{every-none, every-more, every-all}
+use Rattle.kinds.proofs.Every.{every-none, every-more, every-all}
 use native.Mathlib.Omega.{arith}
-use Rattle.questions.proofs.kinds.notes_named.Statement.{statement}
-use Rattle.questions.proofs.kinds.notes_named.Tie as tie
+use Rattle.kinds.proofs.notes_named.Statement.{statement}
+use Rattle.kinds.proofs.notes_named.Tie as tie
 
 abbrev Inv-loop : tie.InvT-loop
 Inv-loop sheet sizes count named₀ i₀ named i = (i ≤ count) × (named ≡ every (noteNamed sheet) i)

@@ -1,8 +1,8 @@
--- `questions::kinds::layouts_used` meets its contract. Assumes nothing.
+-- `kinds::layouts_used` meets its contract. Assumes nothing.
 use mathlib.Core.Path.{refl}
 use Rattle.model.specs.Sheet.{layoutsUsed}
-use Rattle.questions.proofs.kinds.layouts_used.Statement.{statement}
-use Rattle.questions.proofs.kinds.layouts_used.Tie as tie
+use Rattle.kinds.proofs.layouts_used.Statement.{statement}
+use Rattle.kinds.proofs.layouts_used.Tie as tie
 
 returns : tie.Need-returns
 unfolding layoutsUsed

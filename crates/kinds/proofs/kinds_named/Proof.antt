@@ -1,7 +1,7 @@
--- `questions::kinds::kinds_named` meets its contract. Assumes nothing.
+-- `kinds::kinds_named` meets its contract. Assumes nothing.
 use Rattle.model.specs.Sheet.{kindsNamed}
-use Rattle.questions.proofs.kinds.kinds_named.Statement.{statement}
-use Rattle.questions.proofs.kinds.kinds_named.Tie as tie
+use Rattle.kinds.proofs.kinds_named.Statement.{statement}
+use Rattle.kinds.proofs.kinds_named.Tie as tie
 
 notes-named-requires : tie.Need-notes-named-requires
 notes-named-requires c κs = c .before .pre
