@@ -1,10 +1,10 @@
--- `listing::lines::head_line` meets its contract. Assumes nothing.
+-- `line_text::head_line` meets its contract. Assumes nothing.
 use Rattle.model.specs.Listing.{ascii, decimal, space, newline}
-use Rattle.listing.specs.Lines.{headLine}
+use Rattle.line_text.specs.Lines.{headLine}
 use Rattle.text.proofs.Writing.{then, then-two, front}
 use borrow.Author.Needs.{needs}
-use Rattle.listing.proofs.lines.head_line.Statement.{statement}
-use Rattle.listing.proofs.lines.head_line.Tie as tie
+use Rattle.line_text.proofs.head_line.Statement.{statement}
+use Rattle.line_text.proofs.head_line.Tie as tie
 
 put-name-requires : tie.Need-put-name-requires
 put-name-requires c κs = search needs

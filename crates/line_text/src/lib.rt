@@ -1,9 +1,9 @@
-// The lines of a listing that name no cell.
+// The lines of a listing that name no cell, each at the front of a lent buffer.
 ghost use Prim.Native.Nat.{_+_, _≤_};
 ghost use lib.ListN.{length};
 ghost use Rattle.model.specs.Listing.{leftLine, refusedLine, tooLarge};
 ghost use Rattle.text.specs.Text.{Added, Wrote};
-ghost use Rattle.listing.specs.Lines.{analysisName, headLine};
+ghost use Rattle.line_text.specs.Lines.{analysisName, headLine};
 use model::AnalysisKind;
 use model::VerifierResources;
 use text::put;

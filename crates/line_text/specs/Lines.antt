@@ -1,8 +1,7 @@
--- The texts of lines.
+-- The head of an analysis.
 -- Assumes nothing.
 use mathlib.Core.List.{List, _++_}
 use Prim.Native.Nat.{ℕ}
-use Rattle.model.specs.Fact.{Fact}
 use Rattle.model.specs.Listing.{ascii, decimal, space, newline}
 use Rattle.model.specs.declared.AnalysisKind.{AnalysisKind}
 use Rattle.model.specs.declared.AnalysisKind.the-variants.{Constant, IndexCheck, Container}
@@ -16,7 +15,3 @@ analysisName Container = ascii "container"
 -- "Heads: analysis, n, s, pops."
 unfoldable pub headLine : AnalysisKind → ℕ → ℕ → ℕ → List ℕ
 headLine which n s pops = analysisName which ++ space ++ decimal n ++ space ++ decimal s ++ space ++ decimal pops ++ newline
-
--- "Cells: pc, slot, fact"
-unfoldable pub cellLine : (Fact → List ℕ) → ℕ → ℕ → Fact → List ℕ
-cellLine text pc slot f = decimal pc ++ space ++ decimal slot ++ space ++ text f ++ newline

@@ -1,9 +1,9 @@
--- `listing::lines::left_line` meets its contract. Assumes nothing.
+-- `line_text::left_line` meets its contract. Assumes nothing.
 use Rattle.model.specs.Listing.{ascii, decimal, space, newline, leftLine}
 use Rattle.text.proofs.Writing.{then, then-two, front}
 use borrow.Author.Needs.{needs}
-use Rattle.listing.proofs.lines.left_line.Statement.{statement}
-use Rattle.listing.proofs.lines.left_line.Tie as tie
+use Rattle.line_text.proofs.left_line.Statement.{statement}
+use Rattle.line_text.proofs.left_line.Tie as tie
 
 slice-aggregate-put : tie.Need-slice-aggregate-put
 slice-aggregate-put c = search needs

@@ -1,9 +1,9 @@
--- `listing::lines::too_large` meets its contract. Assumes nothing.
+-- `line_text::too_large` meets its contract. Assumes nothing.
 use Rattle.model.specs.Listing.{ascii, tooLarge}
 use Rattle.text.proofs.Writing.{front}
 use borrow.Author.Needs.{needs}
-use Rattle.listing.proofs.lines.too_large.Statement.{statement}
-use Rattle.listing.proofs.lines.too_large.Tie as tie
+use Rattle.line_text.proofs.too_large.Statement.{statement}
+use Rattle.line_text.proofs.too_large.Tie as tie
 
 slice-aggregate-put : tie.Need-slice-aggregate-put
 slice-aggregate-put c = search needs

@@ -1,9 +1,9 @@
--- `listing::lines::refused_line` meets its contract. Assumes nothing.
+-- `line_text::refused_line` meets its contract. Assumes nothing.
 use Rattle.model.specs.Listing.{ascii, newline, refusedLine}
 use Rattle.text.proofs.Writing.{then, front}
 use borrow.Author.Needs.{needs}
-use Rattle.listing.proofs.lines.refused_line.Statement.{statement}
-use Rattle.listing.proofs.lines.refused_line.Tie as tie
+use Rattle.line_text.proofs.refused_line.Statement.{statement}
+use Rattle.line_text.proofs.refused_line.Tie as tie
 
 slice-aggregate-put : tie.Need-slice-aggregate-put
 slice-aggregate-put c = search needs

@@ -1,12 +1,12 @@
--- `listing::lines::put_name` meets its contract. Assumes nothing.
+-- `line_text::put_name` meets its contract. Assumes nothing.
 use mathlib.Core.Path.{refl}
 use Rattle.model.specs.Listing.{ascii}
-use Rattle.listing.specs.Lines.{analysisName}
+use Rattle.line_text.specs.Lines.{analysisName}
 use Rattle.text.proofs.Writing.{reword}
 use borrow.Author.Needs.{needs}
 use native.Mathlib.Omega.{arith}
-use Rattle.listing.proofs.lines.put_name.Statement.{statement}
-use Rattle.listing.proofs.lines.put_name.Tie as tie
+use Rattle.line_text.proofs.put_name.Statement.{statement}
+use Rattle.line_text.proofs.put_name.Tie as tie
 
 enum-told : tie.Need-enum-told
 enum-told c = search needs
