@@ -17,7 +17,7 @@ slot-kinds-named-requires c κs = c .before .before .before .before .pre
 
 returns : tie.Need-returns
 unfolding kindsNamed
-returns c = cc
+returns c = rw (c .before .before .before .notes-named .ensures, c .before .before .constants-named .ensures, c .before .params-named .ensures, c .slot-kinds-named .ensures)
 
 pub kinds-named-spec : {M : Type 1} → statement M
 kinds-named-spec =

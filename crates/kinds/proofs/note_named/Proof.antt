@@ -19,7 +19,7 @@ layouts-used-requires c κs = search needs
 
 returns : tie.Need-returns
 unfolding noteNamed
-returns c = let n = counted (c .before .before .before .before .before .pre .0 .are) in cc
+returns c = let n = counted (c .before .before .before .before .before .pre .0 .are) in rw (c .layouts-used .ensures, n .layout-count, c .before .before .before .note-kind-at .ensures, c .before .before .note-a-at .ensures, c .before .note-b-at .ensures)
 
 pub note-named-spec : {M : Type 1} → statement M
 note-named-spec =

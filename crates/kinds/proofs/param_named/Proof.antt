@@ -19,7 +19,7 @@ layouts-used-requires c κs = search needs
 
 returns : tie.Need-returns
 unfolding paramNamed
-returns c = let n = counted (c .before .before .before .before .before .pre .0 .are) in cc
+returns c = let n = counted (c .before .before .before .before .before .pre .0 .are) in rw (c .layouts-used .ensures, n .layout-count, c .before .before .before .param-kind-at .ensures, c .before .before .param-a-at .ensures, c .before .param-b-at .ensures)
 
 pub param-named-spec : {M : Type 1} → statement M
 param-named-spec =
