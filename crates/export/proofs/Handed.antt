@@ -11,9 +11,9 @@ use Rattle.model.specs.Call.{Lent, answerNumbered, result, analyzed}
 use Rattle.model.specs.declared.VerifierResources.{VerifierResources}
 use Rattle.model.specs.declared.Answer.{Answer}
 use Rattle.model.specs.declared.SlotFact.{SlotFact}
-use Rattle.export.specs.Numbers.{answerNumbers}
+use Rattle.numbers.specs.Numbers.{answerNumbers}
+use Rattle.numbers.specs.Facts.{looked, lookedUp}
 use Rattle.export.specs.Exported.{exported, handed, exportedOf}
-use Rattle.export.specs.Facts.{looked, lookedUp}
 
 module _ (sheet : List ℕ) (budget : VerifierResources) (lent : Lent) (old : List ℕ) where
   -- fewer than 12 entries

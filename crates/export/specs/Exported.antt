@@ -7,7 +7,7 @@ use Prim.Native.Nat.{ℕ}
 use lib.ListN.{drop}
 use Rattle.model.specs.Call.{Lent, Result, analyzed}
 use Rattle.model.specs.declared.VerifierResources.{VerifierResources}
-use Rattle.export.specs.Numbers.{answerNumbers}
+use Rattle.numbers.specs.Numbers.{answerNumbers}
 
 -- What the call leaves: the number that it returns, all that was lent, and the memory for the answer.
 pub record Exported : Type 0 where

@@ -1,4 +1,2 @@
--- What C is handed: numbers, and what they say of a call and of a lookup.
-pub mod Numbers
+-- What C is handed.
 pub mod Exported
-pub mod Facts

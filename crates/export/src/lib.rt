@@ -8,20 +8,17 @@ ghost use Rattle.model.specs.Lookup.{factForSlot, isReachable, fixed};
 ghost use Rattle.model.specs.declared.AnalysisKind.the-variants.{Constant, IndexCheck, Container};
 ghost use Rattle.stages.specs.Stage.{table, scratch, lent};
 ghost use Rattle.export.specs.Exported.{exported, exportedOf};
-ghost use Rattle.export.specs.Facts.{looked, lookedUp, reachedNumber};
-use crate::answers::put_answer;
-use crate::facts::put_fact;
-use crate::facts::reached;
+ghost use Rattle.numbers.specs.Facts.{looked, lookedUp, reachedNumber};
 use lookup::constant_fact_for_slot;
 use lookup::container_fact_for_slot;
 use lookup::fixed_fact;
 use lookup::index_check_fact_for_slot;
 use lookup::is_reachable;
 use model::VerifierResources;
+use numbers::put_answer;
+use numbers::put_fact;
+use numbers::reached;
 use verifier::analyze;
-
-mod answers;
-mod facts;
 
 // 0, or the number of the first question that refuses; the first 12 entries of answer hold the answer's numbers. 255 where it has fewer: nothing
 // lent changes then. The result, what is lent and answer are those of the call that the definitions give (`exportedOf`).

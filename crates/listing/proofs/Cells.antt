@@ -13,9 +13,9 @@ use Rattle.model.specs.Fact.{Fact, unknown, Row}
 use Rattle.model.specs.Tables.{factOf, factsOf}
 use Rattle.model.specs.Listing.{decimal, space, newline, rowLines, presentLines}
 use Rattle.model.proofs.Facts.{length-facts}
-use Rattle.listing.specs.Text.{Wrote, Added, cellLine}
-use Rattle.listing.specs.Rows.{rowIf, tableRowOf}
-use Rattle.listing.proofs.Writing.{then, reword, front}
+use Rattle.text.specs.Text.{Wrote, Added}
+use Rattle.listing.specs.Rows.{cellLine, rowIf, tableRowOf}
+use Rattle.text.proofs.Writing.{then, reword, front}
 
 -- ---- the facts of a row's kinds and values
 

@@ -24,7 +24,8 @@ use Rattle.finality.proofs.Cells.{Sized}
 use Rattle.finality.proofs.Memory.{shown, row-shown, row-part}
 use Rattle.lookup.specs.Run.{analysedOf}
 use Rattle.lookup.proofs.Call.{call-shaped}
-use Rattle.listing.specs.Text.{analysisName, factText, headLine}
+use Rattle.line_text.specs.Lines.{analysisName, headLine}
+use Rattle.fact_text.specs.Facts.{factText}
 use Rattle.listing.specs.Rows.{rowIf, tableRowOf, rowIn, printedAnalysis, printed}
 
 -- ---- what is collected in order

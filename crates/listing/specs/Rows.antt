@@ -1,4 +1,4 @@
--- Rows as they lie in the tables, and the whole listing as a program writes it, line after line.
+-- The line of a cell, rows as they lie in the tables, and the whole listing as a program writes it, line after line.
 -- Assumes nothing.
 use mathlib.Core.Bool.{Bool, true, false}
 use mathlib.Core.List.{List, _++_}
@@ -8,15 +8,20 @@ use lib.Dec.{eqb}
 use lib.ListN.{getD, take, drop}
 use Rattle.model.specs.Sheet.{codeCount}
 use Rattle.model.specs.Count.{collect}
-use Rattle.model.specs.Fact.{Row}
+use Rattle.model.specs.Fact.{Fact, Row}
 use Rattle.model.specs.Tables.{factsOf}
 use Rattle.model.specs.Call.{Table, Lent, tableOf}
-use Rattle.model.specs.Listing.{presentLines, leftLine}
+use Rattle.model.specs.Listing.{decimal, space, newline, presentLines, leftLine}
 use Rattle.model.specs.declared.VerifierResources.{VerifierResources}
 use Rattle.model.specs.declared.Counts.{Counts}
 use Rattle.model.specs.declared.AnalysisKind.{AnalysisKind}
 use Rattle.model.specs.declared.AnalysisKind.the-variants.{Constant, IndexCheck, Container}
-use Rattle.listing.specs.Text.{factText, headLine}
+use Rattle.fact_text.specs.Facts.{factText}
+use Rattle.line_text.specs.Lines.{headLine}
+
+-- "Cells: pc, slot, fact"
+unfoldable pub cellLine : (Fact → List ℕ) → ℕ → ℕ → Fact → List ℕ
+cellLine text pc slot f = decimal pc ++ space ++ decimal slot ++ space ++ text f ++ newline
 
 -- a row that is there or not
 unfoldable pub rowIf : Bool → Row → Option Row

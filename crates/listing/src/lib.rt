@@ -1,12 +1,4 @@
-// The text of a listing, a line or a row at a time, at the front of a lent buffer.
-mod facts;
-mod layouts;
-mod lines;
+// The text of a listing, a row at a time, at the front of a lent buffer.
 mod rows;
-mod text;
 
-pub use lines::head_line;
-pub use lines::left_line;
-pub use lines::refused_line;
-pub use lines::too_large;
 pub use rows::row_lines;

@@ -4,15 +4,16 @@ ghost use Prim.Native.Nat.{_+_, _*_, _≤_};
 ghost use lib.ListN.{length};
 ghost use Rattle.model.specs.Listing.{presentLines};
 ghost use Rattle.model.specs.Tables.{factOf};
-ghost use Rattle.listing.specs.Text.{Added, Wrote, factText, cellLine};
-ghost use Rattle.listing.specs.Readable.{Readable};
-ghost use Rattle.listing.specs.Rows.{tableRowOf};
-use crate::facts::put_fact;
-use crate::text::put;
-use crate::text::put_decimal;
-use crate::text::put_spaced;
+ghost use Rattle.text.specs.Text.{Added, Wrote};
+ghost use Rattle.fact_text.specs.Facts.{factText};
+ghost use Rattle.layouts.specs.Readable.{Readable};
+ghost use Rattle.listing.specs.Rows.{cellLine, tableRowOf};
+use fact_text::put_fact;
 use model::AnalysisKind;
 use sheet::Sizes;
+use text::put;
+use text::put_decimal;
+use text::put_spaced;
 
 // The line of one cell.
 fn cell_line(

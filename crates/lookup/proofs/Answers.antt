@@ -12,11 +12,13 @@ use Rattle.model.specs.Lookup.{lastKind, placeFrom, place, tablesAgree, rowName
 use Rattle.model.specs.declared.AnalysisKind.{AnalysisKind}
 use Rattle.model.specs.declared.SlotFact.{SlotFact}
 use Rattle.model.specs.declared.SlotFact.the-variants.{Absent, Damaged}
-use Rattle.lookup.specs.Place.{placed, shownBy, Inside, rowsNamed}
-use Rattle.lookup.specs.declared.place.Place.{Place}
-use Rattle.lookup.specs.declared.place.Place.the-variants.{At, Untracked}
+use Rattle.tables.specs.Place.{placed}
+use Rattle.lookup.specs.Shown.{shownBy}
+use Rattle.cells.specs.Inside.{Inside, rowsNamed}
+use Rattle.tables.specs.declared.place.Place.{Place}
+use Rattle.tables.specs.declared.place.Place.the-variants.{At, Untracked}
 use Rattle.lookup.specs.declared.shown.Seen.{Seen}
-use Rattle.lookup.proofs.Agreement.{agreed}
+use Rattle.tables.proofs.Agreement.{agreed}
 
 -- a place lies among the slots
 pub place-within : (i : ℕ) (slots : List ℕ) (slot j : ℕ) → placeFrom i slots slot ≡ some j → (i ≤ j) × (j < i + length slots)

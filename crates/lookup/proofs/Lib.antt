@@ -1,7 +1,4 @@
 -- What the tests of a lookup show
-pub mod Ascending
-pub mod Agreement
-pub mod Rows
 pub mod Show
 pub mod Answers
 -- Lookups in what a call left

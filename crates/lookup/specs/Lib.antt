@@ -1,3 +1,3 @@
--- What the enums of this crate stand for, and what lookups say of a run.
-pub mod Place
+-- What the enum of this crate stands for, and what lookups say of a run.
+pub mod Shown
 pub mod Run

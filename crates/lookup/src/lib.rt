@@ -2,13 +2,16 @@
 ghost use mathlib.Core.Path.{_≡_};
 ghost use Rattle.model.specs.Lookup.{lastKind, factForSlot, isReachable, fixed};
 ghost use Rattle.model.specs.declared.AnalysisKind.the-variants.{Constant, IndexCheck, Container};
+use cells::all_named;
+use cells::cell;
+use cells::named;
+use cells::present_at;
 use model::AnalysisKind;
 use model::Reachability;
 use model::SlotFact;
+use tables::find;
+use tables::tables_agree;
 
-mod place;
-mod question;
-mod row;
 mod shown;
 
 // The last kind that the analysis names.
@@ -34,14 +37,14 @@ pub fn fact_for_slot(
 ) -> SlotFact
     ensures { λ r. ⌜ r ≡ factForSlot which (now (slots .entry)) (now (present .entry)) (now (kinds .entry)) (now (values .entry)) pc slot ⌝ }
 {
-    if !question::tables_agree(slots, present, kinds, values) {
+    if !tables_agree(slots, present, kinds, values) {
         return SlotFact::Damaged;
     }
-    let at = place::find(slots, slot);
+    let at = find(slots, slot);
     let last = last_kind(which);
     let s = slots.len();
-    if row::named(last, s, present, kinds, at, pc) {
-        return row::cell(s, present, kinds, values, at, pc);
+    if named(last, s, present, kinds, at, pc) {
+        return cell(s, present, kinds, values, at, pc);
     }
     SlotFact::Damaged
 }
@@ -116,7 +119,7 @@ pub fn container_fact_for_slot(
 pub fn is_reachable(present: &[u8], pc: u64) -> Reachability
     ensures { λ r. ⌜ r ≡ isReachable (now (present .entry)) pc ⌝ }
 {
-    match row::present_at(present, pc) {
+    match present_at(present, pc) {
         0 => Reachability::No,
         1 => Reachability::Yes,
         _ => Reachability::Unreadable,
@@ -133,12 +136,12 @@ pub fn fixed_fact(
 ) -> SlotFact
     ensures { λ r. ⌜ r ≡ fixed (now (slots .entry)) (now (present .entry)) (now (kinds .entry)) (now (values .entry)) slot ⌝ }
 {
-    if !question::tables_agree(slots, present, kinds, values) {
+    if !tables_agree(slots, present, kinds, values) {
         return SlotFact::Damaged;
     }
-    let at = place::find(slots, slot);
+    let at = find(slots, slot);
     let s = slots.len();
-    if row::all_named(s, present, kinds, at) {
+    if all_named(s, present, kinds, at) {
         return shown::fixed_at(s, present, kinds, values, at);
     }
     SlotFact::Damaged

@@ -1,5 +1,4 @@
 -- The laws of this crate. Refused is for other crates to cite: what `check_sheet` has answered.
-pub mod Every
 pub mod Within
 pub mod Placed
 pub mod Refused

@@ -1,5 +1,4 @@
 // Questions 1 to 5 of a sheet.
-mod kinds;
 mod limits;
 mod sums;
 mod whole;

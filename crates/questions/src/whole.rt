@@ -3,10 +3,10 @@ ghost use mathlib.Core.Path.{_≡_};
 ghost use Rattle.questions.specs.Check.{sheetCheck};
 ghost use Rattle.sheet.specs.Measured.{Measured};
 use crate::SheetCheck;
-use crate::kinds::kinds_named;
 use crate::limits::sizes_of;
 use crate::limits::within_limits;
 use crate::sums::sums_match;
+use kinds::kinds_named;
 use sheet::Sizes;
 
 // Questions 4 and 5, of a sheet that 1 to 3 leave.

@@ -1,6 +1,6 @@
 // The call, and what is written of its answer: nothing before all three analyses have ended.
 ghost use Prim.Native.Nat.{_≤_};
-ghost use Rattle.listing.specs.Readable.{Readable};
+ghost use Rattle.layouts.specs.Readable.{Readable};
 use crate::lines;
 use crate::room;
 use crate::rows;

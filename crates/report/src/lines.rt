@@ -1,13 +1,13 @@
-// Lines, written to standard output. Their text is that of the crate `listing`.
+// Lines, written to standard output. Their text is that of the crates `line_text` and `listing`.
 ghost use Prim.Native.Nat.{_*_, _≤_};
 ghost use mathlib.Core.Path.{_≡_};
 ghost use lib.ListN.{length};
-ghost use Rattle.listing.specs.Readable.{Readable};
+ghost use Rattle.layouts.specs.Readable.{Readable};
 use crate::room;
 use libc::STDOUT_FILENO;
-use listing::head_line;
-use listing::left_line;
-use listing::refused_line;
+use line_text::head_line;
+use line_text::left_line;
+use line_text::refused_line;
 use listing::row_lines;
 use model::AnalysisKind;
 use model::VerifierResources;
@@ -22,7 +22,7 @@ fn write_front(lines: &[u8], count: usize)
 
 pub fn too_large() {
     let mut line = room::line();
-    let count = listing::too_large(&mut line);
+    let count = line_text::too_large(&mut line);
     write_front(&line, count);
 }
 

@@ -1,7 +1,7 @@
 // The part of a listing that one analysis has.
 ghost use Prim.Native.Nat.{_*_, _≤_};
 ghost use lib.ListN.{length};
-ghost use Rattle.listing.specs.Readable.{Readable};
+ghost use Rattle.layouts.specs.Readable.{Readable};
 use crate::lines;
 use model::AnalysisKind;
 use model::Counts;

@@ -1,6 +1,6 @@
 -- `vo_facts_is_reachable` meets its contract. Assumes nothing.
 use mathlib.Core.Path.{ap, _∙_}
-use Rattle.export.specs.Facts.{reachedNumber}
+use Rattle.numbers.specs.Facts.{reachedNumber}
 use borrow.Author.Needs.{needs}
 use Rattle.export.proofs.vo_facts_is_reachable.Statement.{statement}
 use Rattle.export.proofs.vo_facts_is_reachable.Tie as tie

@@ -1,7 +1,7 @@
 -- `lookup::fact_for_slot` meets its contract. Assumes nothing.
 use mathlib.Core.Path.{sym, _∙_}
 use borrow.Author.Tests.{not-true, not-false}
-use Rattle.lookup.proofs.Agreement.{agreed}
+use Rattle.tables.proofs.Agreement.{agreed}
 use Rattle.lookup.proofs.Answers.{found-inside, same-length, tables-damaged, row-damaged, row-answered}
 use borrow.Author.Needs.{needs}
 use denote.Ref.{now}

@@ -1,7 +1,7 @@
 -- `lookup::fixed_fact` meets its contract. Assumes nothing.
 use mathlib.Core.Path.{sym, _∙_}
 use borrow.Author.Tests.{not-true, not-false}
-use Rattle.lookup.proofs.Agreement.{agreed}
+use Rattle.tables.proofs.Agreement.{agreed}
 use Rattle.lookup.proofs.Answers.{found-inside, same-length, fixed-damaged, fixed-row-damaged, fixed-answered}
 use borrow.Author.Needs.{needs}
 use denote.Ref.{now}

@@ -1,6 +1,6 @@
 -- `lookup::is_reachable` meets its contract. Assumes nothing.
 use denote.Ref.{now}
-use Rattle.lookup.proofs.Rows.{not-reached, reached, unreadable}
+use Rattle.cells.proofs.Rows.{not-reached, reached, unreadable}
 use borrow.Author.Needs.{needs}
 use Rattle.lookup.proofs.is_reachable.Statement.{statement}
 use Rattle.lookup.proofs.is_reachable.Tie as tie

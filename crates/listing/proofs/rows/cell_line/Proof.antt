@@ -1,7 +1,7 @@
 -- `listing::rows::cell_line` meets its contract. Assumes nothing.
 use Rattle.model.specs.Listing.{ascii, decimal, space, newline}
-use Rattle.listing.specs.Text.{cellLine}
-use Rattle.listing.proofs.Writing.{then, then-two}
+use Rattle.listing.specs.Rows.{cellLine}
+use Rattle.text.proofs.Writing.{then, then-two}
 use borrow.Author.Needs.{needs}
 use Rattle.listing.proofs.rows.cell_line.Statement.{statement}
 use Rattle.listing.proofs.rows.cell_line.Tie as tie

@@ -1,7 +1,7 @@
 -- `listing::rows::row_lines` meets its contract. Assumes nothing.
 use Prim.Native.Nat.{_-_, _≤_}
 use lib.ListN.{length}
-use Rattle.listing.specs.Text.{factText}
+use Rattle.fact_text.specs.Facts.{factText}
 use Rattle.listing.proofs.Cells.{Listed, listed-none, listed-more, listed-all, listed-nothing}
 use native.Mathlib.Omega.{arith}
 use denote.Ref.{now}

@@ -3,7 +3,7 @@ use mathlib.Core.Path.{_≡_, refl}
 use Prim.Native.Nat.{_+_, _*_, _-_, _≤_}
 use lib.ListN.{length}
 use Rattle.model.specs.Lookup.{shown}
-use Rattle.lookup.specs.Place.{shownBy}
+use Rattle.lookup.specs.Shown.{shownBy}
 use Rattle.lookup.proofs.Show.{next-cell, shown-more}
 use native.Mathlib.Omega.{arith}
 use denote.Ref.{now}

@@ -1,4 +1,6 @@
 -- `questions::whole::check_fields` meets its contract. Assumes nothing.
+use mathlib.Core.Path.{sym, ap, _∙_}
+use mathlib.Core.Bool.{not}
 use Rattle.questions.proofs.Refused.{refused-4, refused-5, unrefused}
 use borrow.Author.Needs.{needs}
 use Rattle.questions.proofs.whole.check_fields.Statement.{statement}
@@ -14,10 +16,10 @@ kinds-named-requires : tie.Need-kinds-named-requires
 kinds-named-requires c κs = search needs
 
 returns-2 : tie.Need-returns-2
-returns-2 c = refused-5 (c .before .before .before .before .before .pre) (cc) (cc)
+returns-2 c = refused-5 (c .before .before .before .before .before .pre) (ap not (sym (c .before .before .before .sums-match .ensures)) ∙ c .before .before .if1 .left) (ap not (sym (c .before .kinds-named .ensures)) ∙ c .if2 .taken)
 
 returns-3 : tie.Need-returns-3
-returns-3 c = unrefused (c .before .before .before .before .before .pre) (cc) (cc)
+returns-3 c = unrefused (c .before .before .before .before .before .pre) (ap not (sym (c .before .before .before .sums-match .ensures)) ∙ c .before .before .if1 .left) (ap not (sym (c .before .kinds-named .ensures)) ∙ c .if2 .left)
 
 pub check-fields-spec : {M : Type 1} → statement M
 check-fields-spec =

@@ -1,0 +1,2 @@
+-- The texts of facts
+pub mod Texts

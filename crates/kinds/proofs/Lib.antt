@@ -1,0 +1,2 @@
+-- Passes over all entries
+pub mod Every

@@ -1,0 +1,2 @@
+-- The search for equal layouts
+pub mod Search

@@ -1,0 +1,2 @@
+-- What the search for an equal layout asks.
+pub mod Readable

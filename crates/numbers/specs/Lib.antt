@@ -1,0 +1,3 @@
+-- What the numbers say of a call and of a lookup.
+pub mod Numbers
+pub mod Facts

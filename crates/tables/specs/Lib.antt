@@ -1,0 +1,2 @@
+-- What a place stands for.
+pub mod Place
