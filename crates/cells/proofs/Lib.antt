@@ -1,0 +1,3 @@
+-- The laws of cells, for other crates to cite.
+pub mod Facts
+pub mod Target
