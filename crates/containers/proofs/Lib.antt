@@ -1,3 +1,3 @@
 -- The laws of this crate.
-pub mod Notes
+pub mod Iterators
 pub mod Rules

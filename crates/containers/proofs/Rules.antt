@@ -17,7 +17,7 @@ use Rattle.model.specs.declared.FactCell.{FactCell}
 use Rattle.model.specs.declared.Instruction.{Instruction}
 use Rattle.cells.specs.Target.{targetCell}
 use Rattle.cells.proofs.Target.{targeted, untargeted}
-use Rattle.containers.proofs.Notes.{no-container}
+use Rattle.cells.proofs.Notes.{no-container}
 
 module _ (sheet : List ℕ) (pc : ℕ) (inst : Instruction) (is : inst ≡ instruction sheet pc) (slots : List ℕ) (row : Row) (slot : ℕ) where
   abbrev container : Fact

@@ -108,9 +108,23 @@ stepped slot t base half = go (ltb slot t) refl
     go true e = rw (lt-leb t slot (ltb-true slot t e)) (omega arith)
     go false e = rw (le-leb t slot (ltb-false slot t e)) (omega arith)
 
+-- ---- a slot that is not among them
+
+module _ {xs : List ℕ} {slot at : ℕ} (b : Bound xs slot at) where
+  pub none-past : length xs ≤ at → (i : ℕ) → i < length xs → getD xs i 0 ≡ slot → ⊥
+  none-past h i m q = omega (arith, b .below i (omega arith))
+
+  pub none-between : ascends xs ≡ true → at < length xs → (getD xs at 0 ≡ slot → ⊥) → (i : ℕ) → i < length xs → getD xs i 0 ≡ slot → ⊥
+  none-between h l other i m q = apart (ltb i at) refl (ltb at i) refl
+    where
+      apart : (t : Bool) → ltb i at ≡ t → (u : Bool) → ltb at i ≡ u → ⊥
+      apart true e u f = omega (arith, b .below i (ltb-true i at e))
+      apart false e true f = omega (arith, b .above at (omega arith) l, ascends-lt xs h at i (ltb-true at i f) m)
+      apart false e false f = let z : i ≡ at = omega (arith, ltb-false i at e, ltb-false at i f) in other (rw z at q)
+
 -- ---- the fact of a slot
 
-fact-at : (xs : List ℕ) (row : Row) (slot k : ℕ) → length row ≡ length xs → k < length xs → getD xs k 0 ≡ slot
+pub fact-at : (xs : List ℕ) (row : Row) (slot k : ℕ) → length row ≡ length xs → k < length xs → getD xs k 0 ≡ slot
     → ((i : ℕ) → i < k → getD xs i 0 ≡ slot → ⊥) → factFor xs row slot ≡ getD row k unknown
 unfolding factFor
 fact-at [] row slot k n l e b = absurd (not-suc-le-zero l)
@@ -120,7 +134,7 @@ fact-at (x ∷ xs) (f ∷ fs) slot (suc k) n l e b =
     rw (ne-eqb slot x (λ q. b 0 (omega arith) (sym q)))
     (fact-at xs fs slot k (omega arith) (le-of-suc-le-suc l) e (λ i m q. b (suc i) (omega arith) q))
 
-fact-nowhere : (xs : List ℕ) (row : Row) (slot : ℕ) → ((i : ℕ) → i < length xs → getD xs i 0 ≡ slot → ⊥) → factFor xs row slot ≡ unknown
+pub fact-nowhere : (xs : List ℕ) (row : Row) (slot : ℕ) → ((i : ℕ) → i < length xs → getD xs i 0 ≡ slot → ⊥) → factFor xs row slot ≡ unknown
 unfolding factFor
 fact-nowhere [] row slot b = refl
 fact-nowhere (x ∷ xs) [] slot b = refl
@@ -133,12 +147,7 @@ module _ {xs : List ℕ} {slot at : ℕ} (b : Bound xs slot at) (row : Row) wher
   fact-found n l e = fact-at xs row slot at n l e (λ i m q. omega (arith, b .below i m))
 
   pub fact-past : length xs ≤ at → factFor xs row slot ≡ unknown
-  fact-past h = fact-nowhere xs row slot (λ i m q. omega (arith, b .below i (omega arith)))
+  fact-past h = fact-nowhere xs row slot (none-past b h)
 
   pub fact-between : ascends xs ≡ true → at < length xs → (getD xs at 0 ≡ slot → ⊥) → factFor xs row slot ≡ unknown
-  fact-between h l other = fact-nowhere xs row slot (λ i m q. apart i m q (ltb i at) refl (ltb at i) refl)
-    where
-      apart : (i : ℕ) → i < length xs → getD xs i 0 ≡ slot → (t : Bool) → ltb i at ≡ t → (u : Bool) → ltb at i ≡ u → ⊥
-      apart i m q true e u f = omega (arith, b .below i (ltb-true i at e))
-      apart i m q false e true f = omega (arith, b .above at (omega arith) l, ascends-lt xs h at i (ltb-true at i f) m)
-      apart i m q false e false f = let z : i ≡ at = omega (arith, ltb-false i at e, ltb-false at i f) in other (rw z at q)
+  fact-between h l other = fact-nowhere xs row slot (none-between b h l other)

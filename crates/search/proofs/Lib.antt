@@ -1,3 +1,4 @@
--- The laws of this crate. Ascending is for other crates to cite.
+-- The laws of this crate. For other crates to cite: Ascending, Places.
 pub mod Ascending
 pub mod Rows
+pub mod Places

@@ -3,10 +3,12 @@ ghost use mathlib.Core.Path.{_≡_};
 ghost use mathlib.Core.Bool.{true, cond};
 ghost use Prim.Native.Nat.{_+_, _<_};
 ghost use lib.Dec.{ltb};
-ghost use Rattle.model.specs.Lookup.{ascends};
+ghost use Rattle.model.specs.Lookup.{ascends, place};
 ghost use Rattle.model.specs.Transfer.{factFor};
 ghost use Rattle.model.specs.Tables.{factsOf, cellOf};
+ghost use Rattle.search.specs.Place.{placed};
 ghost use Rattle.search.specs.Rows.{Tracked, Bound};
+use crate::Place;
 use cells::unknown_cell;
 use model::FactCell;
 
@@ -46,6 +48,21 @@ pub fn lower_bound(slots: &[u16], slot: usize) -> usize
         return base + 1;
     }
     base
+}
+
+// The place of a slot. No slot from 65,536 up is tracked.
+pub fn find(slots: &[u16], slot: usize) -> Place
+    requires { ⌜ ascends (now slots) ≡ true ⌝ }
+    ensures { λ r. ⌜ placed r ≡ place (now (slots .entry)) slot ⌝ }
+{
+    let at = lower_bound(slots, slot);
+    if slots.len() <= at {
+        return Place::Untracked;
+    }
+    if wide(slots[at]) != slot {
+        return Place::Untracked;
+    }
+    Place::At(at)
 }
 
 // `fact_for_tracked_source`: the fact of a slot; Unknown of an untracked one, and of a number past 65,535.

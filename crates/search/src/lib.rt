@@ -2,5 +2,11 @@
 mod bound;
 
 pub use bound::fact_for_tracked_source;
+pub use bound::find;
 pub use bound::lower_bound;
 pub use bound::wide;
+
+pub enum Place {
+    At(usize),
+    Untracked,
+}

@@ -6,7 +6,7 @@ use borrow.Author.Needs.{needs}
 use Rattle.model.specs.Fact.{Fact}
 use Rattle.model.specs.Tables.{cellOf}
 use Rattle.model.specs.Transfer.{orUnknown, mapFact, queueFact}
-use Rattle.containers.proofs.Notes.{map-noted, map-bare, queue-noted, queue-bare, no-container}
+use Rattle.cells.proofs.Notes.{map-noted, map-bare, queue-noted, queue-bare, no-container}
 use Rattle.containers.proofs.instruction_fact.Statement.{statement}
 use Rattle.containers.proofs.instruction_fact.Tie as tie
 

@@ -3,7 +3,7 @@ use mathlib.Core.Path.{ap, _∙_}
 use borrow.Author.Needs.{needs}
 use Rattle.model.specs.Fact.{kind, value}
 use Rattle.model.specs.Tables.{cellOf, factIn}
-use Rattle.containers.proofs.Notes.{init-map, init-other}
+use Rattle.containers.proofs.Iterators.{init-map, init-other}
 use Rattle.containers.proofs.iter_init_cell.Statement.{statement}
 use Rattle.containers.proofs.iter_init_cell.Tie as tie
 

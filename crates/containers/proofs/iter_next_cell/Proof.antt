@@ -3,7 +3,7 @@ use mathlib.Core.Path.{ap, _∙_}
 use borrow.Author.Needs.{needs}
 use Rattle.model.specs.Fact.{kind, value}
 use Rattle.model.specs.Tables.{cellOf, factIn}
-use Rattle.containers.proofs.Notes.{next-conflict, next-iter, next-other}
+use Rattle.containers.proofs.Iterators.{next-conflict, next-iter, next-other}
 use Rattle.containers.proofs.iter_next_cell.Statement.{statement}
 use Rattle.containers.proofs.iter_next_cell.Tie as tie
 
