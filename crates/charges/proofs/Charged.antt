@@ -12,7 +12,7 @@ use Rattle.model.specs.Transfer.{orUnknown}
 use Rattle.model.specs.Parameters.{chargeLayout, chargeLayouts, chargeFact}
 use Rattle.model.specs.declared.FactCell.{FactCell}
 use Rattle.model.specs.declared.VerifierResources.{VerifierResources}
-use Rattle.cells.proofs.Facts.{read}
+use Rattle.fact_cells.proofs.Facts.{read}
 
 module _ (sheet : List ℕ) (v : ℕ) (left : VerifierResources) where
   -- Unknown and Conflict

@@ -16,8 +16,8 @@ use Rattle.model.specs.declared.FactCell.{FactCell}
 use Rattle.model.specs.declared.Instruction.{Instruction}
 use Rattle.model.specs.declared.AnalysisKind.{AnalysisKind}
 use Rattle.model.specs.declared.AnalysisKind.the-variants.{Constant, IndexCheck, Container}
-use Rattle.cells.specs.Target.{targetCell}
-use Rattle.cells.proofs.Target.{targeted, untargeted}
+use Rattle.fact_cells.specs.Target.{targetCell}
+use Rattle.fact_cells.proofs.Target.{targeted, untargeted}
 use Rattle.effects.specs.Effect.{effectCell, factWritten}
 use Rattle.effects.specs.declared.Effect.{Effect}
 use Rattle.effects.specs.declared.Effect.the-variants.{Filled, Copied}

@@ -10,7 +10,7 @@ use Rattle.model.specs.Written.{inRange}
 use Rattle.model.specs.declared.FactCell.{FactCell}
 use Rattle.model.specs.declared.AnalysisKind.{AnalysisKind}
 use Rattle.model.specs.declared.AnalysisKind.the-variants.{Constant, IndexCheck, Container}
-use Rattle.cells.specs.Target.{targetCell}
+use Rattle.fact_cells.specs.Target.{targetCell}
 use Rattle.effects.specs.declared.Effect.{Effect}
 use Rattle.effects.specs.declared.Effect.the-variants.{Filled, Copied}
 

@@ -15,7 +15,7 @@ use Rattle.model.specs.Tables.{presentByte, rowCells, cells, cellOf}
 use Rattle.model.specs.Analyses.{rowFact}
 use Rattle.model.specs.declared.FactCell.{FactCell}
 use Rattle.finality.proofs.Cells.{length-present, present-at, length-cells, cells-part}
-use Rattle.cells.proofs.Facts.{cell}
+use Rattle.fact_cells.proofs.Facts.{cell}
 use Rattle.search.proofs.Places.{fact-found, fact-untracked, place-inside}
 use Rattle.length_facts.specs.Lengths.{Ended}
 

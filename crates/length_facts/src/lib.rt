@@ -11,7 +11,7 @@ ghost use Rattle.model.specs.Tables.{cellOf, lengthTable};
 ghost use Rattle.model.specs.Analyses.{Analysed, rowFact, lengthFacts};
 ghost use Rattle.sheet.specs.Measured.{Measured};
 ghost use Rattle.length_facts.specs.Lengths.{Ended, lengthFact, lengthKinds, lengthValues};
-use cells::unknown_cell;
+use fact_cells::unknown_cell;
 use model::FactCell;
 use search::Place;
 use search::find;

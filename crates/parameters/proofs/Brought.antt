@@ -12,7 +12,7 @@ use Rattle.model.specs.Tables.{cellOf}
 use Rattle.model.specs.Transfer.{mapFact, queueFact, orUnknown}
 use Rattle.model.specs.Parameters.{paramFactBy, paramFact}
 use Rattle.model.specs.declared.FactCell.{FactCell}
-use Rattle.cells.proofs.Facts.{kind-of}
+use Rattle.fact_cells.proofs.Facts.{kind-of}
 
 module _ (sheet : List ℕ) (i : ℕ) {k : ℕ} (is : k ≡ paramKind sheet i) where
   pub map-param : k ≡ 1 → some (mapFact (paramA sheet i) (paramB sheet i)) ≡ paramFact sheet i

@@ -26,7 +26,7 @@ use Rattle.budget.specs.declared.Metering.the-variants.{Covered, Refused}
 use Rattle.sheet.proofs.Adding.{Added, added-none, added-more}
 use Rattle.search.specs.Rows.{Lies}
 use Rattle.parameters.specs.First.{Rowed, setAt, first, firstOf}
-use Rattle.cells.proofs.Facts.{read, kind-of, value-of}
+use Rattle.fact_cells.proofs.Facts.{read, kind-of, value-of}
 use Rattle.parameters.proofs.Made.{put-lies, made, unmade, made-of, unmade-of}
 use Rattle.budget.proofs.Spending.{covered, refused, then-covered, then-refused}
 

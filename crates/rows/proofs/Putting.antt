@@ -14,7 +14,7 @@ use Rattle.model.specs.declared.FactCell.{FactCell}
 use Rattle.search.specs.Rows.{Bound}
 use Rattle.search.proofs.Ascending.{ascends-lt}
 use Rattle.rows.specs.Wrote.{Wrote}
-use Rattle.rows.proofs.Writing.{Partly, partly-start, partly-more, partly-all, wrote}
+use Rattle.rows.proofs.Writing.{partly-start, partly-more, partly-all, wrote}
 
 module _ (slots : List ℕ) (below : (k : ℕ) → k < length slots → getD slots k 0 < 65536) (asc : ascends slots ≡ true) (slot at : ℕ) (b : Bound slots slot at)
     (cell : FactCell) (kinds values : List ℕ) (nk : length kinds ≡ length slots) (nv : length values ≡ length slots) where

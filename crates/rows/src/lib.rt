@@ -1,6 +1,6 @@
 // Facts written into a row, slot by slot, from the row before.
 ghost use mathlib.Core.Path.{_≡_};
-ghost use Prim.Native.Nat.{ℕ, _+_, _<_, _≤_};
+ghost use Prim.Native.Nat.{_+_, _<_, _≤_};
 ghost use lib.ListN.{length};
 ghost use Rattle.model.specs.Tables.{factsOf};
 ghost use Rattle.model.specs.Written.{inRange, inRanges};

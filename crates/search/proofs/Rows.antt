@@ -7,7 +7,7 @@ use native.Mathlib.Omega.{arith}
 use lib.ListN.{length, getD, length-map, List·getD-map}
 use Rattle.model.specs.Fact.{unknown, kind, value, Row}
 use Rattle.model.specs.Tables.{cellOf, factsOf}
-use Rattle.cells.proofs.Facts.{cell}
+use Rattle.fact_cells.proofs.Facts.{cell}
 use Rattle.search.specs.Rows.{Lies, Tracked}
 
 -- the cell at a place

@@ -9,7 +9,7 @@ ghost use Rattle.model.specs.Tables.{factsOf, cellOf};
 ghost use Rattle.search.specs.Place.{placed};
 ghost use Rattle.search.specs.Rows.{Tracked, Bound};
 use crate::Place;
-use cells::unknown_cell;
+use fact_cells::unknown_cell;
 use model::FactCell;
 
 // A slot's number as a count of slots.

@@ -10,7 +10,7 @@ ghost use Rattle.stages.specs.Parts.{entering, stagedOf};
 use crate::Staged;
 use budget::Metering;
 use charges::charge_matrix;
-use entry::first_row;
+use first_row::first_row;
 use model::AnalysisKind;
 use model::Counts;
 use model::VerifierResources;

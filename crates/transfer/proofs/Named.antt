@@ -1,6 +1,6 @@
 -- The slots that an instruction writes, as one range or several.
 -- Assumes nothing.
-use mathlib.Core.Path.{_≡_, refl, sym, ap, _∙_}
+use mathlib.Core.Path.{_≡_, refl, ap, _∙_}
 use mathlib.Core.Logic.{_≢_}
 use mathlib.Core.Bool.{Bool, true, false, _&&_}
 use mathlib.Core.List.{List}
@@ -22,7 +22,7 @@ use Rattle.memory.specs.Front.{Holds}
 use Rattle.sheet.specs.Measured.{Accepted}
 use Rattle.sheet.specs.declared.Sizes.{Sizes}
 use Rattle.writes.proofs.Rules.{all-written, ranges-inside, by-ranges, set-written, elements-written, nothing-written, ranges-written, not-checked, as-others, set-checked, setn-checked}
-use Rattle.cells.proofs.Facts.{read}
+use Rattle.fact_cells.proofs.Facts.{read}
 use Rattle.rows.specs.Slots.{names, lastRange, Names}
 use Rattle.rows.specs.declared.Written.{Written}
 use Rattle.rows.specs.declared.Written.the-variants.{Span, Ranges}

@@ -1,7 +1,7 @@
 // A row through an instruction, once for the three analyses.
 ghost use mathlib.Core.Path.{_≡_};
 ghost use mathlib.Core.Bool.{true};
-ghost use Prim.Native.Nat.{ℕ, _<_};
+ghost use Prim.Native.Nat.{_<_};
 ghost use lib.ListN.{length};
 ghost use Rattle.model.specs.Fact.{Row};
 ghost use Rattle.model.specs.Lookup.{ascends};

@@ -1,6 +1,6 @@
 // Which slots an instruction writes, found once, so that only those are visited.
 ghost use mathlib.Core.Path.{_≡_};
-ghost use Prim.Native.Nat.{ℕ, _<_};
+ghost use Prim.Native.Nat.{_<_};
 ghost use Rattle.model.specs.Sheet.{instruction, codeCount, firstRange, erred};
 ghost use Rattle.model.specs.Tables.{factsOf};
 ghost use Rattle.model.specs.Transfer.{factFor};

@@ -7,7 +7,7 @@ use Rattle.model.specs.Tables.{cellOf}
 use Rattle.model.specs.Transfer.{orUnknown, mapFact, queueFact}
 use Rattle.model.specs.declared.Instruction.{Instruction}
 use Rattle.sheet.proofs.Inside.{code-inside}
-use Rattle.cells.proofs.Notes.{map-noted, map-bare, queue-noted, queue-bare, no-container}
+use Rattle.fact_cells.proofs.Notes.{map-noted, map-bare, queue-noted, queue-bare, no-container}
 use borrow.Author.Needs.{needs}
 use Rattle.charges.proofs.layouts.instruction_fact.Statement.{statement}
 use Rattle.charges.proofs.layouts.instruction_fact.Tie as tie

@@ -5,7 +5,7 @@ use borrow.Author.Needs.{needs}
 use Rattle.model.specs.Fact.{Fact}
 use Rattle.model.specs.Tables.{cellOf, factsOf}
 use Rattle.model.specs.Transfer.{factFor, iterNext}
-use Rattle.cells.proofs.Facts.{read}
+use Rattle.fact_cells.proofs.Facts.{read}
 use Rattle.effects.proofs.Rules.{iterates-on}
 use Rattle.effects.proofs.Targets.{filled-one}
 use Rattle.effects.proofs.effects.container_effect.Statement.{statement}

@@ -7,7 +7,7 @@ use Rattle.stages.proofs.entering.enter.Statement.{statement}
 use Rattle.stages.proofs.entering.enter.Tie as tie
 use Rattle.stages.proofs.entering.enter.Reads as reads
 use Rattle.stages.proofs.entering.enter.Lts as lts
-use Rattle.entry.proofs.first_row.Reads as first-row-reads
+use Rattle.first_row.proofs.first_row.Reads as first-row-reads
 use Rattle.charges.proofs.charge_matrix.Reads as charge-matrix-reads
 
 charge-matrix-requires : tie.Need-charge-matrix-requires
