@@ -15,7 +15,7 @@ use Rattle.model.specs.Analyses.{Analysed, analysis, askRoom, chargeMatrix, fir
 use Rattle.model.specs.declared.VerifierResources.{VerifierResources}
 use Rattle.model.specs.declared.AnalysisKind.{AnalysisKind}
 use Rattle.model.specs.declared.AnalysisKind.the-variants.{Constant, IndexCheck, Container}
-use Rattle.parameters.proofs.Runs.{same-run, other-run}
+use Rattle.length_facts.proofs.Runs.{same-run, other-run}
 
 continue-same : {A B : Type 0} (f g : A → Metered B) → ((a : A) (left : VerifierResources) → f a left ≡ g a left) → (spent : Spent A) → continue f spent ≡ continue g spent
 unfolding continue

@@ -15,7 +15,7 @@ use Rattle.model.specs.declared.Counts.{Counts}
 use Rattle.model.specs.declared.VerifierResources.{VerifierResources}
 use Rattle.model.specs.declared.Answer.{Answer}
 use Rattle.model.specs.declared.Answer.the-variants.{Analyzed, Invalid, OverBudget, NoRoom}
-use Rattle.parameters.specs.Lengths.{Ended, lengthKinds, lengthValues}
+use Rattle.length_facts.specs.Lengths.{Ended, lengthKinds, lengthValues}
 use Rattle.model.specs.Tables.{lengthTable}
 use Rattle.analyses.specs.Chain.{refusing}
 use Rattle.analyses.specs.Lengths.{Stored, Lengthened}

@@ -13,7 +13,7 @@ use Rattle.model.specs.Tables.{presentBytes, cells}
 use Rattle.model.specs.Analyses.{Analysed, lengthFacts}
 use Rattle.model.specs.Lookup.{ascends}
 use Rattle.model.specs.declared.Counts.{Counts}
-use Rattle.parameters.specs.Lengths.{lengthKinds, lengthValues}
+use Rattle.length_facts.specs.Lengths.{lengthKinds, lengthValues}
 use Rattle.model.specs.Tables.{lengthTable}
 
 -- the tables of an ended analysis in the first places of an output

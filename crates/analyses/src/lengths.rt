@@ -10,8 +10,8 @@ ghost use Rattle.model.specs.declared.VerifierResources.{VerifierResources};
 ghost use Rattle.sheet.specs.Measured.{Measured};
 ghost use Rattle.analyses.specs.Chain.{refusing};
 ghost use Rattle.analyses.specs.Lengths.{Stored, Lengthened};
+use length_facts::length_facts;
 use model::Answer;
-use parameters::length_facts;
 use sheet::Sizes;
 
 // The constants' facts at each IndexCheck, from the output of the constant analysis; nothing where the answer so far is a refusal.

@@ -1,12 +1,5 @@
--- The laws of this crate. For the caller of `length_facts`: Stored, what its tables read as, and Runs, that the index run is the same by them.
--- For the caller of `first_row`: Begun, what its answer says.
-pub mod Places
-pub mod Facts
-pub mod Tables
-pub mod Stored
-pub mod Runs
-pub mod Layouts
-pub mod Notes
+-- The laws of this crate. For other crates to cite: Made and Begun, what the answer of a first row says.
+pub mod Brought
 pub mod Starts
 pub mod Made
 pub mod Seeded

@@ -12,8 +12,9 @@ use Rattle.model.specs.Lookup.{place}
 use Rattle.model.specs.Transfer.{put}
 use Rattle.model.specs.Analyses.{unknownRow}
 use Rattle.model.specs.declared.VerifierResources.{VerifierResources}
-use Rattle.parameters.specs.First.{Lies, Rowed, Blank, setAt, First, first, firstOf}
-use Rattle.parameters.proofs.Places.{put-found, put-untracked}
+use Rattle.search.specs.Rows.{Lies}
+use Rattle.search.proofs.Places.{put-found, put-untracked}
+use Rattle.parameters.specs.First.{Rowed, Blank, setAt, First, first, firstOf}
 
 -- ---- a row in memory
 

@@ -1,4 +1,4 @@
--- A row as it lies in memory, and the first row of a run with what it cost.
+-- A row in memory, and the first row of a run with what it cost.
 -- Assumes nothing.
 use mathlib.Core.Path.{_≡_}
 use mathlib.Core.Bool.{true}
@@ -9,11 +9,6 @@ use lib.ListN.{length, set, replicate}
 use Rattle.model.specs.Charges.{Spent, ok, stop, unfinished}
 use Rattle.model.specs.Fact.{kind, value, Row}
 use Rattle.model.specs.Lookup.{ascends}
-
--- "the row of an instruction is handed on as a part of both": its kinds and its values
-pub record Lies (row : Row) (kinds values : List ℕ) : Type 0 where
-  pub kinds-are : kinds ≡ map kind row
-  pub values-are : values ≡ map value row
 
 -- the slots ascend, and kinds and values have a place for each
 pub record Rowed (slots kinds values : List ℕ) : Type 0 where

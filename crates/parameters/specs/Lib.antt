@@ -1,5 +1,3 @@
 -- What the functions of this crate ask and answer, by the definitions of `model`.
-pub mod Place
 pub mod Start
-pub mod Lengths
 pub mod First

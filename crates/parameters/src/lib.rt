@@ -1,13 +1,5 @@
-// What a run begins with: the matrix charge, the first row with its charges, and the constants' facts that the index analysis reads.
-mod cells;
-mod charges;
-mod entry;
-mod lengths;
-mod matrix;
+// "Parameters": where they begin, the fact that each brings, and the row with these facts, charged.
 mod params;
-mod search;
 mod seeds;
 
-pub use entry::first_row;
-pub use lengths::length_facts;
-pub use matrix::charge_matrix;
+pub use seeds::param_row;

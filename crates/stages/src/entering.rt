@@ -9,11 +9,11 @@ ghost use Rattle.parameters.specs.First.{Blank, first, firstOf};
 ghost use Rattle.stages.specs.Parts.{entering, stagedOf};
 use crate::Staged;
 use budget::Metering;
+use charges::charge_matrix;
+use first_row::first_row;
 use model::AnalysisKind;
 use model::Counts;
 use model::VerifierResources;
-use parameters::charge_matrix;
-use parameters::first_row;
 use sheet::Sizes;
 use worklist::Run;
 

@@ -1,6 +1,6 @@
 -- The slots that an instruction writes, as one range or several.
 -- Assumes nothing.
-use mathlib.Core.Path.{_≡_, refl, sym, ap, _∙_}
+use mathlib.Core.Path.{_≡_, refl, ap, _∙_}
 use mathlib.Core.Logic.{_≢_}
 use mathlib.Core.Bool.{Bool, true, false, _&&_}
 use mathlib.Core.List.{List}
@@ -11,9 +11,9 @@ use lib.ListN.{getD}
 use borrow.Author.Tests.{lt-ltb, le-ltb, le-leb}
 use Rattle.model.specs.Fact.{Fact, kind, value, Row}
 use Rattle.model.specs.Sheet.{instruction, codeCount, firstRange, writeCount, erred}
-use Rattle.model.specs.Tables.{factIn, factOf, cellOf, factsOf}
+use Rattle.model.specs.Tables.{factIn, factOf, cellOf}
 use Rattle.model.specs.Transfer.{factFor}
-use Rattle.model.specs.Written.{inRange, inRanges, rangesWrite, slotLayoutNote, hasElements, noteElemSlots, written, indexWritten}
+use Rattle.model.specs.Written.{inRange, rangesWrite, slotLayoutNote, hasElements, noteElemSlots, written, indexWritten}
 use Rattle.model.specs.declared.FactCell.{FactCell}
 use Rattle.model.specs.declared.Instruction.{Instruction}
 use Rattle.model.specs.declared.AnalysisKind.{AnalysisKind}
@@ -22,12 +22,11 @@ use Rattle.memory.specs.Front.{Holds}
 use Rattle.sheet.specs.Measured.{Accepted}
 use Rattle.sheet.specs.declared.Sizes.{Sizes}
 use Rattle.writes.proofs.Rules.{all-written, ranges-inside, by-ranges, set-written, elements-written, nothing-written, ranges-written, not-checked, as-others, set-checked, setn-checked}
-use Rattle.transfer.specs.Effect.{slotWritten}
-use Rattle.transfer.specs.Rows.{Wrote}
-use Rattle.transfer.specs.Slots.{names, lastRange, Names}
-use Rattle.transfer.specs.declared.Written.{Written}
-use Rattle.transfer.specs.declared.Written.the-variants.{Span, Ranges}
-use Rattle.transfer.proofs.Facts.{read}
+use Rattle.fact_cells.proofs.Facts.{read}
+use Rattle.rows.specs.Slots.{names, lastRange, Names}
+use Rattle.rows.specs.declared.Written.{Written}
+use Rattle.rows.specs.declared.Written.the-variants.{Span, Ranges}
+use Rattle.transfer.specs.Analysis.{slotWritten}
 
 and-true : (t : Bool) → (t && true) ≡ t
 and-true true = refl
@@ -86,7 +85,7 @@ module _ (sheet : List ℕ) (sizes : Sizes) (pc : ℕ) (inst : Instruction) (e :
   module _ (fact : Fact) {cell : FactCell} (is : cell ≡ cellOf fact) where
     fact-is : factOf (cell .kind) (cell .value) ≡ fact
     unfolding factIn
-    fact-is = read fact cell is
+    fact-is = read fact is
 
     pub unchecked-names : cell .kind ≤ 1 → {r : Written} → Names r sheet sizes (written sheet pc) → Names r sheet sizes (indexWritten sheet pc fact)
     unchecked-names l n =
@@ -112,7 +111,7 @@ module _ (sheet : List ℕ) (sizes : Sizes) (pc : ℕ) (inst : Instruction) (e :
   unfolding factIn cellOf
   as-others-names fact h k n =
       renamed sheet sizes n
-      (λ slot t q. as-others sheet pc slot inst e (kind fact) (value fact) h k t q ∙ ap (λ (f : Fact). indexWritten sheet pc f slot) (read fact (cellOf fact) refl))
+      (λ slot t q. as-others sheet pc slot inst e (kind fact) (value fact) h k t q ∙ ap (λ (f : Fact). indexWritten sheet pc f slot) (read fact refl))
 
 -- ---- by the analysis
 
@@ -128,20 +127,3 @@ module _ (sheet : List ℕ) (sizes : Sizes) (pc : ℕ) (inst : Instruction) (e :
   pub index-names : which ≡ IndexCheck → Names r sheet sizes (indexWritten sheet pc (factFor slots row (inst .b))) → Names r sheet sizes (slotWritten which sheet pc slots row)
   unfolding slotWritten
   index-names w n = rw w (renamed sheet sizes n (λ slot t q. q ∙ ap (λ (x : Instruction). indexWritten sheet pc (factFor slots row (x .b)) slot) e))
-
--- ---- what is written there
-
-module _ {written : Written} where
-  pub span-wrote : (sheet : List ℕ) {start count : ℕ} {slots : List ℕ} {cell : ℕ → FactCell} {kinds values kinds′ values′ : List ℕ} → written ≡ Span start count
-      → Wrote slots (λ slot. inRange slot start count) cell kinds values kinds′ values′ → Wrote slots (names written sheet) cell kinds values kinds′ values′
-  unfolding names
-  span-wrote sheet e w = rw e w
-
-  pub ranges-wrote : (sheet : List ℕ) {first count : ℕ} {slots : List ℕ} {cell : ℕ → FactCell} {kinds values kinds′ values′ : List ℕ} → written ≡ Ranges first count
-      → Wrote slots (λ slot. inRanges sheet slot first count) cell kinds values kinds′ values′ → Wrote slots (names written sheet) cell kinds values kinds′ values′
-  unfolding names
-  ranges-wrote sheet e w = rw e w
-
-  pub ranges-fit : {first count bound : ℕ} → written ≡ Ranges first count → lastRange written ≤ bound → first + count ≤ bound
-  unfolding lastRange
-  ranges-fit e h = rw e at h

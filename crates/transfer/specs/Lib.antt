@@ -1,4 +1,2 @@
 -- What the functions of this crate ask and answer, by the definitions of `model`.
-pub mod Rows
-pub mod Effect
-pub mod Slots
+pub mod Analysis

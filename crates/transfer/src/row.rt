@@ -1,7 +1,7 @@
 // A row through an instruction, once for the three analyses.
 ghost use mathlib.Core.Path.{_≡_};
 ghost use mathlib.Core.Bool.{true};
-ghost use Prim.Native.Nat.{ℕ, _<_};
+ghost use Prim.Native.Nat.{_<_};
 ghost use lib.ListN.{length};
 ghost use Rattle.model.specs.Fact.{Row};
 ghost use Rattle.model.specs.Lookup.{ascends};
@@ -10,17 +10,17 @@ ghost use Rattle.model.specs.Tables.{factIn, factsOf};
 ghost use Rattle.model.specs.Transfer.{checkedFrom, indexChecked, transferRow};
 ghost use Rattle.memory.specs.Front.{Holds};
 ghost use Rattle.sheet.specs.Measured.{Accepted};
-ghost use Rattle.transfer.specs.Effect.{checksIndex};
-ghost use Rattle.transfer.specs.Rows.{Tracked, Lies};
-use crate::effects::effect_of;
-use crate::index::checked_cell;
-use crate::rows::put_fact;
-use crate::rows::write_slots;
-use crate::search::wide;
+ghost use Rattle.search.specs.Rows.{Tracked, Lies};
+ghost use Rattle.transfer.specs.Analysis.{checksIndex};
 use crate::spans::slots_written;
+use effects::checked_cell;
+use effects::effect_of;
 use model::AnalysisKind;
 use model::FactCell;
 use model::Instruction;
+use rows::put_fact;
+use rows::write_slots;
+use search::wide;
 use sheet::Sizes;
 
 // "Opcodes (decimal)"

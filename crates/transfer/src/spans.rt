@@ -1,20 +1,20 @@
 // Which slots an instruction writes, found once, so that only those are visited.
 ghost use mathlib.Core.Path.{_≡_};
-ghost use Prim.Native.Nat.{ℕ, _<_};
+ghost use Prim.Native.Nat.{_<_};
 ghost use Rattle.model.specs.Sheet.{instruction, codeCount, firstRange, erred};
 ghost use Rattle.model.specs.Tables.{factsOf};
 ghost use Rattle.model.specs.Transfer.{factFor};
 ghost use Rattle.model.specs.Written.{rangesWrite, written, indexWritten};
 ghost use Rattle.memory.specs.Front.{Holds};
 ghost use Rattle.sheet.specs.Measured.{Accepted};
-ghost use Rattle.transfer.specs.Effect.{slotWritten};
-ghost use Rattle.transfer.specs.Rows.{Tracked};
-ghost use Rattle.transfer.specs.Slots.{Names};
-use crate::Written;
-use crate::search::fact_for_tracked_source;
-use crate::search::wide;
+ghost use Rattle.search.specs.Rows.{Tracked};
+ghost use Rattle.rows.specs.Slots.{Names};
+ghost use Rattle.transfer.specs.Analysis.{slotWritten};
 use model::AnalysisKind;
 use model::Instruction;
+use rows::Written;
+use search::fact_for_tracked_source;
+use search::wide;
 use sheet::Sizes;
 
 // "Opcodes (decimal)"

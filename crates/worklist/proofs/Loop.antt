@@ -28,7 +28,7 @@ use Rattle.sheet.specs.declared.Sizes.{Sizes}
 use Rattle.sheet.proofs.Counted.{counted}
 use Rattle.sheet.proofs.Asked.{measured}
 use Rattle.sheet.proofs.Inside.{code-inside}
-use Rattle.transfer.specs.Rows.{Lies, Tracked}
+use Rattle.search.specs.Rows.{Lies, Tracked}
 use Rattle.worklist.specs.Laid.{RowsLaid, RowLaid, Laid, StateLaid, successorAt, Offering, Offer}
 use Rattle.worklist.specs.Turn.{lengthTable, ranAnalysis, firstOf, Running, Lending, Turn, Ran, Fresh}
 use Rattle.worklist.specs.declared.Run.the-variants.{Finished, Overdrawn}

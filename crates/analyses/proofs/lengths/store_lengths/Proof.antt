@@ -11,7 +11,7 @@ use Rattle.analyses.proofs.lengths.store_lengths.Statement.{statement}
 use Rattle.analyses.proofs.lengths.store_lengths.Tie as tie
 use Rattle.analyses.proofs.lengths.store_lengths.Reads as reads
 use Rattle.analyses.proofs.lengths.store_lengths.Lts as lts
-use Rattle.parameters.proofs.length_facts.Reads as length-facts-reads
+use Rattle.length_facts.proofs.length_facts.Reads as length-facts-reads
 
 enum-known-before : tie.Need-enum-known-before
 enum-known-before c = search needs

@@ -5,7 +5,7 @@ use mathlib.Core.Option.{Option}
 use Rattle.model.specs.Fact.{Fact}
 use Rattle.model.specs.Tables.{cellOf}
 use Rattle.model.specs.Transfer.{orUnknown, mapFact, queueFact}
-use Rattle.parameters.proofs.Notes.{map-param, queue-param, plain-param}
+use Rattle.parameters.proofs.Brought.{map-param, queue-param, plain-param}
 use borrow.Author.Needs.{needs}
 use Rattle.parameters.proofs.params.param_fact.Statement.{statement}
 use Rattle.parameters.proofs.params.param_fact.Tie as tie

@@ -1,7 +1,7 @@
 -- `parameters::seeds::put` meets its contract. Assumes nothing.
 use mathlib.Core.Path.{sym, ap, _∙_}
-use Rattle.parameters.specs.Place.{placed}
-use Rattle.parameters.proofs.Places.{place-inside}
+use Rattle.search.specs.Place.{placed}
+use Rattle.search.proofs.Places.{place-inside}
 use Rattle.parameters.proofs.Made.{set-none, set-some}
 use native.Mathlib.Omega.{arith}
 use borrow.Author.Needs.{needs}

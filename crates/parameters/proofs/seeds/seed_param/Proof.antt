@@ -5,7 +5,7 @@ use lib.ListN.{length}
 use Rattle.model.specs.Fact.{Fact}
 use Rattle.model.specs.Parameters.{paramFact, seedParam}
 use Rattle.parameters.specs.First.{firstOf}
-use Rattle.parameters.proofs.Notes.{brings-none, brings}
+use Rattle.parameters.proofs.Brought.{brings-none, brings}
 use Rattle.parameters.proofs.Seeded.{seed-none}
 use borrow.Author.Needs.{needs}
 use Rattle.parameters.proofs.seeds.seed_param.Statement.{statement}

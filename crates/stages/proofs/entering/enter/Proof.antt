@@ -7,8 +7,8 @@ use Rattle.stages.proofs.entering.enter.Statement.{statement}
 use Rattle.stages.proofs.entering.enter.Tie as tie
 use Rattle.stages.proofs.entering.enter.Reads as reads
 use Rattle.stages.proofs.entering.enter.Lts as lts
-use Rattle.parameters.proofs.first_row.Reads as first-row-reads
-use Rattle.parameters.proofs.charge_matrix.Reads as charge-matrix-reads
+use Rattle.first_row.proofs.first_row.Reads as first-row-reads
+use Rattle.charges.proofs.charge_matrix.Reads as charge-matrix-reads
 
 charge-matrix-requires : tie.Need-charge-matrix-requires
 charge-matrix-requires c κs = (limited (c .before .before .before .before .pre .0) .code-count, c .before .before .before .before .pre .4)

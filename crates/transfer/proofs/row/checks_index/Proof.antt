@@ -2,7 +2,7 @@
 use mathlib.Core.Path.{sym, ap}
 use borrow.Author.Needs.{needs}
 use Rattle.model.specs.declared.AnalysisKind.{AnalysisKind}
-use Rattle.transfer.specs.Effect.{checksIndex}
+use Rattle.transfer.specs.Analysis.{checksIndex}
 use Rattle.transfer.proofs.row.checks_index.Statement.{statement}
 use Rattle.transfer.proofs.row.checks_index.Tie as tie
 

@@ -5,7 +5,7 @@ use borrow.Author.Needs.{needs}
 use Rattle.model.specs.Tables.{factsOf}
 use Rattle.sheet.proofs.Asked.{measured}
 use Rattle.sheet.proofs.Inside.{code-inside}
-use Rattle.transfer.proofs.Putting.{transferred}
+use Rattle.transfer.proofs.Through.{transferred}
 use Rattle.transfer.proofs.row.transfer_row.Statement.{statement}
 use Rattle.transfer.proofs.row.transfer_row.Tie as tie
 

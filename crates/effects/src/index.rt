@@ -1,0 +1,52 @@
+// What the index analysis knows of a slot that an instruction writes.
+ghost use mathlib.Core.Path.{_≡_};
+ghost use Prim.Native.Nat.{ℕ};
+ghost use lib.Dec.{eqb};
+ghost use Rattle.model.specs.Tables.{factIn, cellOf, factsOf};
+ghost use Rattle.model.specs.Transfer.{checkedFrom, indexRule, indexFact};
+ghost use Rattle.fact_cells.specs.Target.{targetCell};
+ghost use Rattle.search.specs.Rows.{Tracked};
+use fact_cells::conflict_cell;
+use fact_cells::unknown_cell;
+use model::FactCell;
+use model::Instruction;
+use search::fact_for_tracked_source;
+use search::wide;
+
+// "Opcodes (decimal)"
+const COPY: u8 = 3;
+
+// IndexCheck's fact from the length's: 0 to 65,535 is Checked, any other number and Conflict are Conflict, Unknown is Unknown.
+pub fn checked_cell(length: FactCell) -> FactCell
+    ensures { λ r. ⌜ r ≡ cellOf (checkedFrom (factIn length)) ⌝ }
+{
+    if length.kind == 0 {
+        return unknown_cell();
+    }
+    if length.kind != 2 {
+        return conflict_cell();
+    }
+    if 65535 < length.value {
+        return conflict_cell();
+    }
+    FactCell {
+        kind: 2,
+        value: length.value,
+    }
+}
+
+// `index_check_fact_written_to_slot`: what a becomes, of an instruction that is no CopyN; any other slot that it writes becomes Unknown.
+pub fn index_check_fact_written_to_slot(
+    slots: &[u16],
+    kinds: &[u8],
+    values: &[u64],
+    inst: Instruction,
+) -> FactCell
+    requires { ⌜ Tracked (now slots) (now kinds) (now values) × (inst .op ≡ 4 → ⊥) ⌝ }
+    ensures { λ r. ⌜ ((slot : ℕ) → targetCell (eqb (inst .a) slot) r ≡ cellOf (indexFact (indexRule (inst .op)) inst (now (slots .entry)) (factsOf (now (kinds .entry)) (now (values .entry))) slot)) ⌝ }
+{
+    if inst.op == COPY {
+        return fact_for_tracked_source(slots, kinds, values, wide(inst.b));
+    }
+    unknown_cell()
+}

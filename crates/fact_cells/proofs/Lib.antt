@@ -1,0 +1,4 @@
+-- The laws of cells, for other crates to cite.
+pub mod Facts
+pub mod Target
+pub mod Notes

@@ -1,0 +1,5 @@
+-- The laws of this crate.
+pub mod Writing
+pub mod Ranging
+pub mod Named
+pub mod Putting

@@ -1,0 +1,25 @@
+-- Which slots an instruction writes.
+-- Assumes nothing.
+use mathlib.Core.Path.{_≡_}
+use mathlib.Core.Bool.{Bool}
+use mathlib.Core.List.{List}
+use Prim.Native.Nat.{ℕ, _+_, _≤_, _<_}
+use Rattle.model.specs.Written.{inRange, inRanges}
+use Rattle.sheet.specs.declared.Sizes.{Sizes}
+use Rattle.rows.specs.declared.Written.{Written}
+use Rattle.rows.specs.declared.Written.the-variants.{Span, Ranges}
+
+-- whether the slot is among them
+unfoldable pub names : Written → List ℕ → ℕ → Bool
+names (Span start count) sheet slot = inRange slot start count
+names (Ranges first count) sheet slot = inRanges sheet slot first count
+
+-- the end of the ranges
+unfoldable pub lastRange : Written → ℕ
+lastRange (Span start count) = 0
+lastRange (Ranges first count) = first + count
+
+-- they are the slots of which the test holds, and their ranges are among the sheet's. No slot lies past 65,535.
+pub record Names (r : Written) (sheet : List ℕ) (sizes : Sizes) (test : ℕ → Bool) : Type 0 where
+  pub slots : (slot : ℕ) → slot < 65536 → names r sheet slot ≡ test slot
+  pub fits : lastRange r ≤ sizes .«range_count»

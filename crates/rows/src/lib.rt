@@ -1,0 +1,150 @@
+// Facts written into a row, slot by slot, from the row before.
+ghost use mathlib.Core.Path.{_≡_};
+ghost use Prim.Native.Nat.{_+_, _<_, _≤_};
+ghost use lib.ListN.{length};
+ghost use Rattle.model.specs.Tables.{factsOf};
+ghost use Rattle.model.specs.Written.{inRange, inRanges};
+ghost use Rattle.sheet.specs.Measured.{Measured};
+ghost use Rattle.model.specs.Lookup.{ascends};
+ghost use mathlib.Core.Bool.{true};
+ghost use lib.Dec.{eqb};
+ghost use Rattle.effects.specs.Effect.{effectCell};
+ghost use Rattle.search.specs.Rows.{Tracked};
+ghost use Rattle.rows.specs.Wrote.{Wrote};
+ghost use Rattle.rows.specs.Slots.{names, lastRange};
+use effects::Effect;
+use effects::effect_on_slot;
+use model::FactCell;
+use search::lower_bound;
+use search::wide;
+use sheet::Sizes;
+
+// The slots that an instruction writes: those of one range, or of count ranges of the sheet from the range first on.
+pub enum Written {
+    Span { start: u16, count: u64 },
+    Ranges { first: usize, count: usize },
+}
+
+// The tracked slots from start up to but not including start + count become what the effect makes of them.
+fn write_range(
+    effect: Effect,
+    slots: &[u16],
+    kinds: &[u8],
+    values: &[u64],
+    start: u16,
+    count: u64,
+    out_kinds: &mut [u8],
+    out_values: &mut [u64],
+)
+    requires { ⌜ Tracked (now slots) (now kinds) (now values) × (length (now «out_kinds») ≡ length (now slots)) × (length (now «out_values») ≡ length (now slots)) ⌝ }
+    ensures { λ r. ⌜ Wrote (now (slots .entry)) (λ slot. inRange slot start count) (effectCell effect (now (slots .entry)) (factsOf (now (kinds .entry)) (now (values .entry)))) (now («out_kinds» .entry)) (now («out_values» .entry)) (now («out_kinds» .exit)) (now («out_values» .exit)) ⌝ }
+{
+    let mut j = lower_bound(slots, wide(start));
+    while j < slots.len() {
+        let slot = slots[j];
+        if count <= (slot - start) as u64 {
+            return;
+        }
+        let cell = effect_on_slot(effect, slots, kinds, values, slot);
+        out_kinds[j] = cell.kind;
+        out_values[j] = cell.value;
+        j += 1;
+    }
+}
+
+// The same for count ranges of the sheet, from the range first on.
+fn write_ranges(
+    effect: Effect,
+    sheet: &[u8],
+    sizes: Sizes,
+    slots: &[u16],
+    kinds: &[u8],
+    values: &[u64],
+    first: usize,
+    count: usize,
+    out_kinds: &mut [u8],
+    out_values: &mut [u64],
+)
+    requires { ⌜ Measured (now sheet) sizes × (first + count ≤ sizes .«range_count») ⌝ }
+    requires { ⌜ Tracked (now slots) (now kinds) (now values) × (length (now «out_kinds») ≡ length (now slots)) × (length (now «out_values») ≡ length (now slots)) ⌝ }
+    ensures { λ r. ⌜ Wrote (now (slots .entry)) (λ slot. inRanges (now (sheet .entry)) slot first count) (effectCell effect (now (slots .entry)) (factsOf (now (kinds .entry)) (now (values .entry)))) (now («out_kinds» .entry)) (now («out_values» .entry)) (now («out_kinds» .exit)) (now («out_values» .exit)) ⌝ }
+{
+    let mut i = 0;
+    while i < count {
+        let start = sheet::range_start_at(sheet, sizes, first + i);
+        let length = sheet::range_length_at(sheet, sizes, first + i) as u64;
+        write_range(
+            effect,
+            slots,
+            kinds,
+            values,
+            start,
+            length,
+            out_kinds,
+            out_values,
+        );
+        i += 1;
+    }
+}
+
+// The same for all that an instruction writes.
+pub fn write_slots(
+    effect: Effect,
+    written: Written,
+    sheet: &[u8],
+    sizes: Sizes,
+    slots: &[u16],
+    kinds: &[u8],
+    values: &[u64],
+    out_kinds: &mut [u8],
+    out_values: &mut [u64],
+)
+    requires { ⌜ Measured (now sheet) sizes × (lastRange written ≤ sizes .«range_count») ⌝ }
+    requires { ⌜ Tracked (now slots) (now kinds) (now values) × (length (now «out_kinds») ≡ length (now slots)) × (length (now «out_values») ≡ length (now slots)) ⌝ }
+    ensures { λ r. ⌜ Wrote (now (slots .entry)) (names written (now (sheet .entry))) (effectCell effect (now (slots .entry)) (factsOf (now (kinds .entry)) (now (values .entry)))) (now («out_kinds» .entry)) (now («out_values» .entry)) (now («out_kinds» .exit)) (now («out_values» .exit)) ⌝ }
+{
+    match written {
+        Written::Span { start, count } => {
+            write_range(
+                effect,
+                slots,
+                kinds,
+                values,
+                start,
+                count,
+                out_kinds,
+                out_values,
+            );
+        }
+        Written::Ranges { first, count } => {
+            write_ranges(
+                effect,
+                sheet,
+                sizes,
+                slots,
+                kinds,
+                values,
+                first,
+                count,
+                out_kinds,
+                out_values,
+            );
+        }
+    }
+}
+
+// One slot's fact is set, if the slot is tracked.
+pub fn put_fact(slots: &[u16], slot: usize, cell: FactCell, kinds: &mut [u8], values: &mut [u64])
+    requires { ⌜ (ascends (now slots) ≡ true) × (length (now kinds) ≡ length (now slots)) × (length (now values) ≡ length (now slots)) ⌝ }
+    ensures { λ r. ⌜ Wrote (now (slots .entry)) (λ t. eqb t slot) (λ t. cell) (now (kinds .entry)) (now (values .entry)) (now (kinds .exit)) (now (values .exit)) ⌝ }
+{
+    let at = lower_bound(slots, slot);
+    if slots.len() <= at {
+        return;
+    }
+    if wide(slots[at]) != slot {
+        return;
+    }
+    kinds[at] = cell.kind;
+    values[at] = cell.value;
+}

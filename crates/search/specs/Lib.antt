@@ -1,0 +1,3 @@
+-- What the functions of this crate ask and answer, by the definitions of `model`.
+pub mod Rows
+pub mod Place

@@ -1,0 +1,28 @@
+-- A row as it lies in memory, and where a slot stands among the tracked ones.
+-- Assumes nothing.
+use mathlib.Core.Path.{_≡_}
+use mathlib.Core.Bool.{true}
+use mathlib.Core.List.{List, map}
+use Prim.Native.Nat.{ℕ, _≤_, _<_}
+use lib.ListN.{length, getD}
+use Rattle.model.specs.Fact.{kind, value, Row}
+use Rattle.model.specs.Lookup.{ascends}
+use Rattle.model.specs.Tables.{factsOf}
+
+-- "the row of an instruction is handed on as a part of both": the row's kinds and values
+pub record Lies (row : Row) (kinds values : List ℕ) : Type 0 where
+  pub kinds-are : kinds ≡ map kind row
+  pub values-are : values ≡ map value row
+
+-- what the readers of a row ask: the slots ascend, and kinds and values hold a fact for each
+pub record Tracked (slots kinds values : List ℕ) : Type 0 where
+  pub ascending : ascends slots ≡ true
+  pub kinds-long : length kinds ≡ length slots
+  pub values-long : length values ≡ length slots
+  pub lies : Lies (factsOf kinds values) kinds values
+
+-- how many of the slots lie below the given one: those before r do, and no others
+pub record Bound (slots : List ℕ) (slot r : ℕ) : Type 0 where
+  pub within : r ≤ length slots
+  pub below : (k : ℕ) → k < r → getD slots k 0 < slot
+  pub above : (k : ℕ) → r ≤ k → k < length slots → slot ≤ getD slots k 0

@@ -1,0 +1,58 @@
+-- IndexCheck, and a whole row through an instruction.
+-- Assumes nothing.
+use mathlib.Core.Path.{_≡_, refl, subst}
+use mathlib.Core.Bool.{Bool, true, false}
+use mathlib.Core.List.{List}
+use Prim.Native.Nat.{ℕ}
+use lib.Dec.{eqb}
+use Rattle.model.specs.Fact.{Fact, Row}
+use Rattle.model.specs.Sheet.{instruction}
+use Rattle.model.specs.Tables.{cellOf}
+use Rattle.model.specs.Transfer.{eachCell, replaced, put, constantCell, constantTransfer, indexCell, indexTransfer, containerCell, containerTransfer, checkedFrom, indexChecked, transferRow}
+use Rattle.model.specs.declared.FactCell.{FactCell}
+use Rattle.model.specs.declared.Instruction.{Instruction}
+use Rattle.model.specs.declared.AnalysisKind.{AnalysisKind}
+use Rattle.model.specs.declared.AnalysisKind.the-variants.{Constant, IndexCheck, Container}
+use Rattle.sheet.specs.declared.Sizes.{Sizes}
+use Rattle.search.specs.Rows.{Lies}
+use Rattle.effects.specs.Effect.{factWritten}
+use Rattle.rows.specs.Slots.{names, Names}
+use Rattle.rows.specs.Wrote.{Wrote}
+use Rattle.rows.specs.declared.Written.{Written}
+use Rattle.transfer.specs.Analysis.{slotWritten, checksIndex}
+
+-- ---- IndexCheck
+
+module _ (inst : Instruction) (slots : List ℕ) (fact : Fact) {test : Bool} {kinds values : List ℕ} (row : Row) (l : Lies row kinds values) where
+  pub index-checked : {t : Bool} → t ≡ test → t ≡ true → {slot : ℕ} → slot ≡ inst .a → {cell : FactCell} → cell ≡ cellOf fact → {kinds′ values′ : List ℕ}
+      → Wrote slots (λ t. eqb t slot) (λ t. cell) kinds values kinds′ values′ → Lies (indexChecked test inst slots fact row) kinds′ values′
+  unfolding indexChecked put
+  index-checked p q s e w = rw (← p, q) (w .row row (λ t. eqb t (inst .a)) (λ t. fact) l (λ t h. rw s) (λ t. e))
+
+  pub not-checked : {t : Bool} → t ≡ test → t ≡ false → Lies (indexChecked test inst slots fact row) kinds values
+  unfolding indexChecked
+  not-checked p q = rw (← p, q) l
+
+-- ---- a row through an instruction
+
+module _ (sheet : List ℕ) (pc : ℕ) (slots : List ℕ) (row : Row) where
+  written-row : AnalysisKind → Row
+  written-row which = eachCell (λ slot f. replaced (slotWritten which sheet pc slots row slot) f (factWritten which sheet pc slots row slot)) slots row
+
+  transfer-is : (which : AnalysisKind) (lengthFact : ℕ → Fact)
+      → indexChecked (checksIndex which (instruction sheet pc .op)) (instruction sheet pc) slots (checkedFrom (lengthFact pc)) (written-row which) ≡ transferRow which sheet slots lengthFact pc row
+  unfolding written-row slotWritten factWritten checksIndex indexChecked constantCell constantTransfer indexCell indexTransfer containerCell containerTransfer transferRow
+  transfer-is Constant f = refl
+  transfer-is IndexCheck f = refl
+  transfer-is Container f = refl
+
+  pub transferred : (which : AnalysisKind) (fact : Fact) (inst : Instruction) → inst ≡ instruction sheet pc → {kinds values copied-kinds copied-values : List ℕ} → Lies row kinds values
+      → copied-kinds ≡ kinds → copied-values ≡ values → (w : Written) (sizes : Sizes) → Names w sheet sizes (slotWritten which sheet pc slots row)
+      → (cell : ℕ → FactCell) → ((slot : ℕ) → cell slot ≡ cellOf (factWritten which sheet pc slots row slot))
+      → {kinds′ values′ kinds″ values″ : List ℕ} → Wrote slots (names w sheet) cell copied-kinds copied-values kinds′ values′
+      → ((r : Row) → Lies r kinds′ values′ → Lies (indexChecked (checksIndex which (inst .op)) inst slots (checkedFrom fact) r) kinds″ values″)
+      → Lies (transferRow which sheet slots (λ p. fact) pc row) kinds″ values″
+  unfolding written-row
+  transferred which fact inst e l ck cv w sizes n cell cells {kinds″ = ks} {values″ = vs} wr check =
+      subst (λ (r : Row). Lies r ks vs) (transfer-is which (λ p. fact))
+      (rw e at (check (written-row which) (wr .row row (slotWritten which sheet pc slots row) (factWritten which sheet pc slots row) (rw (ck, cv) l) (n .slots) cells)))
