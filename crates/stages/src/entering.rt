@@ -15,7 +15,7 @@ use model::VerifierResources;
 use parameters::charge_matrix;
 use parameters::first_row;
 use sheet::Sizes;
-use worklist::Run;
+use turns::Run;
 
 // "its matrix charge", then the first row with its charges, in a row that is zero; a refusal leaves it zero.
 pub fn enter(

@@ -10,7 +10,8 @@ use lib.ListN.{length, getD, set}
 use Rattle.model.specs.Fact.{Row, kind, value}
 use Rattle.model.specs.Run.{State, rowAt, merged, news, visits}
 use Rattle.model.specs.Tables.{presentBytes, cells, stacked}
-use Rattle.model.specs.Sheet.{layoutCount, layoutStart}
+use Rattle.model.specs.Sheet.{codeCount, layoutCount, layoutStart}
+use Rattle.model.specs.Successors.{sheetSuccessors}
 use Rattle.memory.specs.Front.{Holds}
 use Rattle.sheet.specs.Measured.{Accepted}
 use Rattle.sheet.specs.declared.Sizes.{Sizes}
@@ -82,3 +83,26 @@ unfoldable pub Offer : (ℕ → ℕ → ℕ → ℕ → Bool) → ℕ → Instru
 Offer same s successors k rowKinds rowValues present kinds values list top present′ kinds′ values′ list′ top′ =
     (room : ℕ) (st : State) (copy : Row) → StateLaid s room st present kinds values list top → RowLaid s copy rowKinds rowValues → length (st .list) < room
     → StateLaid s room (visits same copy (successorAt successors k) st) present′ kinds′ values′ list′ top′
+
+-- What the offers to all successors of p ask: a row and a state in the tables, and room behind them for one more entry.
+pub record Following (same : ℕ → ℕ → ℕ → ℕ → Bool) (sheet : List ℕ) (sizes : Sizes) (starts : List ℕ) (p top : ℕ) (rowKinds rowValues present kinds values list : List ℕ) : Type 0 where
+  pub accepted : Accepted sheet sizes
+  pub starts-are : Holds (layoutStart sheet) (layoutCount sheet) starts
+  pub below : p < codeCount sheet
+  pub little : codeCount sheet ≤ 4096
+  pub present-length : length present ≡ codeCount sheet
+  pub list-little : length list ≤ 536866816
+  pub row-values-length : length rowValues ≡ length rowKinds
+  pub kinds-length : length kinds ≡ length present * length rowKinds
+  pub values-length : length values ≡ length present * length rowKinds
+  pub st : State
+  pub copy : Row
+  pub laid : StateLaid (length rowKinds) (length list) st present kinds values list top
+  pub row-laid : RowLaid (length rowKinds) copy rowKinds rowValues
+  pub room : length (visits same copy (sheetSuccessors sheet p) st .list) < length list
+
+-- "Then each successor in order": what the offers to all of them make of whatever state lies there.
+unfoldable pub Follow : (ℕ → ℕ → ℕ → ℕ → Bool) → ℕ → List ℕ → List ℕ → List ℕ → List ℕ → List ℕ → List ℕ → List ℕ → ℕ → List ℕ → List ℕ → List ℕ → List ℕ → ℕ → Type 0
+Follow same s targets rowKinds rowValues present kinds values list top present′ kinds′ values′ list′ top′ =
+    (room : ℕ) (st : State) (copy : Row) → StateLaid s room st present kinds values list top → RowLaid s copy rowKinds rowValues → length (visits same copy targets st .list) < room
+    → StateLaid s room (visits same copy targets st) present′ kinds′ values′ list′ top′

@@ -3,12 +3,12 @@
 use mathlib.Core.List.{[]}
 use native.Mathlib.Omega.{arith}
 use borrow.Author.Needs.{needs}
-use Rattle.worklist.proofs.Laying.{offering-visit, offer-push, offer-quiet, offer-none}
-use Rattle.worklist.proofs.visits.offer.Statement.{statement}
-use Rattle.worklist.proofs.visits.offer.Tie as tie
-use Rattle.worklist.proofs.visits.offer.Reads as reads
-use Rattle.worklist.proofs.visits.offer.Lts as lts
-use Rattle.worklist.proofs.visits.visit.Reads as visit-reads
+use Rattle.steps.proofs.Laying.{offering-visit, offer-push, offer-quiet, offer-none}
+use Rattle.steps.proofs.visits.offer.Statement.{statement}
+use Rattle.steps.proofs.visits.offer.Tie as tie
+use Rattle.steps.proofs.visits.offer.Reads as reads
+use Rattle.steps.proofs.visits.offer.Lts as lts
+use Rattle.steps.proofs.visits.visit.Reads as visit-reads
 
 cast-len : tie.Need-cast-len
 cast-len c = search needs

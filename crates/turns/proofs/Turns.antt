@@ -1,4 +1,4 @@
--- The loop's state between two turns (`Running`) and inside one (`Midway`), and how it goes on.
+-- The loop's state between two turns (`Running`) and inside one (`Taken`), and how it goes on.
 -- Assumes nothing.
 use mathlib.Core.Path.{_≡_, refl, sym, ap, ap₂, _∙_}
 use mathlib.Core.Logic.{_⊎_, inl, inr}
@@ -10,20 +10,19 @@ use native.Mathlib.Nat.{zero-mul, mul-le-mul-right, not-suc-le-zero}
 use native.Mathlib.Omega.{arith}
 use lib.ListN.{length, getD, set, replicate, length-replicate, length-map, replicate-append-replicate}
 use lib.Seq.{getD-set-same}
-use borrow.Rule.Slice.PartMut.{midOf}
 use Rattle.model.specs.Fact.{Fact, kind, value, Row}
-use Rattle.model.specs.Run.{Analysis, State, RunEnd, finished, overdrawn, next, ended, rowAt, news, merged, visit, visits, popped, step, bound, start, run}
+use Rattle.model.specs.Run.{Analysis, State, RunEnd, finished, overdrawn, next, ended, rowAt, news, merged, visit, visits, carry, popped, step, bound, start, run}
 use Rattle.model.specs.Tables.{presentByte, presentBytes, rowCells, cells, stacked, tableRow}
-use Rattle.model.specs.Demand.{Lawful, Reachable, along, Present, Visited, begun, then}
+use Rattle.model.specs.Demand.{Lawful, Present, Visited, begun, then}
 use Rattle.finality.proofs.Cells.{length-cells, length-present, length-stacked, stacked-top, stacked-pop}
 use Rattle.finality.proofs.Steps.{step-empty, step-refused, step-next}
-use Rattle.finality.proofs.Invariant.{Good, none-some, rowAt-replicate, popped-pending, visit-good}
+use Rattle.finality.proofs.Invariant.{Good, none-some, rowAt-replicate}
 use Rattle.finality.proofs.Final.{visited-good}
 use Rattle.finality.proofs.Memory.{row-part}
 use Rattle.finality.proofs.Fuel.{run-is}
-use Rattle.worklist.specs.Laid.{RowsLaid, RowLaid, StateLaid}
-use Rattle.worklist.specs.Turn.{Running}
-use Rattle.worklist.proofs.Laying.{mid-row}
+use Rattle.steps.specs.Laid.{RowsLaid, StateLaid}
+use Rattle.steps.proofs.Offers.{visits-count, visits-left}
+use Rattle.turns.specs.Turn.{Running}
 
 -- ---- lists
 
@@ -129,110 +128,35 @@ module _ (a : Analysis) (law : Lawful a) where
           let z : bound a - 0 ≡ bound a = omega arith in
           r .laid .list-is ∙ rw (e, z)
 
-  -- ---- inside a turn: the copy has yet to go to `pending`
+  -- ---- inside a turn: the entry p is taken, and its step is to come
 
-  pub record Midway (left : ℕ) (present kinds values rowKinds rowValues list : List ℕ) (top pops rest : ℕ) (pending : List ℕ) : Type 0 where
+  pub record Taken (left : ℕ) (present kinds values list : List ℕ) (top pops rest p : ℕ) : Type 0 where
     pub st : State
-    pub copy : Row
-    pub good : Good a copy pending st
-    pub ways : (q : ℕ) → Member q pending → (q < n) × Reachable a q
-    pub visited : Visited a left (visits same copy pending st)
+    pub row : Row
+    pub stands : rowAt (st .rows) p ≡ some row
+    pub visited : Visited a left (carry a p (some row) st)
     pub laid : StateLaid s (bound a) st present kinds values list top
-    pub row-laid : RowLaid s copy rowKinds rowValues
     pub count-is : pops ≡ st .count
     pub left-is : rest ≡ st .left
     pub counted : 0 < pops
 
-  row-lengths : (copy : Row) (rowKinds rowValues : List ℕ) → RowLaid s copy rowKinds rowValues → (length rowKinds ≡ s) × (length rowValues ≡ s)
-  row-lengths copy rowKinds rowValues l =
-      (ap length (l .kinds-are) ∙ length-map copy kind ∙ l .sized, ap length (l .values-are) ∙ length-map copy value ∙ l .sized)
-
-  module _ (left : ℕ) (present kinds values rowKinds rowValues list : List ℕ) (top pops rest : ℕ) where
-    pub midway-sizes : (pending : List ℕ) → Midway left present kinds values rowKinds rowValues list top pops rest pending → Sizes present kinds values list top pops
-    midway-sizes pending m = sizes (m .copy) pending (m .st) present kinds values list top pops (m .good) (m .laid) (m .count-is)
-
-    pub midway-row : (pending : List ℕ) → Midway left present kinds values rowKinds rowValues list top pops rest pending → (length rowKinds ≡ s) × (length rowValues ≡ s)
-    midway-row pending m = row-lengths (m .copy) rowKinds rowValues (m .row-laid)
-
-    -- room for one more entry: one was taken
-    pub midway-room : (pending : List ℕ) → Midway left present kinds values rowKinds rowValues list top pops rest pending → top < length list
-    midway-room pending m = omega (arith, midway-sizes pending m, m .counted)
-
-    -- the last successor is done
-    pub midway-end : Midway left present kinds values rowKinds rowValues list top pops rest [] → Running a left present kinds values rowKinds rowValues list top pops rest
-    unfolding visits
-    midway-end m = record {
-      st = m .st;
-      visited = m .visited;
-      laid = m .laid;
-      count-is = m .count-is;
-      left-is = m .left-is;
-      row-kinds-length = midway-row [] m .0;
-      row-values-length = midway-row [] m .1;
-    }
-
-    -- one successor is visited
-    pub midway-visit : (q : ℕ) (qs : List ℕ) (present′ kinds′ values′ list′ : List ℕ) (top′ : ℕ)
-        → (m : Midway left present kinds values rowKinds rowValues list top pops rest (q ∷ qs))
-        → StateLaid s (bound a) (visit same (m .copy) q (m .st)) present′ kinds′ values′ list′ top′
-        → Midway left present′ kinds′ values′ rowKinds rowValues list′ top′ pops rest qs
-    unfolding visits visit
-    midway-visit q qs present′ kinds′ values′ list′ top′ m l = record {
-      st = visit same (m .copy) q (m .st);
-      copy = m .copy;
-      good = visit-good a law (m .copy) q qs (m .st) (m .row-laid .sized) (m .ways q (head refl) .0) (m .ways q (head refl) .1) (m .good);
-      ways = λ t k. m .ways t (tail k);
-      visited = m .visited;
-      laid = l;
-      row-laid = m .row-laid;
-      count-is = m .count-is;
-      left-is = m .left-is;
-      counted = m .counted;
-    }
-
-  -- an entry is taken, its charge is covered, and its row is carried through
+  -- an entry is taken, and its charge is covered
   module _ (hn : 0 < n) (left : ℕ) (present kinds values rowKinds rowValues list : List ℕ) (top pops rest : ℕ)
       (r : Running a left present kinds values rowKinds rowValues list top pops rest) (some-top : 0 < top) where
-    -- the row of the entry, as it lies in the tables
-    pub entry-row : Row
-    entry-row = entry-present hn left present kinds values rowKinds rowValues list top pops rest r some-top .0
-
-    pub entry-part : (midOf (getD list (top - 1) 0 * s) (getD list (top - 1) 0 * s + s - getD list (top - 1) 0 * s) kinds ≡ map kind entry-row)
-        × (midOf (getD list (top - 1) 0 * s) (getD list (top - 1) 0 * s + s - getD list (top - 1) 0 * s) values ≡ map value entry-row)
-        × (length entry-row ≡ s)
-    unfolding entry-row rowCells
-    entry-part =
-        let x = entry-present hn left present kinds values rowKinds rowValues list top pops rest r some-top in
-        let g : Good a [] [] (r .st) = good hn left (r .st) (r .visited) in
-        let h : getD list (top - 1) 0 < length (r .st .rows) = present-below (r .st .rows) (getD list (top - 1) 0) (x .0) (x .1) in (
-          ap (midOf (getD list (top - 1) 0 * s) (getD list (top - 1) 0 * s + s - getD list (top - 1) 0 * s)) (r .laid .rows-laid .kinds-are)
-              ∙ mid-row kind s (getD list (top - 1) 0) (r .st .rows) (g .row-length) h
-              ∙ ap (rowCells kind s) (x .1),
-          ap (midOf (getD list (top - 1) 0 * s) (getD list (top - 1) 0 * s + s - getD list (top - 1) 0 * s)) (r .laid .rows-laid .values-are)
-              ∙ mid-row value s (getD list (top - 1) 0) (r .st .rows) (g .row-length) h
-              ∙ ap (rowCells value s) (x .1),
-          g .row-length (getD list (top - 1) 0) (x .0) (x .1),
-        )
-
-    pub taken : (rowKinds′ rowValues′ : List ℕ) → s ≤ rest
-        → rowKinds′ ≡ map kind (transfer (getD list (top - 1) 0) entry-row) → rowValues′ ≡ map value (transfer (getD list (top - 1) 0) entry-row)
-        → Midway left present kinds values rowKinds′ rowValues′ (set list (top - 1) 0) (top - 1) (pops + 1) (rest - s) (successors (getD list (top - 1) 0))
-    unfolding entry-row popped
-    taken rowKinds′ rowValues′ enough ek ev =
+    pub taken : s ≤ rest → Taken left present kinds values (set list (top - 1) 0) (top - 1) (pops + 1) (rest - s) (getD list (top - 1) 0)
+    unfolding popped carry
+    taken enough =
         let t = on-top hn left present kinds values rowKinds rowValues list top pops rest r some-top in
-        let x = entry-present hn left present kinds values rowKinds rowValues list top pops rest r some-top in
-        let g : Good a [] [] (r .st) = good hn left (r .st) (r .visited) in record {
+        let x = entry-present hn left present kinds values rowKinds rowValues list top pops rest r some-top in record {
           st = popped a (t .0) (r .st);
-          copy = transfer (getD list (top - 1) 0) (x .0);
-          good = popped-pending a law (getD list (top - 1) 0) (t .0) (r .st) (x .0) (t .1) (x .1) g;
-          ways = λ q m. (law .successors-below (getD list (top - 1) 0) q m, along (g .reached (getD list (top - 1) 0) (x .0) (x .1)) m);
+          row = x .0;
+          stands = x .1;
           visited = then (r .visited) (step-next a (r .st) (getD list (top - 1) 0) (t .0) (t .1) (omega (arith, r .left-is)) (x .0) (x .1));
           laid = record {
             rows-laid = r .laid .rows-laid;
             list-is = popped-list t;
             top-is = t .2;
           };
-          row-laid = record { sized = law .transfer-length (getD list (top - 1) 0) (x .0) (g .row-length (getD list (top - 1) 0) (x .0) (x .1)); kinds-are = ek; values-are = ev };
           count-is = rw (r .count-is);
           left-is = rw (r .left-is);
           counted = omega arith;
@@ -245,6 +169,29 @@ module _ (a : Analysis) (law : Lawful a) where
             ap (λ (l : List ℕ). set l (top - 1) 0) (r .laid .list-is ∙ ap (stacked (bound a)) (t .1))
             ∙ ap (λ (i : ℕ). set (stacked (bound a) (getD list (top - 1) 0 ∷ t .0)) i 0) (t .2)
             ∙ stacked-pop (bound a) (getD list (top - 1) 0) (t .0) (omega (arith, g .fits))
+
+  module _ (hn : 0 < n) (left : ℕ) (present kinds values list : List ℕ) (top pops rest p : ℕ) (t : Taken left present kinds values list top pops rest p) where
+    -- behind the step there is room for one more entry: one was taken
+    pub taken-room : length (carry a p (some (t .row)) (t .st) .list) < bound a
+    unfolding carry
+    taken-room =
+        let g : Good a [] [] (carry a p (some (t .row)) (t .st)) = good hn left (carry a p (some (t .row)) (t .st)) (t .visited) in
+        omega (arith, g .fits, t .count-is, t .counted, visits-count same (transfer p (t .row)) (successors p) (t .st))
+
+    -- and the turn is over
+    pub taken-end : (present′ kinds′ values′ rowKinds′ rowValues′ list′ : List ℕ) (top′ : ℕ) → length rowKinds′ ≡ s → length rowValues′ ≡ s
+        → StateLaid s (bound a) (carry a p (some (t .row)) (t .st)) present′ kinds′ values′ list′ top′
+        → Running a left present′ kinds′ values′ rowKinds′ rowValues′ list′ top′ pops rest
+    unfolding carry
+    taken-end present′ kinds′ values′ rowKinds′ rowValues′ list′ top′ hk hv l = record {
+      st = carry a p (some (t .row)) (t .st);
+      visited = t .visited;
+      laid = l;
+      count-is = t .count-is ∙ sym (visits-count same (transfer p (t .row)) (successors p) (t .st));
+      left-is = t .left-is ∙ sym (visits-left same (transfer p (t .row)) (successors p) (t .st));
+      row-kinds-length = hk;
+      row-values-length = hv;
+    }
 
   -- ---- the start
 

@@ -23,11 +23,15 @@ use Rattle.finality.proofs.Invariant.{stored}
 use Rattle.finality.proofs.Memory.{facts-back}
 use Rattle.join.specs.Rows.{Encoded, JoinedRow}
 use Rattle.sheet.specs.declared.Sizes.{Sizes}
-use Rattle.worklist.specs.Laid.{Sized, RowsLaid, RowLaid, Visiting, Visit, StateLaid, successorAt, Offering, Offer}
+use Rattle.steps.specs.Laid.{Sized, RowsLaid, RowLaid, Visiting, Visit, StateLaid, successorAt, Offering, Offer}
 
 -- the row of q ends within the table
 pub row-end : {n q : ℕ} (s : ℕ) → q < n → q * s + s ≤ n * s
 row-end {n} {q} s h = omega (arith, mul-le-mul-right s h)
+
+-- as many rows as present bytes
+pub rows-are : (s : ℕ) (rows : List (Option Row)) (present kinds values : List ℕ) → RowsLaid s rows present kinds values → length present ≡ length rows
+rows-are s rows present kinds values t = ap length (t .present-are) ∙ length-present rows
 
 -- ---- a part of the tables
 
@@ -133,16 +137,12 @@ module _ (same : ℕ → ℕ → ℕ → ℕ → Bool) where
   -- ---- an offer
 
   module _ (s : ℕ) (successors : InstructionSuccessors) (k : ℕ) (rowKinds rowValues present kinds values list : List ℕ) (top : ℕ) (present′ kinds′ values′ : List ℕ) where
-    -- as many rows as present bytes
-    rows-are : (rows : List (Option Row)) → RowsLaid s rows present kinds values → length present ≡ length rows
-    rows-are rows t = ap length (t .present-are) ∙ length-present rows
-
     module _ (r : Bool) (some-left : k < successors .len) (b : getD (successors .pcs) k 0 < length present) (v : Visit same s (getD (successors .pcs) k 0) rowKinds rowValues present kinds values present′ kinds′ values′ r)
         (room : ℕ) (st : State) (copy : Row) (l : StateLaid s room st present kinds values list top) (c : RowLaid s copy rowKinds rowValues) where
       visited-laid : RowsLaid s (set (st .rows) (getD (successors .pcs) k 0) (some (merged same (rowAt (st .rows) (getD (successors .pcs) k 0)) copy))) present′ kinds′ values′
           × (r ≡ news same (rowAt (st .rows) (getD (successors .pcs) k 0)) copy)
       unfolding Visit
-      visited-laid = v (st .rows) copy (l .rows-laid) c (omega (arith, rows-are (st .rows) (l .rows-laid)))
+      visited-laid = v (st .rows) copy (l .rows-laid) c (omega (arith, rows-are s (st .rows) present kinds values (l .rows-laid)))
 
     pub offer-push : (r : Bool) → k < successors .len → getD (successors .pcs) k 0 < length present
         → Visit same s (getD (successors .pcs) k 0) rowKinds rowValues present kinds values present′ kinds′ values′ r → r ≡ true

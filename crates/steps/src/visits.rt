@@ -3,7 +3,7 @@ ghost use mathlib.Core.Path.{_≡_};
 ghost use Prim.Native.Nat.{_+_, _*_, _<_, _≤_};
 ghost use lib.ListN.{length, getD};
 ghost use Rattle.model.specs.Fact.{equalKnown};
-ghost use Rattle.worklist.specs.Laid.{Visiting, Visit, Offering, Offer};
+ghost use Rattle.steps.specs.Laid.{Visiting, Visit, Offering, Offer};
 use join::join_row;
 use memory::copy_u8;
 use memory::copy_u64;

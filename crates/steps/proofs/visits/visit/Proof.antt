@@ -2,11 +2,11 @@
 -- Assumes nothing.
 use native.Mathlib.Omega.{arith}
 use borrow.Author.Needs.{needs}
-use Rattle.worklist.proofs.Laying.{visiting-end, visiting-row, visiting-lengths, visit-absent, visit-present}
-use Rattle.worklist.proofs.visits.visit.Statement.{statement}
-use Rattle.worklist.proofs.visits.visit.Tie as tie
-use Rattle.worklist.proofs.visits.visit.Reads as reads
-use Rattle.worklist.proofs.visits.visit.Lts as lts
+use Rattle.steps.proofs.Laying.{visiting-end, visiting-row, visiting-lengths, visit-absent, visit-present}
+use Rattle.steps.proofs.visits.visit.Statement.{statement}
+use Rattle.steps.proofs.visits.visit.Tie as tie
+use Rattle.steps.proofs.visits.visit.Reads as reads
+use Rattle.steps.proofs.visits.visit.Lts as lts
 use Rattle.join.proofs.join_row.Reads as join-row-reads
 use Rattle.memory.proofs.copy_u64.Reads as copy-u64-reads
 use Rattle.memory.proofs.copy_u8.Reads as copy-u8-reads
