@@ -1,9 +1,9 @@
 use Rattle.stages.specs.Ends.{slotsAfter}
 use borrow.Author.Needs.{needs}
-use Rattle.stages.proofs.analysis.keep_slots.Statement.{statement}
-use Rattle.stages.proofs.analysis.keep_slots.Tie as tie
-use Rattle.stages.proofs.analysis.keep_slots.Reads as reads
-use Rattle.stages.proofs.analysis.keep_slots.Lts as lts
+use Rattle.analysis.proofs.whole.keep_slots.Statement.{statement}
+use Rattle.analysis.proofs.whole.keep_slots.Tie as tie
+use Rattle.analysis.proofs.whole.keep_slots.Reads as reads
+use Rattle.analysis.proofs.whole.keep_slots.Lts as lts
 use Rattle.memory.proofs.clear_u16.Reads as clear-u16-reads
 
 enum-told : tie.Need-enum-told

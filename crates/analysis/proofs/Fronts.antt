@@ -12,12 +12,12 @@ use Rattle.model.specs.Analyses.{Analysed}
 use Rattle.sheet.specs.declared.Sizes.{Sizes}
 use Rattle.sheet.proofs.Asked.{measured}
 use Rattle.sheet.proofs.Limited.{limited}
 use Rattle.stages.specs.Parts.{Behind, behind, behindZero, behindOf}
 use Rattle.stages.specs.Ends.{behindIn}
 use Rattle.stages.specs.Stocked.{Found, Slotted, Zeroed, Empty, Roomy}
 use Rattle.stages.specs.declared.Staged.{Staged}
 use Rattle.stages.proofs.Paths.{cells-fit}
-use Rattle.stages.proofs.Zeros.{take-zero, front-cleared, front-filled}
+use Rattle.analysis.proofs.Zeros.{take-zero, front-cleared, front-filled}
 
 some-same : {a b : Behind} → _≡_ {A = Option Behind} (some a) (some b) → a ≡ b
 some-same e = cc

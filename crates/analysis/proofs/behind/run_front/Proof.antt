@@ -2,13 +2,13 @@ use mathlib.Core.Path.{sym, _∙_}
 use native.Mathlib.Omega.{arith}
 use lib.Seq.{length-take-le}
 use Rattle.sheet.proofs.Counted.{counted}
-use Rattle.stages.proofs.Fronts.{fits-cells, fits-entries, front-zeroed, front-ran}
+use Rattle.analysis.proofs.Fronts.{fits-cells, fits-entries, front-zeroed, front-ran}
 use borrow.Author.Needs.{needs}
-use Rattle.stages.proofs.behind.run_front.Statement.{statement}
-use Rattle.stages.proofs.behind.run_front.Tie as tie
-use Rattle.stages.proofs.behind.run_front.Reads as reads
-use Rattle.stages.proofs.behind.run_front.Lts as lts
-use Rattle.stages.proofs.running.run_stage.Reads as run-stage-reads
+use Rattle.analysis.proofs.behind.run_front.Statement.{statement}
+use Rattle.analysis.proofs.behind.run_front.Tie as tie
+use Rattle.analysis.proofs.behind.run_front.Reads as reads
+use Rattle.analysis.proofs.behind.run_front.Lts as lts
+use Rattle.analysis.proofs.running.run_stage.Reads as run-stage-reads
 
 -- src/behind.rt:59:17
 mul-cells : tie.Need-mul-cells

@@ -7,30 +7,17 @@ ghost use lib.ListN.{length, take};
 ghost use Rattle.model.specs.Sheet.{codeCount};
 ghost use Rattle.model.specs.Lookup.{ascends};
 ghost use Rattle.model.specs.Tables.{lengthTable};
 ghost use Rattle.stages.specs.Parts.{behindRoom, behind};
 ghost use Rattle.stages.specs.Stage.{roomBy};
-ghost use Rattle.stages.specs.Ends.{afterClosure, atOnce, behindIn};
+ghost use Rattle.stages.specs.Ends.{afterClosure, behindIn};
 ghost use Rattle.stages.specs.Stocked.{Found, Slotted, Empty, Roomy};
-use crate::Staged;
-use crate::room::room_for;
 use crate::running::run_stage;
 use model::AnalysisKind;
-use model::Counts;
 use model::VerifierResources;
 use sheet::Sizes;
-
-// What is left where nothing runs: "With s or n zero it ends at once, without rows."
-fn at_once(s: usize, resources: VerifierResources) -> Staged
-    ensures { λ r. ⌜ r ≡ atOnce s resources ⌝ }
-{
-    Staged::Done {
-        counts: Counts {
-            tracked: s as u64,
-            pops: 0,
-        },
-        left: resources,
-    }
-}
+use stages::Staged;
+use stages::at_once;
+use stages::room_for;
 
 // The charges, the first row and the run of the s tracked slots, in the first places of tables and scratch that are zero.
 fn run_front(

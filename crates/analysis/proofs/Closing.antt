@@ -33,15 +33,15 @@ use Rattle.sheet.proofs.Both.{both-left, both-right}
 use Rattle.closure.specs.Closed.{Ended, closedTo, closedOf, fittedIf, fitted}
 use Rattle.closure.specs.declared.Closed.{Closed}
 use Rattle.closure.specs.declared.Closed.the-variants.{Tracked, Refused}
 use Rattle.stages.specs.Parts.{entering, behindRoom, Behind, behind}
 use Rattle.stages.specs.Stage.{table, Scratch, scratch, zeroScratch, roomBy, room-by}
 use Rattle.stages.specs.Ends.{afterClosure, behindIn, slotsAfter, StageEnd, stageEnd, stageOf}
 use Rattle.stages.specs.Stocked.{Empty, Unmarked}
 use Rattle.stages.specs.declared.Staged.{Staged}
 use Rattle.stages.specs.declared.Staged.the-variants.{Done, OverBudget, NoRoom}
 use Rattle.stages.proofs.Stepwise.{closure-refused, no-room, with-room}
-use Rattle.stages.proofs.Zeros.{front-filled}
-use Rattle.stages.proofs.Asking.{room-parts}
+use Rattle.analysis.proofs.Zeros.{front-filled}
+use Rattle.analysis.proofs.Asking.{room-parts}
 
 -- ---- ascending numbers below a bound are no more than it
 

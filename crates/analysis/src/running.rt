@@ -4,15 +4,15 @@ ghost use mathlib.Core.Option.{some};
 ghost use lib.ListN.{length};
 ghost use Rattle.model.specs.Sheet.{codeCount};
 ghost use Rattle.model.specs.Tables.{lengthTable};
 ghost use Rattle.stages.specs.Parts.{behindRoom, behind, behindOf};
 ghost use Rattle.stages.specs.Stocked.{Found, Slotted, Zeroed};
-use crate::Staged;
-use crate::entering::enter;
-use crate::entering::staged;
 use budget::Metering;
 use model::AnalysisKind;
 use model::VerifierResources;
 use sheet::Sizes;
+use stages::Staged;
+use stages::answered;
+use stages::enter;
 use worklist::propagate;
 
 // The matrix charge, the first row and the run, over tables that are exactly as long as they need to be.
@@ -65,7 +65,7 @@ pub fn run_stage(
                 row_values,
                 list,
             );
-            staged(ended, slots.len(), left)
+            answered(ended, slots.len(), left)
         }
     }
 }

@@ -2,12 +2,11 @@
 -- Assumes nothing.
 use mathlib.Core.Path.{refl}
 use Rattle.stages.specs.Ends.{atOnce}
-use Rattle.stages.proofs.behind.at_once.Statement.{statement}
-use Rattle.stages.proofs.behind.at_once.Tie as tie
-use Rattle.stages.proofs.behind.at_once.Reads as reads
-use Rattle.stages.proofs.behind.at_once.Lts as lts
+use Rattle.stages.proofs.entering.at_once.Statement.{statement}
+use Rattle.stages.proofs.entering.at_once.Tie as tie
+use Rattle.stages.proofs.entering.at_once.Reads as reads
+use Rattle.stages.proofs.entering.at_once.Lts as lts
 
--- src/behind.rt:23:1
 returns : tie.Need-returns
 unfolding atOnce
 returns c = refl

@@ -5,10 +5,9 @@ ghost use Rattle.model.specs.Sheet.{codeCount};
 ghost use Rattle.model.specs.Analyses.{stage};
 ghost use Rattle.model.specs.Call.{roomFor};
 ghost use Rattle.model.specs.Tables.{lengthTable};
 ghost use Rattle.stages.specs.Stage.{table, scratch};
 ghost use Rattle.stages.specs.Ends.{slotsAfter, stageEnd, stageOf};
 ghost use Rattle.stages.specs.Stocked.{Found, Empty, Unmarked};
-use crate::Staged;
 use crate::behind::behind_closure;
 use closure::Closed;
 use closure::tracked_slots;
@@ -16,6 +15,7 @@ use memory::clear_u16;
 use model::AnalysisKind;
 use model::VerifierResources;
 use sheet::Sizes;
+use stages::Staged;
 
 // The slots stay where the analysis is done, and become zero where it is refused.
 fn keep_slots(ended: Staged, slots: &mut [u16])

@@ -22,15 +22,15 @@ use Rattle.model.specs.Lookup.{ascends}
 use Rattle.model.specs.declared.VerifierResources.{VerifierResources}
 use Rattle.model.specs.declared.AnalysisKind.{AnalysisKind}
 use Rattle.sheet.proofs.Both.{both-left, both-right}
 use Rattle.stages.specs.Parts.{behindRoom, Behind, behind}
 use Rattle.stages.specs.Stage.{roomBy}
 use Rattle.stages.specs.Ends.{afterClosure, atOnce, behindIn}
 use Rattle.stages.specs.Stocked.{Slotted, Empty, Roomy}
 use Rattle.stages.specs.declared.Staged.{Staged}
 use Rattle.stages.specs.declared.Staged.the-variants.{Done, NoRoom}
 use Rattle.stages.proofs.Paths.{some-room}
 use Rattle.stages.proofs.Stepwise.{at-once}
-use Rattle.stages.proofs.Zeros.{front-cleared, front-filled}
+use Rattle.analysis.proofs.Zeros.{front-cleared, front-filled}
 
 -- ---- the answer, as inequalities
 

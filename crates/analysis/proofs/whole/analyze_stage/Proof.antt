@@ -2,15 +2,15 @@ use mathlib.Core.Path.{_∙_}
 use Rattle.model.specs.Fact.{unknown}
 use Rattle.sheet.proofs.Asked.{measured}
 use Rattle.sheet.proofs.Counted.{counted}
-use Rattle.stages.proofs.Closing.{closure-stopped, closure-done, few-tracked, tracked-ascend, stage-stopped, stage-closed}
+use Rattle.analysis.proofs.Closing.{closure-stopped, closure-done, few-tracked, tracked-ascend, stage-stopped, stage-closed}
 use borrow.Author.Needs.{needs}
-use Rattle.stages.proofs.analysis.analyze_stage.Statement.{statement}
-use Rattle.stages.proofs.analysis.analyze_stage.Tie as tie
-use Rattle.stages.proofs.analysis.analyze_stage.Reads as reads
-use Rattle.stages.proofs.analysis.analyze_stage.Lts as lts
+use Rattle.analysis.proofs.whole.analyze_stage.Statement.{statement}
+use Rattle.analysis.proofs.whole.analyze_stage.Tie as tie
+use Rattle.analysis.proofs.whole.analyze_stage.Reads as reads
+use Rattle.analysis.proofs.whole.analyze_stage.Lts as lts
 use Rattle.closure.proofs.tracked_slots.Reads as tracked-slots-reads
-use Rattle.stages.proofs.analysis.keep_slots.Reads as keep-slots-reads
-use Rattle.stages.proofs.behind.behind_closure.Reads as behind-closure-reads
+use Rattle.analysis.proofs.whole.keep_slots.Reads as keep-slots-reads
+use Rattle.analysis.proofs.behind.behind_closure.Reads as behind-closure-reads
 
 -- src/analysis.rt:58:9
 tracked-slots-requires : tie.Need-tracked-slots-requires
