@@ -1,3 +1,5 @@
+-- `behind_closure` meets its contract: no room, nothing to run, or the run in the first places.
+-- Assumes nothing.
 use mathlib.Core.Path.{sym, _∙_}
 use borrow.Author.Tests.{not-true, not-false}
 use mathlib.Core.Logic.{inl, inr}
@@ -6,7 +8,6 @@ use Rattle.sheet.proofs.Asked.{measured}
 use Rattle.sheet.proofs.Counted.{counted}
 use Rattle.sheet.proofs.Limited.{limited}
 use Rattle.analysis.proofs.Asking.{roomy, refused-room, with-front, ended-at-once, front-slotted}
-use borrow.Author.Needs.{needs}
 use Rattle.analysis.proofs.behind.behind_closure.Statement.{statement}
 use Rattle.analysis.proofs.behind.behind_closure.Tie as tie
 use Rattle.analysis.proofs.behind.behind_closure.Reads as reads
@@ -15,31 +16,24 @@ use Rattle.stages.proofs.at_once.Reads as at-once-reads
 use Rattle.analysis.proofs.behind.run_front.Reads as run-front-reads
 use Rattle.stages.proofs.room_for.Reads as room-for-reads
 
--- src/behind.rt:103:9
 room-for-requires : tie.Need-room-for-requires
 room-for-requires c κs = let start = c .before .before .before .before .before .before .before .before .before .before .before .before in (limited (measured (start .pre .0 .accepted)) .code-count, start .pre .1)
 
--- src/behind.rt:114:9
 returns : tie.Need-returns
 returns c = let start = c .before .before .before .before .before .before .before .before .before .before .before .before .before .before in refused-room (start .args .which) (start .args .sheet .now) _ (start .args .s) (counted (start .pre .0 .accepted .are) .code-count) (start .args .slots .now) (start .args .present .now) (start .args .kinds .now) (start .args .values .now) (start .args .row-kinds .now) (start .args .row-values .now) (start .args .list .now) _ (start .args .resources) (start .pre .3) (sym (c .before .room-for .ensures) ∙ not-true _ (c .if1 .taken))
 
--- src/behind.rt:117:9
 at-once-requires : tie.Need-at-once-requires
-at-once-requires c κs = search needs
+at-once-requires c κs = tt
 
--- src/behind.rt:117:9
 returns-2 : tie.Need-returns-2
 returns-2 c = let start = c .before .before .before .before .before .before .before .before .before .before .before .before .before .before .before .before in ended-at-once (start .args .which) (start .args .sheet .now) _ (start .args .s) (counted (start .pre .0 .accepted .are) .code-count) (start .args .slots .now) (start .args .present .now) (start .args .kinds .now) (start .args .values .now) (start .args .row-kinds .now) (start .args .row-values .now) (start .args .list .now) _ (start .args .resources) (start .pre .3) (sym (c .before .before .before .room-for .ensures) ∙ not-false _ (c .before .before .if1 .left)) (inl (c .before .if2 .taken)) _ (c .at-once .ensures)
 
--- src/behind.rt:120:9
 at-once-requires-2 : tie.Need-at-once-requires-2
-at-once-requires-2 c κs = search needs
+at-once-requires-2 c κs = tt
 
--- src/behind.rt:120:9
 returns-3 : tie.Need-returns-3
 returns-3 c = let start = c .before .before .before .before .before .before .before .before .before .before .before .before .before .before .before .before .before in ended-at-once (start .args .which) (start .args .sheet .now) _ (start .args .s) (counted (start .pre .0 .accepted .are) .code-count) (start .args .slots .now) (start .args .present .now) (start .args .kinds .now) (start .args .values .now) (start .args .row-kinds .now) (start .args .row-values .now) (start .args .list .now) _ (start .args .resources) (start .pre .3) (sym (c .before .before .before .before .room-for .ensures) ∙ not-false _ (c .before .before .before .if1 .left)) (inr (c .before .if3 .taken)) _ (c .at-once2 .ensures)
 
--- src/behind.rt:122:5
 run-front-requires : tie.Need-run-front-requires
 run-front-requires c κs = let start = c .before .before .before .before .before .before .before .before .before .before .before .before .before .before .before .before .before .before .before .before .before .before in (
   (
@@ -50,31 +44,24 @@ run-front-requires c κs = let start = c .before .before .before .before .before
   roomy _ _ _ _ _ _ _ _ _ (sym (c .before .before .before .before .before .before .before .before .before .room-for .ensures) ∙ not-false _ (c .before .before .before .before .before .before .before .before .if1 .left)) (c .before .before .before .before .before .before .before .if2 .left) (c .before .before .before .before .before .before .if3 .left),
 )
 
--- src/behind.rt:81:1
 same-length : tie.Need-same-length
-same-length c = search needs
+same-length c = (c .before .before .before .before .before .before .before .before .before .before .before .before .run-front .kept .1 .1 .1 .1 .1 .1 .1 .1 .1 .1 .0)
 
--- src/behind.rt:81:1
 same-length-2 : tie.Need-same-length-2
-same-length-2 c = search needs
+same-length-2 c = (c .before .before .before .before .before .before .before .before .before .before .before .before .run-front .kept .1 .1 .1 .1 .1 .1 .1 .1 .1 .1 .1 .0)
 
--- src/behind.rt:81:1
 same-length-3 : tie.Need-same-length-3
-same-length-3 c = search needs
+same-length-3 c = (c .before .before .before .before .before .before .before .before .before .before .before .before .run-front .kept .1 .1 .1 .1 .1 .1 .1 .1 .1 .1 .1 .1 .0)
 
--- src/behind.rt:81:1
 same-length-4 : tie.Need-same-length-4
-same-length-4 c = search needs
+same-length-4 c = (c .before .before .before .before .before .before .before .before .before .before .before .before .run-front .kept .1 .1 .1 .1 .1 .1 .1 .1 .1 .1 .1 .1 .1 .0)
 
--- src/behind.rt:81:1
 same-length-5 : tie.Need-same-length-5
-same-length-5 c = search needs
+same-length-5 c = (c .before .before .before .before .before .before .before .before .before .before .before .before .run-front .kept .1 .1 .1 .1 .1 .1 .1 .1 .1 .1 .1 .1 .1 .1 .0)
 
--- src/behind.rt:81:1
 same-length-6 : tie.Need-same-length-6
-same-length-6 c = search needs
+same-length-6 c = (c .before .before .before .before .before .before .before .before .before .before .before .before .run-front .kept .1 .1 .1 .1 .1 .1 .1 .1 .1 .1 .1 .1 .1 .1 .1 .0)
 
--- src/behind.rt:81:1
 returns-4 : tie.Need-returns-4
 returns-4 c = let start = c .before .before .before .before .before .before .before .before .before .before .before .before .before .before .before .before .before .before .before .before .before .before .before .before .before .before .before .before .before .before .before .before .before .before .before in with-front (start .args .which) (start .args .sheet .now) _ (start .args .s) (counted (start .pre .0 .accepted .are) .code-count) (start .args .slots .now) (start .args .present .now) (start .args .kinds .now) (start .args .values .now) (start .args .row-kinds .now) (start .args .row-values .now) (start .args .list .now) _ (start .args .resources) (start .pre .3) (sym (c .before .before .before .before .before .before .before .before .before .before .before .before .before .before .before .before .before .before .before .before .before .before .room-for .ensures) ∙ not-false _ (c .before .before .before .before .before .before .before .before .before .before .before .before .before .before .before .before .before .before .before .before .before .if1 .left)) (c .before .before .before .before .before .before .before .before .before .before .before .before .run-front .ensures)
 

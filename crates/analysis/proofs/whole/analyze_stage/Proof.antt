@@ -1,3 +1,5 @@
+-- `analyze_stage` meets its contract: refused in its closure, or what is behind it.
+-- Assumes nothing.
 use mathlib.Core.Path.{_∙_}
 use Rattle.model.specs.Fact.{unknown}
 use Rattle.sheet.proofs.Asked.{measured}
@@ -12,81 +14,62 @@ use Rattle.closure.proofs.tracked_slots.Reads as tracked-slots-reads
 use Rattle.analysis.proofs.whole.keep_slots.Reads as keep-slots-reads
 use Rattle.analysis.proofs.behind.behind_closure.Reads as behind-closure-reads
 
--- src/analysis.rt:58:9
 tracked-slots-requires : tie.Need-tracked-slots-requires
 tracked-slots-requires c κs = let start = c .before .before .before .before .before .before .before .before .before .before .before .before .before .before .before .before .before in (measured (start .pre .0 .accepted), rw (counted (start .pre .0 .accepted .are) .local-slots) (start .pre .1 .wide), rw (counted (start .pre .0 .accepted .are) .local-slots) (start .pre .1 .deep), start .pre .1 .no-marks, start .pre .1 .no-stack)
 
--- src/analysis.rt:61:13
 enum-known-closed : tie.Need-enum-known-closed
 enum-known-closed c = search needs
 
--- src/analysis.rt:69:27
 enum-known-closed-2 : tie.Need-enum-known-closed-2
 enum-known-closed-2 c = search needs
 
--- src/analysis.rt:70:17
 behind-closure-requires : tie.Need-behind-closure-requires
 behind-closure-requires c κs = let start = c .before .before .before .before .before .before .before .before .before .before .before .before .before .before .before .before .before .before .before .before .before .before .before .before .before .before .before .before .before .before .before .before .before .before in
     let done = (closure-done (start .args .slots .now) _ _ (c .before .before .before .before .before .before .before .before .before .before .before .before .before .before .before .before .tracked-slots .ensures .0) (c .before .before .before .before .before .before .before .before .closed2 .given .1)) in
     (start .pre .0, few-tracked (start .args .which) (start .args .sheet .now) (start .args .slots .now) (start .args .present .now) (start .args .kinds .now) (start .args .values .now) (start .args .marks .now) (start .args .stack .now) (start .args .row-kinds .now) (start .args .row-values .now) (start .args .list .now) (λ pc. unknown) (start .args .resources) (start .pre .1) (start .pre .2) done (start .pre .0 .accepted), tracked-ascend (start .args .which) (start .args .sheet .now) (start .args .slots .now) (start .args .present .now) (start .args .kinds .now) (start .args .values .now) (start .args .marks .now) (start .args .stack .now) (start .args .row-kinds .now) (start .args .row-values .now) (start .args .list .now) (λ pc. unknown) (start .args .resources) (start .pre .1) (start .pre .2) done, start .pre .2)
 
--- src/analysis.rt:88:13
 keep-slots-requires : tie.Need-keep-slots-requires
-keep-slots-requires c κs = search needs
+keep-slots-requires c κs = tt
 
--- src/analysis.rt:36:1
 same-length : tie.Need-same-length
-same-length c = search needs
+same-length c = (c .before .before .before .before .before .before .before .before .before .tracked-slots .kept .1 .1 .1 .1 .1 .1 .0)
 
--- src/analysis.rt:36:1
 same-length-2 : tie.Need-same-length-2
-same-length-2 c = search needs
+same-length-2 c = (c .before .before .before .before .before .before .before .before .before .tracked-slots .kept .1 .1 .1 .1 .0)
 
--- src/analysis.rt:36:1
 same-length-3 : tie.Need-same-length-3
-same-length-3 c = search needs
+same-length-3 c = (c .before .before .before .before .before .before .before .before .before .tracked-slots .kept .1 .1 .1 .1 .1 .0)
 
--- src/analysis.rt:36:1
 returns : tie.Need-returns
 returns c = let start = c .before .before .before .before .before .before .before .before .before .before .before .before .before .before .before .before .before .before .before .before .before .before .before .before .before .before .before in stage-stopped (start .args .which) (start .args .sheet .now) (start .args .slots .now) (start .args .present .now) (start .args .kinds .now) (start .args .values .now) (start .args .marks .now) (start .args .stack .now) (start .args .row-kinds .now) (start .args .row-values .now) (start .args .list .now) _ (start .args .resources) (start .pre .1) (start .pre .2) (closure-stopped (start .args .slots .now) _ _ (c .before .before .before .before .before .before .before .before .before .tracked-slots .ensures .0) (c .before .closed .given .1)) (c .before .before .before .before .before .before .before .before .before .tracked-slots .ensures .1) (c .before .before .before .before .before .before .before .before .before .tracked-slots .ensures .2)
 
--- src/analysis.rt:36:1
 same-length-4 : tie.Need-same-length-4
-same-length-4 c = search needs
+same-length-4 c = (c .before .before .keep-slots .kept .1 .0) ∙ (c .before .before .before .before .before .before .before .before .before .before .before .before .before .before .before .before .before .before .before .before .before .before .before .before .before .before .before .before .before .before .before .before .before .tracked-slots .kept .1 .1 .1 .1 .1 .1 .0)
 
--- src/analysis.rt:36:1
 same-length-5 : tie.Need-same-length-5
-same-length-5 c = search needs
+same-length-5 c = (c .before .before .before .before .before .before .before .before .before .before .before .before .before .before .before .before .behind-closure .kept .1 .1 .1 .1 .1 .1 .1 .1 .1 .1 .0)
 
--- src/analysis.rt:36:1
 same-length-6 : tie.Need-same-length-6
-same-length-6 c = search needs
+same-length-6 c = (c .before .before .before .before .before .before .before .before .before .before .before .before .before .before .before .before .behind-closure .kept .1 .1 .1 .1 .1 .1 .1 .1 .1 .1 .1 .0)
 
--- src/analysis.rt:36:1
 same-length-7 : tie.Need-same-length-7
-same-length-7 c = search needs
+same-length-7 c = (c .before .before .before .before .before .before .before .before .before .before .before .before .before .before .before .before .behind-closure .kept .1 .1 .1 .1 .1 .1 .1 .1 .1 .1 .1 .1 .0)
 
--- src/analysis.rt:36:1
 same-length-8 : tie.Need-same-length-8
 same-length-8 c = c .before .before .before .before .before .before .before .before .before .before .before .before .before .before .before .before .before .before .before .before .before .before .before .before .before .before .before .before .before .before .before .before .marks .given
 
--- src/analysis.rt:36:1
 same-length-9 : tie.Need-same-length-9
-same-length-9 c = search needs
+same-length-9 c = (c .before .before .before .before .before .before .before .before .before .before .before .before .before .before .before .before .before .before .before .before .before .before .before .before .before .before .before .before .before .before .before .before .before .tracked-slots .kept .1 .1 .1 .1 .1 .0)
 
--- src/analysis.rt:36:1
 same-length-10 : tie.Need-same-length-10
-same-length-10 c = search needs
+same-length-10 c = (c .before .before .before .before .before .before .before .before .before .before .before .before .before .before .before .before .behind-closure .kept .1 .1 .1 .1 .1 .1 .1 .1 .1 .1 .1 .1 .1 .0)
 
--- src/analysis.rt:36:1
 same-length-11 : tie.Need-same-length-11
-same-length-11 c = search needs
+same-length-11 c = (c .before .before .before .before .before .before .before .before .before .before .before .before .before .before .before .before .behind-closure .kept .1 .1 .1 .1 .1 .1 .1 .1 .1 .1 .1 .1 .1 .1 .0)
 
--- src/analysis.rt:36:1
 same-length-12 : tie.Need-same-length-12
-same-length-12 c = search needs
+same-length-12 c = (c .before .before .before .before .before .before .before .before .before .before .before .before .before .before .before .before .behind-closure .kept .1 .1 .1 .1 .1 .1 .1 .1 .1 .1 .1 .1 .1 .1 .1 .0)
 
--- src/analysis.rt:36:1
 returns-2 : tie.Need-returns-2
 returns-2 c = let start = c .before .before .before .before .before .before .before .before .before .before .before .before .before .before .before .before .before .before .before .before .before .before .before .before .before .before .before .before .before .before .before .before .before .before .before .before .before .before .before .before .before .before .before .before .before .before .before .before .before .before .before in stage-closed (start .args .which) (start .args .sheet .now) (start .args .slots .now) (start .args .present .now) (start .args .kinds .now) (start .args .values .now) (start .args .marks .now) (start .args .stack .now) (start .args .row-kinds .now) (start .args .row-values .now) (start .args .list .now) _ (start .args .resources) (start .pre .1) (start .pre .2) (closure-done (start .args .slots .now) _ _ (c .before .before .before .before .before .before .before .before .before .before .before .before .before .before .before .before .before .before .before .before .before .before .before .before .before .before .before .before .before .before .before .before .before .tracked-slots .ensures .0) (c .before .before .before .before .before .before .before .before .before .before .before .before .before .before .before .before .before .before .before .before .before .before .before .before .before .closed2 .given .1)) (c .before .before .keep-slots .ensures) (c .before .before .before .before .before .before .before .before .before .before .before .before .before .before .before .before .before .before .before .before .before .before .before .before .before .before .before .before .before .before .before .before .before .tracked-slots .ensures .1) (c .before .before .before .before .before .before .before .before .before .before .before .before .before .before .before .before .before .before .before .before .before .before .before .before .before .before .before .before .before .before .before .before .before .tracked-slots .ensures .2) (c .before .before .before .before .before .before .before .before .before .before .before .before .before .before .before .before .behind-closure .ensures)
 

