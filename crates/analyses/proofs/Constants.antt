@@ -32,7 +32,7 @@ use Rattle.sheet.proofs.Asked.{measured}
 use Rattle.sheet.proofs.Counted.{counted}
 use Rattle.sheet.proofs.Limited.{limited}
 use Rattle.stages.specs.Stage.{Scratch}
-use Rattle.stages.proofs.Closing.{few-below}
+use Rattle.analysis.proofs.Closing.{few-below}
 use Rattle.analyses.specs.Chain as chain
 use Rattle.analyses.specs.Chain.{refusedBy, Next, next, nextOf}
 use Rattle.analyses.specs.Lengths.{Stored}

@@ -10,13 +10,13 @@ ghost use Rattle.stages.specs.Stage.{table, scratch};
 ghost use Rattle.stages.specs.Stocked.{Found};
 ghost use Rattle.analyses.specs.Chain.{counted, afterStage, refusing, next, nextOf};
 ghost use Rattle.analyses.specs.Values.{Clean};
+use analysis::analyze_stage;
 use model::AnalysisKind;
 use model::Answer;
 use model::Counts;
 use model::VerifierResources;
 use sheet::Sizes;
 use stages::Staged;
-use stages::analyze_stage;
 use stages::clear_table;
 
 // "stage (1 to 5 in charge order)"

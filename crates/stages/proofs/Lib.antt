@@ -1,8 +1,4 @@
+-- The laws of this crate. For other crates to cite: Paths, Stepwise.
 pub mod Paths
 pub mod Stepwise
 pub mod Begin
-pub mod Ran
-pub mod Zeros
-pub mod Fronts
-pub mod Asking
-pub mod Closing

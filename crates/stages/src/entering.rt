@@ -1,4 +1,4 @@
-// The matrix charge and the first row, and what the run's end makes of the answer.
+// The matrix charge and the first row, and the answer that a run or the lack of one gives.
 ghost use mathlib.Core.Path.{_≡_};
 ghost use Prim.Native.Nat.{_≤_, _<_};
 ghost use lib.ListN.{length};
@@ -6,6 +6,7 @@ ghost use Rattle.model.specs.Closure.{stageNumber};
 ghost use Rattle.budget.specs.Metering.{asSpent};
 ghost use Rattle.sheet.specs.Measured.{Measured};
 ghost use Rattle.parameters.specs.First.{Blank, first, firstOf};
+ghost use Rattle.stages.specs.Ends.{atOnce};
 ghost use Rattle.stages.specs.Parts.{entering, stagedOf};
 use crate::Staged;
 use budget::Metering;
@@ -15,7 +16,7 @@ use model::AnalysisKind;
 use model::Counts;
 use model::VerifierResources;
 use sheet::Sizes;
-use worklist::Run;
+use turns::Run;
 
 // "its matrix charge", then the first row with its charges, in a row that is zero; a refusal leaves it zero.
 pub fn enter(
@@ -44,7 +45,7 @@ pub fn enter(
 }
 
 // The answer of a run that began with the resources.
-pub fn staged(ended: Run, s: usize, started: VerifierResources) -> Staged
+pub fn answered(ended: Run, s: usize, started: VerifierResources) -> Staged
     ensures { λ r. ⌜ r ≡ stagedOf ended s started ⌝ }
 {
     match ended {
@@ -69,5 +70,18 @@ pub fn staged(ended: Run, s: usize, started: VerifierResources) -> Staged
                 work: remaining,
             },
         },
+    }
+}
+
+// What is left where nothing runs: "With s or n zero it ends at once, without rows."
+pub fn at_once(s: usize, resources: VerifierResources) -> Staged
+    ensures { λ r. ⌜ r ≡ atOnce s resources ⌝ }
+{
+    Staged::Done {
+        counts: Counts {
+            tracked: s as u64,
+            pops: 0,
+        },
+        left: resources,
     }
 }

@@ -1,3 +1,2 @@
--- How the state of a run lies in the lent slices
-pub mod Laid
-pub mod Turn
+-- What the whole run answers and leaves
+pub mod Result

@@ -11,7 +11,7 @@ use Rattle.analyses.proofs.next.analyze_next.Tie as tie
 use Rattle.analyses.proofs.next.analyze_next.Reads as reads
 use Rattle.analyses.proofs.next.analyze_next.Lts as lts
 use Rattle.analyses.proofs.next.after_stage.Reads as after-stage-reads
-use Rattle.stages.proofs.analyze_stage.Reads as analyze-stage-reads
+use Rattle.analysis.proofs.analyze_stage.Reads as analyze-stage-reads
 use Rattle.stages.proofs.clear_table.Reads as clear-table-reads
 
 clear-table-requires : tie.Need-clear-table-requires

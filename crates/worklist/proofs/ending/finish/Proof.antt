@@ -11,10 +11,10 @@ use Rattle.memory.proofs.clear_u64.Reads as clear-u64-reads
 use Rattle.memory.proofs.clear_u8.Reads as clear-u8-reads
 
 clear-u8-requires : tie.Need-clear-u8-requires
-clear-u8-requires c κs = search needs
+clear-u8-requires c κs = tt
 
 clear-u64-requires : tie.Need-clear-u64-requires
-clear-u64-requires c κs = search needs
+clear-u64-requires c κs = tt
 
 enum-told : tie.Need-enum-told
 enum-told c = search needs
@@ -23,16 +23,16 @@ enum-told-2 : tie.Need-enum-told-2
 enum-told-2 c = search needs
 
 clear-u8-requires-2 : tie.Need-clear-u8-requires-2
-clear-u8-requires-2 c κs = search needs
+clear-u8-requires-2 c κs = tt
 
 clear-u8-requires-3 : tie.Need-clear-u8-requires-3
-clear-u8-requires-3 c κs = search needs
+clear-u8-requires-3 c κs = tt
 
 clear-u64-requires-2 : tie.Need-clear-u64-requires-2
-clear-u64-requires-2 c κs = search needs
+clear-u64-requires-2 c κs = tt
 
 clear-u16-requires : tie.Need-clear-u16-requires
-clear-u16-requires c κs = search needs
+clear-u16-requires c κs = tt
 
 same-length : tie.Need-same-length
 same-length c = search needs

@@ -1,0 +1,2 @@
+-- The loop between two turns
+pub mod Turn
