@@ -41,8 +41,8 @@ use Rattle.stages.specs.Stocked.{Empty, Unmarked}
 use Rattle.stages.specs.declared.Staged.{Staged}
 use Rattle.stages.specs.declared.Staged.the-variants.{Done, OverBudget, NoRoom}
 use Rattle.stages.proofs.Stepwise.{closure-refused, no-room, with-room}
-use Rattle.analysis.proofs.Zeros.{front-filled}
-use Rattle.analysis.proofs.Asking.{room-parts}
+use Rattle.behind.proofs.Zeros.{front-filled}
+use Rattle.behind.proofs.Asking.{room-parts}
 
 -- ---- ascending numbers below a bound are no more than it
 

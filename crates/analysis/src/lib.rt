@@ -1,6 +1,4 @@
-// One analysis: its closure, question 8, its charges and its run.
-mod behind;
-mod running;
+// One analysis: its closure, then question 8, its charges and its run.
 mod whole;
 
 pub use whole::analyze_stage;

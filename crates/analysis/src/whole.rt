@@ -8,7 +8,7 @@ ghost use Rattle.model.specs.Tables.{lengthTable};
 ghost use Rattle.stages.specs.Stage.{table, scratch};
 ghost use Rattle.stages.specs.Ends.{slotsAfter, stageEnd, stageOf};
 ghost use Rattle.stages.specs.Stocked.{Found, Empty, Unmarked};
-use crate::behind::behind_closure;
+use behind::behind_closure;
 use closure::Closed;
 use closure::tracked_slots;
 use memory::clear_u16;

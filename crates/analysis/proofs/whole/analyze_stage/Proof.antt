@@ -12,7 +12,7 @@ use Rattle.analysis.proofs.whole.analyze_stage.Reads as reads
 use Rattle.analysis.proofs.whole.analyze_stage.Lts as lts
 use Rattle.closure.proofs.tracked_slots.Reads as tracked-slots-reads
 use Rattle.analysis.proofs.whole.keep_slots.Reads as keep-slots-reads
-use Rattle.analysis.proofs.behind.behind_closure.Reads as behind-closure-reads
+use Rattle.behind.proofs.behind_closure.Reads as behind-closure-reads
 
 tracked-slots-requires : tie.Need-tracked-slots-requires
 tracked-slots-requires c κs = let start = c .before .before .before .before .before .before .before .before .before .before .before .before .before .before .before .before .before in (measured (start .pre .0 .accepted), rw (counted (start .pre .0 .accepted .are) .local-slots) (start .pre .1 .wide), rw (counted (start .pre .0 .accepted .are) .local-slots) (start .pre .1 .deep), start .pre .1 .no-marks, start .pre .1 .no-stack)

@@ -2,7 +2,6 @@
 -- Assumes nothing.
 use Rattle.stages.specs.Stage.{zeroScratch}
 use Rattle.stages.proofs.Paths.{scratch-path}
-use borrow.Author.Needs.{needs}
 use Rattle.stages.proofs.clearing.clear_scratch.Statement.{statement}
 use Rattle.stages.proofs.clearing.clear_scratch.Tie as tie
 use Rattle.stages.proofs.clearing.clear_scratch.Reads as reads
@@ -12,34 +11,34 @@ use Rattle.memory.proofs.clear_u64.Reads as clear-u64-reads
 use Rattle.memory.proofs.clear_u8.Reads as clear-u8-reads
 
 clear-u8-requires : tie.Need-clear-u8-requires
-clear-u8-requires c κs = search needs
+clear-u8-requires c κs = tt
 
 clear-u16-requires : tie.Need-clear-u16-requires
-clear-u16-requires c κs = search needs
+clear-u16-requires c κs = tt
 
 clear-u8-requires-2 : tie.Need-clear-u8-requires-2
-clear-u8-requires-2 c κs = search needs
+clear-u8-requires-2 c κs = tt
 
 clear-u64-requires : tie.Need-clear-u64-requires
-clear-u64-requires c κs = search needs
+clear-u64-requires c κs = tt
 
 clear-u16-requires-2 : tie.Need-clear-u16-requires-2
-clear-u16-requires-2 c κs = search needs
+clear-u16-requires-2 c κs = tt
 
 same-length : tie.Need-same-length
-same-length c = search needs
+same-length c = c .before .before .before .before .before .before .before .before .before .before .before .before .before .before .before .before .before .before .clear-u8 .kept .0
 
 same-length-2 : tie.Need-same-length-2
-same-length-2 c = search needs
+same-length-2 c = c .before .before .before .before .before .before .before .before .before .before .before .before .before .before .clear-u16 .kept .0
 
 same-length-3 : tie.Need-same-length-3
-same-length-3 c = search needs
+same-length-3 c = c .before .before .before .before .before .before .before .before .before .before .clear-u82 .kept .0
 
 same-length-4 : tie.Need-same-length-4
-same-length-4 c = search needs
+same-length-4 c = c .before .before .before .before .before .before .clear-u64 .kept .0
 
 same-length-5 : tie.Need-same-length-5
-same-length-5 c = search needs
+same-length-5 c = c .before .before .clear-u162 .kept .0
 
 returns : tie.Need-returns
 unfolding zeroScratch

@@ -1,7 +1,6 @@
 -- `clear_table_if` meets its contract.
 -- Assumes nothing.
 use Rattle.stages.specs.Stage.{tableIf}
-use borrow.Author.Needs.{needs}
 use Rattle.stages.proofs.clearing.clear_table_if.Statement.{statement}
 use Rattle.stages.proofs.clearing.clear_table_if.Tie as tie
 use Rattle.stages.proofs.clearing.clear_table_if.Reads as reads
@@ -9,19 +8,19 @@ use Rattle.stages.proofs.clearing.clear_table_if.Lts as lts
 use Rattle.stages.proofs.clearing.clear_table.Reads as clear-table-reads
 
 clear-table-requires : tie.Need-clear-table-requires
-clear-table-requires c κs = search needs
+clear-table-requires c κs = tt
 
 same-length : tie.Need-same-length
-same-length c = search needs
+same-length c = c .before .before .before .before .before .before .before .before .clear-table .kept .0
 
 same-length-2 : tie.Need-same-length-2
-same-length-2 c = search needs
+same-length-2 c = c .before .before .before .before .before .before .before .before .clear-table .kept .1 .0
 
 same-length-3 : tie.Need-same-length-3
-same-length-3 c = search needs
+same-length-3 c = c .before .before .before .before .before .before .before .before .clear-table .kept .1 .1 .0
 
 same-length-4 : tie.Need-same-length-4
-same-length-4 c = search needs
+same-length-4 c = c .before .before .before .before .before .before .before .before .clear-table .kept .1 .1 .1 .0
 
 returns : tie.Need-returns
 unfolding tableIf

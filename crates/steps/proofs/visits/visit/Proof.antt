@@ -21,10 +21,10 @@ slice-read-if1 : tie.Need-slice-read-if1
 slice-read-if1 c = search needs
 
 sub-copy-u8 : tie.Need-sub-copy-u8
-sub-copy-u8 c = search needs
+sub-copy-u8 c = omega arith
 
 part-copy-u8-start : tie.Need-part-copy-u8-start
-part-copy-u8-start c = search needs
+part-copy-u8-start c = omega arith
 
 part-copy-u8-end : tie.Need-part-copy-u8-end
 part-copy-u8-end c = omega (arith, visiting-end (c .before .before .before .before .before .before .before .before .before .pre))
@@ -36,10 +36,10 @@ mul-copy-u64 : tie.Need-mul-copy-u64
 mul-copy-u64 c = omega (arith, visiting-end (c .before .before .before .before .before .before .before .before .before .before .before .before .before .pre))
 
 sub-copy-u64 : tie.Need-sub-copy-u64
-sub-copy-u64 c = search needs
+sub-copy-u64 c = omega arith
 
 part-copy-u64-start : tie.Need-part-copy-u64-start
-part-copy-u64-start c = search needs
+part-copy-u64-start c = omega arith
 
 part-copy-u64-end : tie.Need-part-copy-u64-end
 part-copy-u64-end c = omega (arith, visiting-end (c .before .before .before .before .before .before .before .before .before .before .before .before .before .pre))
@@ -63,10 +63,10 @@ returns : tie.Need-returns
 returns c = visit-absent _ _ _ _ _ _ _ _ _ _ (c .before .before .before .before .before .before .before .before .if1 .taken) (c .before .before .before .before .before .before .copy-u8 .ensures) (c .before .before .copy-u64 .ensures)
 
 sub-join-row : tie.Need-sub-join-row
-sub-join-row c = search needs
+sub-join-row c = omega arith
 
 part-join-row-start : tie.Need-part-join-row-start
-part-join-row-start c = search needs
+part-join-row-start c = omega arith
 
 part-join-row-end : tie.Need-part-join-row-end
 part-join-row-end c = omega (arith, visiting-end (c .before .before .before .before .before .before .before .before .before .pre))
@@ -75,10 +75,10 @@ mul-join-row : tie.Need-mul-join-row
 mul-join-row c = omega (arith, visiting-end (c .before .before .before .before .before .before .before .before .before .before .pre))
 
 sub-join-row-2 : tie.Need-sub-join-row-2
-sub-join-row-2 c = search needs
+sub-join-row-2 c = omega arith
 
 part-join-row-start-2 : tie.Need-part-join-row-start-2
-part-join-row-start-2 c = search needs
+part-join-row-start-2 c = omega arith
 
 part-join-row-end-2 : tie.Need-part-join-row-end-2
 part-join-row-end-2 c = omega (arith, visiting-end (c .before .before .before .before .before .before .before .before .before .before .pre))

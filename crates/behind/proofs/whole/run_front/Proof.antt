@@ -4,13 +4,13 @@ use mathlib.Core.Path.{sym, _∙_}
 use native.Mathlib.Omega.{arith}
 use lib.Seq.{length-take-le}
 use Rattle.sheet.proofs.Counted.{counted}
-use Rattle.analysis.proofs.Fronts.{fits-cells, fits-entries, front-zeroed, front-ran}
+use Rattle.behind.proofs.Fronts.{fits-cells, fits-entries, front-zeroed, front-ran}
 use borrow.Author.Needs.{needs}
-use Rattle.analysis.proofs.behind.run_front.Statement.{statement}
-use Rattle.analysis.proofs.behind.run_front.Tie as tie
-use Rattle.analysis.proofs.behind.run_front.Reads as reads
-use Rattle.analysis.proofs.behind.run_front.Lts as lts
-use Rattle.analysis.proofs.running.run_stage.Reads as run-stage-reads
+use Rattle.behind.proofs.whole.run_front.Statement.{statement}
+use Rattle.behind.proofs.whole.run_front.Tie as tie
+use Rattle.behind.proofs.whole.run_front.Reads as reads
+use Rattle.behind.proofs.whole.run_front.Lts as lts
+use Rattle.behind.proofs.running.run_stage.Reads as run-stage-reads
 
 mul-cells : tie.Need-mul-cells
 mul-cells c = let start = c .before .before .before .before .before .before .before .before .before .before .before .before in omega (arith, fits-cells _ (start .args .slots .now) (start .pre .0 .0) (start .pre .0 .1) (start .pre .1))

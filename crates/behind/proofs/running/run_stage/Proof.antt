@@ -1,12 +1,12 @@
 -- `run_stage` meets its contract: refused before the run, or the run's end.
 -- Assumes nothing.
 use mathlib.Core.Path.{_∙_}
-use Rattle.analysis.proofs.Ran.{enter-asks, stage-refused, run-asks, stage-ran}
+use Rattle.behind.proofs.Ran.{enter-asks, stage-refused, run-asks, stage-ran}
 use borrow.Author.Needs.{needs}
-use Rattle.analysis.proofs.running.run_stage.Statement.{statement}
-use Rattle.analysis.proofs.running.run_stage.Tie as tie
-use Rattle.analysis.proofs.running.run_stage.Reads as reads
-use Rattle.analysis.proofs.running.run_stage.Lts as lts
+use Rattle.behind.proofs.running.run_stage.Statement.{statement}
+use Rattle.behind.proofs.running.run_stage.Tie as tie
+use Rattle.behind.proofs.running.run_stage.Reads as reads
+use Rattle.behind.proofs.running.run_stage.Lts as lts
 use Rattle.stages.proofs.enter.Reads as enter-reads
 use Rattle.stages.proofs.answered.Reads as answered-reads
 use Rattle.worklist.proofs.propagate.Reads as propagate-reads

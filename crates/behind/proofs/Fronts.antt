@@ -17,7 +17,7 @@ use Rattle.stages.specs.Ends.{behindIn}
 use Rattle.stages.specs.Stocked.{Found, Slotted, Zeroed, Empty, Roomy}
 use Rattle.stages.specs.declared.Staged.{Staged}
 use Rattle.stages.proofs.Paths.{cells-fit}
-use Rattle.analysis.proofs.Zeros.{take-zero, front-cleared, front-filled}
+use Rattle.behind.proofs.Zeros.{take-zero, front-cleared, front-filled}
 
 some-same : {a b : Behind} → _≡_ {A = Option Behind} (some a) (some b) → a ≡ b
 some-same e = cc

@@ -30,7 +30,7 @@ use Rattle.stages.specs.declared.Staged.{Staged}
 use Rattle.stages.specs.declared.Staged.the-variants.{Done, NoRoom}
 use Rattle.stages.proofs.Paths.{some-room}
 use Rattle.stages.proofs.Stepwise.{at-once}
-use Rattle.analysis.proofs.Zeros.{front-cleared, front-filled}
+use Rattle.behind.proofs.Zeros.{front-cleared, front-filled}
 
 -- ---- the answer, as inequalities
 

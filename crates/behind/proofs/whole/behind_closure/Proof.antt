@@ -7,13 +7,13 @@ use Rattle.model.specs.Fact.{unknown}
 use Rattle.sheet.proofs.Asked.{measured}
 use Rattle.sheet.proofs.Counted.{counted}
 use Rattle.sheet.proofs.Limited.{limited}
-use Rattle.analysis.proofs.Asking.{roomy, refused-room, with-front, ended-at-once, front-slotted}
-use Rattle.analysis.proofs.behind.behind_closure.Statement.{statement}
-use Rattle.analysis.proofs.behind.behind_closure.Tie as tie
-use Rattle.analysis.proofs.behind.behind_closure.Reads as reads
-use Rattle.analysis.proofs.behind.behind_closure.Lts as lts
+use Rattle.behind.proofs.Asking.{roomy, refused-room, with-front, ended-at-once, front-slotted}
+use Rattle.behind.proofs.whole.behind_closure.Statement.{statement}
+use Rattle.behind.proofs.whole.behind_closure.Tie as tie
+use Rattle.behind.proofs.whole.behind_closure.Reads as reads
+use Rattle.behind.proofs.whole.behind_closure.Lts as lts
 use Rattle.stages.proofs.at_once.Reads as at-once-reads
-use Rattle.analysis.proofs.behind.run_front.Reads as run-front-reads
+use Rattle.behind.proofs.whole.run_front.Reads as run-front-reads
 use Rattle.stages.proofs.room_for.Reads as room-for-reads
 
 room-for-requires : tie.Need-room-for-requires
