@@ -7,12 +7,12 @@ ghost use Rattle.model.specs.Sheet.{size, instruction, noteKind, noteA, noteB, 
 ghost use Rattle.model.specs.Sheet.{constantKind, constantBits, paramWidth, paramKind, paramA, paramB, layoutLength, slotKindsAt};
 ghost use Rattle.sheet.specs.Measured.{Measured};
 use crate::Sizes;
-use crate::bytes::byte_at;
-use crate::bytes::byte_in;
-use crate::bytes::u16_at;
-use crate::bytes::u16_in;
-use crate::bytes::u32_in;
-use crate::bytes::u64_in;
+use endian::byte_at;
+use endian::byte_in;
+use endian::u16_at;
+use endian::u16_in;
+use endian::u32_in;
+use endian::u64_in;
 use model::Instruction;
 
 // The size j, which may be any 32 bits until its limit has been asked.

@@ -1,5 +1,4 @@
 // The sheet: its sizes, and a reader for each field.
-mod bytes;
 mod fields;
 
 pub use fields::constant_bits_at;

@@ -1,9 +1,9 @@
--- `sheet::bytes::u32_at` meets its contract. Assumes nothing.
+-- `endian::u32_at` meets its contract. Assumes nothing.
 use Rattle.model.specs.Bytes.{u32}
 use native.Mathlib.Omega.{arith}
 use borrow.Author.Needs.{needs}
-use Rattle.sheet.proofs.bytes.u32_at.Statement.{statement}
-use Rattle.sheet.proofs.bytes.u32_at.Tie as tie
+use Rattle.endian.proofs.u32_at.Statement.{statement}
+use Rattle.endian.proofs.u32_at.Tie as tie
 
 u16-at-requires : tie.Need-u16-at-requires
 u16-at-requires c κs = search needs

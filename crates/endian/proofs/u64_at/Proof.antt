@@ -1,9 +1,9 @@
--- `sheet::bytes::u64_at` meets its contract. Assumes nothing.
+-- `endian::u64_at` meets its contract. Assumes nothing.
 use Rattle.model.specs.Bytes.{u64}
 use native.Mathlib.Omega.{arith}
 use borrow.Author.Needs.{needs}
-use Rattle.sheet.proofs.bytes.u64_at.Statement.{statement}
-use Rattle.sheet.proofs.bytes.u64_at.Tie as tie
+use Rattle.endian.proofs.u64_at.Statement.{statement}
+use Rattle.endian.proofs.u64_at.Tie as tie
 
 u32-at-requires : tie.Need-u32-at-requires
 u32-at-requires c κs = search needs

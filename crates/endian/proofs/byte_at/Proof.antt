@@ -1,9 +1,9 @@
--- `sheet::bytes::byte_at` meets its contract. Assumes nothing.
+-- `endian::byte_at` meets its contract. Assumes nothing.
 use mathlib.Core.Path.{refl}
 use Rattle.model.specs.Bytes.{byte}
 use borrow.Author.Needs.{needs}
-use Rattle.sheet.proofs.bytes.byte_at.Statement.{statement}
-use Rattle.sheet.proofs.bytes.byte_at.Tie as tie
+use Rattle.endian.proofs.byte_at.Statement.{statement}
+use Rattle.endian.proofs.byte_at.Tie as tie
 
 shared-slice-read-result : tie.Need-shared-slice-read-result
 shared-slice-read-result c = search needs

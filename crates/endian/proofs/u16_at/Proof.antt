@@ -1,9 +1,9 @@
--- `sheet::bytes::u16_at` meets its contract. Assumes nothing.
+-- `endian::u16_at` meets its contract. Assumes nothing.
 use Rattle.model.specs.Bytes.{u16}
 use native.Mathlib.Omega.{arith}
 use borrow.Author.Needs.{needs}
-use Rattle.sheet.proofs.bytes.u16_at.Statement.{statement}
-use Rattle.sheet.proofs.bytes.u16_at.Tie as tie
+use Rattle.endian.proofs.u16_at.Statement.{statement}
+use Rattle.endian.proofs.u16_at.Tie as tie
 
 byte-at-requires : tie.Need-byte-at-requires
 byte-at-requires c κs = search needs
