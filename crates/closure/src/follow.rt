@@ -21,10 +21,10 @@ use crate::marks::mark_slots;
 use crate::marks::none;
 use crate::marks::one;
 use crate::marks::two;
+use code::instruction_at;
 use model::AnalysisKind;
 use model::Instruction;
 use sheet::Sizes;
-use sheet::instruction_at;
 
 // "bit 0 constant, bit 1 index, bit 2 container"
 fn dependency_bit(which: AnalysisKind) -> u8

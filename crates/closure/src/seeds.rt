@@ -13,10 +13,10 @@ use crate::marks::mark_slots;
 use crate::marks::none;
 use crate::marks::one;
 use crate::marks::two;
+use code::instruction_at;
 use model::AnalysisKind;
 use model::Instruction;
 use sheet::Sizes;
-use sheet::instruction_at;
 
 // `tracked_constant_slots`: MapNew; ArrayNew, SliceNew, PtrNew, QueueNew, IndexCheck; SliceAppend.
 fn constant_fields(op: u8) -> Fields

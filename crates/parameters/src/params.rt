@@ -9,12 +9,12 @@ ghost use Rattle.parameters.specs.Start.{startOf};
 use crate::cells::map_cell;
 use crate::cells::queue_cell;
 use crate::cells::unknown_cell;
+use entries::param_a_at;
+use entries::param_b_at;
+use entries::param_kind_at;
+use entries::param_width_at;
 use model::FactCell;
 use sheet::Sizes;
-use sheet::param_a_at;
-use sheet::param_b_at;
-use sheet::param_kind_at;
-use sheet::param_width_at;
 
 // The slot of the first parameter, if there is one.
 pub enum ParamStart {

@@ -19,12 +19,12 @@ use crate::search::Place;
 use crate::search::find;
 use crate::search::wide;
 use budget::Metering;
+use entries::param_width_at;
 use memory::clear_u8;
 use memory::clear_u64;
 use model::FactCell;
 use model::VerifierResources;
 use sheet::Sizes;
-use sheet::param_width_at;
 
 // The fact of a slot is set, if the slot is tracked.
 fn put(slots: &[u16], slot: usize, cell: FactCell, row_kinds: &mut [u8], row_values: &mut [u64])

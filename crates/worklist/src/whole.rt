@@ -10,11 +10,11 @@ use crate::Run;
 use crate::ending::finish;
 use crate::visits::offer;
 use cfg::instruction_successors;
+use code::instruction_at;
 use model::AnalysisKind;
 use model::FactCell;
 use model::InstructionSuccessors;
 use sheet::Sizes;
-use sheet::instruction_at;
 use transfer::transfer_row;
 
 // "A step takes the entry added last and counts 1. A copy of that instruction's row goes through its transfer. Then each successor in

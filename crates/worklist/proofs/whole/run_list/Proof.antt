@@ -11,7 +11,7 @@ use Rattle.worklist.proofs.whole.run_list.Tie as tie
 use Rattle.worklist.proofs.whole.run_list.Reads as reads
 use Rattle.worklist.proofs.whole.run_list.Lts as lts
 use Rattle.cfg.proofs.instruction_successors.Reads as instruction-successors-reads
-use Rattle.sheet.proofs.instruction_at.Reads as instruction-at-reads
+use Rattle.code.proofs.instruction_at.Reads as instruction-at-reads
 use Rattle.transfer.proofs.transfer_row.Reads as transfer-row-reads
 use Rattle.worklist.proofs.visits.offer.Reads as offer-reads
 
