@@ -19,7 +19,8 @@ use Rattle.model.specs.declared.Answer.the-variants.{Analyzed, Invalid, OverBud
 use Rattle.stages.specs.Stage.{Scratch}
 use Rattle.stages.specs.Ends.{StageEnd, stageEnd, stageOf}
 use Rattle.stages.specs.declared.Staged.{Staged}
-use Rattle.analyses.specs.Chain.{afterStage, Next, next, nextBy, nextOf}
+use Rattle.answers.specs.Answers.{afterStage}
+use Rattle.analyses.specs.Chain.{Next, next, nextBy, nextOf}
 use Rattle.analyses.proofs.Same.{room-same, containers-same}
 use Rattle.analyses.proofs.Zeroed.{table-room}
 

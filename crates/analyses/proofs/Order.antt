@@ -11,7 +11,7 @@ use Rattle.model.specs.Analyses.{Analysed, Facts, lengthFacts, stage, chargeFlo
 use Rattle.model.specs.declared.VerifierResources.{VerifierResources}
 use Rattle.model.specs.declared.AnalysisKind.{AnalysisKind}
 use Rattle.model.specs.declared.AnalysisKind.the-variants.{Constant, IndexCheck, Container}
-use Rattle.analyses.specs.Chain.{chargeGraph}
+use Rattle.admission.specs.Begun.{chargeGraph}
 use Rattle.analyses.specs.Values.{Values, values}
 
 -- ---- the first two

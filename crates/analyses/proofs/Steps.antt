@@ -17,7 +17,9 @@ use Rattle.model.specs.declared.Answer.the-variants.{Analyzed, Invalid, OverBud
 use Rattle.model.proofs.Stages.{Names}
 use Rattle.stages.specs.Stage.{Scratch, zeroScratch}
 use Rattle.stages.specs.Ends.{StageEnd, stageEnd, stageOf}
-use Rattle.analyses.specs.Chain.{refusedBy, counted, afterStage, Next, next, nextBy, nextOf, refusing}
+use Rattle.admission.specs.Begun.{refusedBy}
+use Rattle.answers.specs.Answers.{counted, afterStage, refusing}
+use Rattle.analyses.specs.Chain.{Next, next, nextBy, nextOf}
 
 -- The analysis ended, or was refused.
 pub data Stepped (which : AnalysisKind) (constant index container : Counts) (spent : Spent Analysed) (old : Table) (w : Scratch) (answer : Answer) (output : Table) (w′ : Scratch) : Type 0 where

@@ -22,7 +22,9 @@ use Rattle.sheet.specs.declared.Sizes.{Sizes}
 use Rattle.sheet.specs.Measured.{Accepted}
 use Rattle.model.specs.Tables.{lengthTable}
 use Rattle.stages.specs.Stage.{Scratch, zeroScratch, tableIf}
-use Rattle.analyses.specs.Chain.{noCounts, refusedBy, begunOf, chargeGraph, counted, next, nextOf, refusing}
+use Rattle.admission.specs.Begun.{noCounts, refusedBy, begunOf, chargeGraph}
+use Rattle.answers.specs.Answers.{counted, refusing}
+use Rattle.analyses.specs.Chain.{next, nextOf}
 use Rattle.analyses.specs.Lengths.{Stored, Lengthened}
 use Rattle.analyses.specs.Values.{values, valuesEnd, valuesOf}
 use Rattle.analyses.proofs.Same.{constants-same, index-same}

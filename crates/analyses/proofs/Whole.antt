@@ -24,18 +24,20 @@ use Rattle.finality.proofs.Lengths.{stage-lengths}
 use Rattle.sheet.specs.declared.Sizes.{Sizes}
 use Rattle.sheet.specs.Measured.{Accepted}
 use Rattle.stages.specs.Stage.{Scratch, lent, zeroScratch, tableIf}
-use Rattle.analyses.specs.Admitted.{admission}
-use Rattle.analyses.specs.Chain.{noCounts, refusedBy, counted, next, nextOf, refusing}
+use Rattle.admission.specs.Admitted.{admission}
+use Rattle.admission.specs.Begun.{noCounts, refusedBy}
+use Rattle.answers.specs.Answers.{counted, refusing}
+use Rattle.analyses.specs.Chain.{next, nextOf}
 use Rattle.analyses.specs.Values.{Values, values, ValuesEnd, valuesEnd, valuesOf}
-use Rattle.analyses.specs.declared.Admission.{Admission}
-use Rattle.analyses.specs.declared.Admission.the-variants.{Admitted}
+use Rattle.admission.specs.declared.Admission.{Admission}
+use Rattle.admission.specs.declared.Admission.the-variants.{Admitted}
 use Rattle.analyses.proofs.Same.{room-same}
 use Rattle.analyses.proofs.Zeroed.{zero-same, zero-twice}
 use Rattle.analyses.proofs.Steps.{Stepped, went, quit, step, stays, refusing-refused}
 use Rattle.analyses.proofs.Constants.{named}
 use Rattle.analyses.proofs.Order.{quit-values, quit-containers, all-went}
 use Rattle.analyses.proofs.Two.{room-as-lent, again, filled-there, cleared-there}
-use Rattle.analyses.proofs.Asking.{taken-in}
+use Rattle.admission.proofs.Asking.{taken-in}
 use Rattle.analyses.proofs.Ready.{demanded}
 
 module _ (sheet : List ℕ) {sizes : Sizes} (accepted : Accepted sheet sizes) (budget : VerifierResources) (C I K : Table) (W : Scratch)

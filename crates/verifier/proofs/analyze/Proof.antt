@@ -2,7 +2,7 @@
 -- Assumes nothing.
 use mathlib.Core.Path.{_∙_}
 use Rattle.stages.specs.Stage.{table, scratch, lent}
-use Rattle.analyses.proofs.Asking.{turned-away, admitted-asks}
+use Rattle.admission.proofs.Asking.{turned-away, admitted-asks}
 use Rattle.analyses.proofs.Ready.{clean, values-clear, demanded}
 use Rattle.analyses.proofs.Whole.{promise}
 use borrow.Author.Needs.{needs}
@@ -10,9 +10,9 @@ use Rattle.verifier.proofs.analyze.Statement.{statement}
 use Rattle.verifier.proofs.analyze.Tie as tie
 use Rattle.verifier.proofs.analyze.Reads as reads
 use Rattle.verifier.proofs.analyze.Lts as lts
-use Rattle.analyses.proofs.admit.Reads as admit-reads
+use Rattle.admission.proofs.admit.Reads as admit-reads
 use Rattle.sequence.proofs.analyze_containers.Reads as analyze-containers-reads
-use Rattle.analyses.proofs.refuses.Reads as refuses-reads
+use Rattle.answers.proofs.refuses.Reads as refuses-reads
 use Rattle.sequence.proofs.analyze_values.Reads as analyze-values-reads
 use Rattle.stages.proofs.clear_table_if.Reads as clear-table-if-reads
 

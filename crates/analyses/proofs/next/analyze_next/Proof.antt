@@ -10,7 +10,7 @@ use Rattle.analyses.proofs.next.analyze_next.Statement.{statement}
 use Rattle.analyses.proofs.next.analyze_next.Tie as tie
 use Rattle.analyses.proofs.next.analyze_next.Reads as reads
 use Rattle.analyses.proofs.next.analyze_next.Lts as lts
-use Rattle.analyses.proofs.next.after_stage.Reads as after-stage-reads
+use Rattle.answers.proofs.after_stage.Reads as after-stage-reads
 use Rattle.stages.proofs.analyze_stage.Reads as analyze-stage-reads
 use Rattle.stages.proofs.clear_table.Reads as clear-table-reads
 

@@ -12,10 +12,10 @@ use Rattle.sequence.proofs.values.analyze_values.Statement.{statement}
 use Rattle.sequence.proofs.values.analyze_values.Tie as tie
 use Rattle.sequence.proofs.values.analyze_values.Reads as reads
 use Rattle.sequence.proofs.values.analyze_values.Lts as lts
-use Rattle.analyses.proofs.charge_graph.Reads as charge-graph-reads
+use Rattle.admission.proofs.charge_graph.Reads as charge-graph-reads
 use Rattle.analyses.proofs.store_lengths.Reads as store-lengths-reads
 use Rattle.analyses.proofs.analyze_next.Reads as analyze-next-reads
-use Rattle.analyses.proofs.refuses.Reads as refuses-reads
+use Rattle.answers.proofs.refuses.Reads as refuses-reads
 use Rattle.starts.proofs.first_ranges.Reads as first-ranges-reads
 use Rattle.starts.proofs.layout_starts.Reads as layout-starts-reads
 use Rattle.stages.proofs.clear_scratch.Reads as clear-scratch-reads
