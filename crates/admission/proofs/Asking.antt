@@ -10,10 +10,10 @@ use lib.Dec.{leb}
 use lib.ListN.{length}
 use borrow.Author.Tests.{le-leb, lt-leb, leb-true}
 use Rattle.model.specs.Sheet.{localSlots, sheetRefusal}
-use Rattle.model.specs.Charges.{overBudget, Spent, ok, stop, continue, _>>_}
+use Rattle.model.specs.Charges.{continue, _>>_}
 use Rattle.model.specs.Dependencies.{chargeDependencies}
 use Rattle.model.specs.Analyses.{chargeFlow}
-use Rattle.model.specs.Call.{Table, Lent, closureRoom, CallEnd, kept, afterSix, afterFive, call, answer, lentAfter, Result, result, resultOf, analyzed}
+use Rattle.model.specs.Call.{Lent, closureRoom, afterSix, afterFive, call, answer, lentAfter, result, resultOf, analyzed}
 use Rattle.model.specs.declared.VerifierResources.{VerifierResources}
 use Rattle.model.specs.declared.Answer.{Answer}
 use Rattle.model.specs.declared.Answer.the-variants.{Invalid}

@@ -1,15 +1,15 @@
 -- The output that the constant analysis leaves holds its tables.
 -- Assumes nothing.
 use mathlib.Core.Path.{_≡_, refl, sym, ap, _∙_, subst}
-use mathlib.Core.Bool.{Bool, true}
-use mathlib.Core.List.{List, _++_}
-use mathlib.Core.Option.{Option, some}
-use Prim.Native.Nat.{ℕ, _*_, _-_, _≤_}
+use mathlib.Core.Bool.{Bool}
+use mathlib.Core.List.{List}
+use mathlib.Core.Option.{some}
+use Prim.Native.Nat.{ℕ, _*_, _-_}
 use native.Mathlib.Omega.{arith}
 use lib.ListN.{length, take, replicate}
 use lib.Seq.{take-at}
 use Rattle.model.specs.Sheet.{codeCount, localSlots}
-use Rattle.model.specs.Charges.{Refusal, overBudget, noRoom, Spent, ok, stop, Metered}
+use Rattle.model.specs.Charges.{Refusal, overBudget, noRoom, ok, stop}
 use Rattle.model.specs.Closure.{stageNumber}
 use Rattle.model.specs.Fact.{Fact, kind, value}
 use Rattle.model.specs.Tables.{presentBytes, cells}
@@ -35,7 +35,7 @@ use Rattle.stages.specs.Stage.{Scratch}
 use Rattle.stages.proofs.Closing.{few-below}
 use Rattle.answers.specs.Answers as answers
 use Rattle.admission.specs.Begun.{refusedBy}
-use Rattle.analyses.specs.Chain.{Next, next, nextOf}
+use Rattle.analyses.specs.Chain.{next, nextOf}
 use Rattle.analyses.specs.Lengths.{Stored}
 use Rattle.analyses.proofs.Zeroed.{fill-zero}
 use Rattle.analyses.proofs.Steps.{Stepped, went, quit, same-next, step}

@@ -8,7 +8,7 @@ use native.Mathlib.Nat.{mul-le-mul-right}
 use native.Mathlib.Omega.{arith}
 use lib.ListN.{length, take}
 use Rattle.model.specs.Sheet.{codeCount, instruction}
-use Rattle.model.specs.Fact.{Fact, Row}
+use Rattle.model.specs.Fact.{Row}
 use Rattle.model.specs.Analyses.{Analysed, lengthFacts}
 use mathlib.Core.Bool.{true, false≢true}
 use Rattle.model.specs.declared.Counts.{Counts}

@@ -1,25 +1,24 @@
 -- The call, as the code makes it: cleared, charged, and the three analyses in order.
 -- Assumes nothing.
-use mathlib.Core.Path.{_≡_, refl, sym, ap, _∙_, subst}
-use mathlib.Core.Bool.{Bool, true, false}
+use mathlib.Core.Path.{_≡_, refl, sym, ap, _∙_}
+use mathlib.Core.Bool.{Bool, true}
 use mathlib.Core.List.{List}
-use mathlib.Core.Option.{Option, none, some}
-use Prim.Native.Nat.{ℕ, _<_}
+use mathlib.Core.Option.{Option, some}
+use Prim.Native.Nat.{ℕ}
 use native.Mathlib.Omega.{arith}
-use Rattle.model.specs.Sheet.{codeCount, instruction, sheetRefusal}
-use Rattle.model.specs.Charges.{Refusal, overBudget, noRoom, Spent, ok, stop, unfinished, Metered}
-use Rattle.model.specs.Fact.{Fact, unknown}
+use Rattle.model.specs.Sheet.{codeCount}
+use Rattle.model.specs.Charges.{Refusal, overBudget, noRoom, Spent, ok, stop, unfinished}
+use Rattle.model.specs.Fact.{unknown}
 use Rattle.model.specs.Analyses.{Analysed, Facts, lengthFacts, stage, analyses}
-use Rattle.model.specs.Call.{Table, Lent, tableOf, roomFor, tableRoom, closureRoom, CallEnd, cleared, completed, callEnd, afterSix, afterFive, call, counts, answer, tables, zeroTable, filledTable, scratchZero, lentAfter, Result, result, resultOf, analyzed}
+use Rattle.model.specs.Call.{Table, Lent, tableOf, roomFor, tableRoom, closureRoom, cleared, callEnd, afterSix, afterFive, call, counts, answer, tables, zeroTable, filledTable, scratchZero, lentAfter, result, resultOf, analyzed}
 use Rattle.model.specs.declared.VerifierResources.{VerifierResources}
-use Rattle.model.specs.declared.AnalysisKind.{AnalysisKind}
 use Rattle.model.specs.declared.AnalysisKind.the-variants.{Constant, IndexCheck, Container}
 use Rattle.model.specs.CallDemand.{LentDemand}
 use lib.ListN.{length}
 use Rattle.model.proofs.Metered.{bound-parts, then-parts, given}
 use Rattle.model.specs.declared.Counts.{Counts}
 use Rattle.model.specs.declared.Answer.{Answer}
-use Rattle.model.specs.declared.Answer.the-variants.{Analyzed, Invalid, OverBudget, NoRoom}
+use Rattle.model.specs.declared.Answer.the-variants.{Analyzed}
 use Rattle.finality.proofs.Lengths.{stage-lengths}
 use Rattle.sheet.specs.declared.Sizes.{Sizes}
 use Rattle.sheet.specs.Measured.{Accepted}

@@ -10,9 +10,9 @@ ghost use Rattle.stages.specs.Stage.{table, scratch, lent};
 use admission::Admission;
 use admission::admit;
 use answers::refuses;
+use containers::analyze_containers;
 use model::Answer;
 use model::VerifierResources;
-use sequence::analyze_containers;
 use sequence::analyze_values;
 use stages::clear_table_if;
 

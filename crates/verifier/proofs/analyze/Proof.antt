@@ -11,7 +11,7 @@ use Rattle.verifier.proofs.analyze.Tie as tie
 use Rattle.verifier.proofs.analyze.Reads as reads
 use Rattle.verifier.proofs.analyze.Lts as lts
 use Rattle.admission.proofs.admit.Reads as admit-reads
-use Rattle.sequence.proofs.analyze_containers.Reads as analyze-containers-reads
+use Rattle.containers.proofs.analyze_containers.Reads as analyze-containers-reads
 use Rattle.answers.proofs.refuses.Reads as refuses-reads
 use Rattle.sequence.proofs.analyze_values.Reads as analyze-values-reads
 use Rattle.stages.proofs.clear_table_if.Reads as clear-table-if-reads

@@ -5,10 +5,10 @@ use Rattle.stages.specs.Stage.{scratch}
 use Rattle.analyses.proofs.Ready.{few-code, few-layouts, found}
 use Rattle.analyses.proofs.Nexting.{containers-next}
 use borrow.Author.Needs.{needs}
-use Rattle.sequence.proofs.containers.analyze_containers.Statement.{statement}
-use Rattle.sequence.proofs.containers.analyze_containers.Tie as tie
-use Rattle.sequence.proofs.containers.analyze_containers.Reads as reads
-use Rattle.sequence.proofs.containers.analyze_containers.Lts as lts
+use Rattle.containers.proofs.analyze_containers.Statement.{statement}
+use Rattle.containers.proofs.analyze_containers.Tie as tie
+use Rattle.containers.proofs.analyze_containers.Reads as reads
+use Rattle.containers.proofs.analyze_containers.Lts as lts
 use Rattle.analyses.proofs.analyze_next.Reads as analyze-next-reads
 use Rattle.starts.proofs.first_ranges.Reads as first-ranges-reads
 use Rattle.starts.proofs.layout_starts.Reads as layout-starts-reads
