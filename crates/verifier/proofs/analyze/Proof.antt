@@ -17,7 +17,7 @@ use Rattle.sequence.proofs.analyze_values.Reads as analyze-values-reads
 use Rattle.stages.proofs.clear_table_if.Reads as clear-table-if-reads
 
 admit-requires : tie.Need-admit-requires
-admit-requires c κs = search needs
+admit-requires c κs = tt
 
 enum-known-admission : tie.Need-enum-known-admission
 enum-known-admission c = search needs
@@ -37,13 +37,13 @@ analyze-containers-requires c κs =
     (asks .0, clean _ (scratch (start .args .marks .now) (start .args .stack .now) (start .args .row-kinds .now) (start .args .row-values .now) (start .args .work-list .now)) (values-clear (table (start .args .constant-slots .now) (start .args .constant-present .now) (start .args .constant-kinds .now) (start .args .constant-values .now)) (table (start .args .index-slots .now) (start .args .index-present .now) (start .args .index-kinds .now) (start .args .index-values .now)) (scratch (start .args .marks .now) (start .args .stack .now) (start .args .row-kinds .now) (start .args .row-values .now) (start .args .work-list .now)) _ (c .before .before .before .before .before .before .before .before .before .before .before .before .before .before .before .before .before .before .before .before .before .before .before .before .before .before .before .before .before .before .before .before .before .before .before .analyze-values .ensures)) (asks .1) (asks .2))
 
 refuses-requires : tie.Need-refuses-requires
-refuses-requires c κs = search needs
+refuses-requires c κs = tt
 
 clear-table-if-requires : tie.Need-clear-table-if-requires
-clear-table-if-requires c κs = search needs
+clear-table-if-requires c κs = tt
 
 clear-table-if-requires-2 : tie.Need-clear-table-if-requires-2
-clear-table-if-requires-2 c κs = search needs
+clear-table-if-requires-2 c κs = tt
 
 returns : tie.Need-returns
 returns c =
