@@ -1,15 +1,15 @@
 -- The output that the constant analysis leaves holds its tables.
 -- Assumes nothing.
 use mathlib.Core.Path.{_≡_, refl, sym, ap, _∙_, subst}
-use mathlib.Core.Bool.{Bool, true}
-use mathlib.Core.List.{List, _++_}
-use mathlib.Core.Option.{Option, some}
-use Prim.Native.Nat.{ℕ, _*_, _-_, _≤_}
+use mathlib.Core.Bool.{Bool}
+use mathlib.Core.List.{List}
+use mathlib.Core.Option.{some}
+use Prim.Native.Nat.{ℕ, _*_, _-_}
 use native.Mathlib.Omega.{arith}
 use lib.ListN.{length, take, replicate}
 use lib.Seq.{take-at}
 use Rattle.model.specs.Sheet.{codeCount, localSlots}
-use Rattle.model.specs.Charges.{Refusal, overBudget, noRoom, Spent, ok, stop, Metered}
+use Rattle.model.specs.Charges.{Refusal, overBudget, noRoom, ok, stop}
 use Rattle.model.specs.Closure.{stageNumber}
 use Rattle.model.specs.Fact.{Fact, kind, value}
 use Rattle.model.specs.Tables.{presentBytes, cells}
@@ -33,8 +33,9 @@ use Rattle.sheet.proofs.Counted.{counted}
 use Rattle.sheet.proofs.Limited.{limited}
 use Rattle.stages.specs.Stage.{Scratch}
 use Rattle.analysis.proofs.Closing.{few-below}
-use Rattle.analyses.specs.Chain as chain
-use Rattle.analyses.specs.Chain.{refusedBy, Next, next, nextOf}
+use Rattle.answers.specs.Answers as answers
+use Rattle.admission.specs.Begun.{refusedBy}
+use Rattle.analyses.specs.Chain.{next, nextOf}
 use Rattle.analyses.specs.Lengths.{Stored}
 use Rattle.analyses.proofs.Zeroed.{fill-zero}
 use Rattle.analyses.proofs.Steps.{Stepped, went, quit, same-next, step}
@@ -94,8 +95,8 @@ module _ (sheet : List ℕ) {sizes : Sizes} (accepted : Accepted sheet sizes) (o
         → (x : Analysed) × Stored sheet x constant (output .slots) (output .present) (output .kinds) (output .values)
     from-step c i k before (went x rest e a o s) = (x, stored before x rest e (counts-same a) (o ∙ fill-zero (tables x) old))
       where
-        counts-same : answer ≡ chain.counted Constant (counts x) c i k rest → counts x ≡ constant
-        counts-same p = unfold chain.counted in (let q : Analyzed (counts x) i k rest ≡ Analyzed constant index container left = sym p ∙ is in cc)
+        counts-same : answer ≡ answers.counted Constant (counts x) c i k rest → counts x ≡ constant
+        counts-same p = unfold answers.counted in (let q : Analyzed (counts x) i k rest ≡ Analyzed constant index container left = sym p ∙ is in cc)
     from-step c i k before (quit refusal rest e a o s) = absurd (never refusal a)
       where
         never : (r : Refusal) → answer ≡ refusedBy r rest → ⊥

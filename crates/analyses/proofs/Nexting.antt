@@ -2,11 +2,11 @@
 -- Assumes nothing.
 use mathlib.Core.Path.{_≡_, refl, sym, ap, _∙_}
 use mathlib.Core.List.{List}
-use mathlib.Core.Option.{Option, none, some}
+use mathlib.Core.Option.{some}
 use Prim.Native.Nat.{ℕ}
 use mathlib.Core.Bool.{Bool}
 use Rattle.model.specs.Sheet.{codeCount}
-use Rattle.model.specs.Charges.{Spent, Metered}
+use Rattle.model.specs.Charges.{Spent}
 use Rattle.model.specs.Fact.{Fact, unknown}
 use Rattle.model.specs.Analyses.{Analysed, stage}
 use Rattle.model.specs.Call.{Table, roomFor, zeroTable}
@@ -17,9 +17,10 @@ use Rattle.model.specs.declared.Counts.{Counts}
 use Rattle.model.specs.declared.Answer.{Answer}
 use Rattle.model.specs.declared.Answer.the-variants.{Analyzed, Invalid, OverBudget, NoRoom}
 use Rattle.stages.specs.Stage.{Scratch}
-use Rattle.stages.specs.Ends.{StageEnd, stageEnd, stageOf}
+use Rattle.stages.specs.Ends.{stageEnd, stageOf}
 use Rattle.stages.specs.declared.Staged.{Staged}
-use Rattle.analyses.specs.Chain.{afterStage, Next, next, nextBy, nextOf}
+use Rattle.answers.specs.Answers.{afterStage}
+use Rattle.analyses.specs.Chain.{next, nextBy, nextOf}
 use Rattle.analyses.proofs.Same.{room-same, containers-same}
 use Rattle.analyses.proofs.Zeroed.{table-room}
 

@@ -1,6 +1,6 @@
 -- "Order: flow graph, dependencies, constants, index, containers.": the whole, by how far it comes.
 -- Assumes nothing.
-use mathlib.Core.Path.{_≡_, refl, ap, _∙_}
+use mathlib.Core.Path.{_≡_, refl, _∙_}
 use mathlib.Core.Bool.{Bool}
 use mathlib.Core.List.{List}
 use Prim.Native.Nat.{ℕ}
@@ -11,7 +11,7 @@ use Rattle.model.specs.Analyses.{Analysed, Facts, lengthFacts, stage, chargeFlo
 use Rattle.model.specs.declared.VerifierResources.{VerifierResources}
 use Rattle.model.specs.declared.AnalysisKind.{AnalysisKind}
 use Rattle.model.specs.declared.AnalysisKind.the-variants.{Constant, IndexCheck, Container}
-use Rattle.analyses.specs.Chain.{chargeGraph}
+use Rattle.admission.specs.Begun.{chargeGraph}
 use Rattle.analyses.specs.Values.{Values, values}
 
 -- ---- the first two

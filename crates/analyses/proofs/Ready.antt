@@ -1,18 +1,15 @@
 -- What the analyses are lent: found once a call, and cleared.
 -- Assumes nothing.
-use mathlib.Core.Path.{_≡_, refl, sym, ap, _∙_}
-use mathlib.Core.Bool.{Bool, true, _&&_}
+use mathlib.Core.Path.{_≡_, sym, ap, _∙_}
 use mathlib.Core.List.{List}
-use mathlib.Core.Option.{Option, none, some}
+use mathlib.Core.Option.{Option, some}
 use Prim.Native.Nat.{ℕ, _≤_}
 use native.Mathlib.Omega.{arith}
-use lib.Dec.{leb}
-use lib.ListN.{length, replicate, length-replicate}
-use borrow.Author.Tests.{leb-true}
+use lib.ListN.{length}
 use Rattle.model.specs.Sheet.{codeCount, layoutCount, localSlots, firstRange, layoutStart}
 use Rattle.model.specs.Charges.{overBudget, noRoom, Spent, ok, stop, unfinished, Metered}
 use Rattle.model.specs.Analyses.{Analysed}
-use Rattle.model.specs.Call.{Table, Lent, closureRoom, CallEnd, call, answer, lentAfter, zeros, zeroTable, Result, result, resultOf, analyzed}
+use Rattle.model.specs.Call.{Table, Lent, answer, zeroTable, result, analyzed}
 use Rattle.model.specs.declared.VerifierResources.{VerifierResources}
 use Rattle.model.specs.declared.AnalysisKind.{AnalysisKind}
 use Rattle.model.specs.declared.Counts.{Counts}
@@ -20,7 +17,7 @@ use Rattle.model.specs.declared.Answer.{Answer}
 use Rattle.model.specs.declared.Answer.the-variants.{Analyzed, Invalid, OverBudget, NoRoom}
 use Rattle.model.specs.CallDemand.{LentDemand}
 use Rattle.finality.proofs.Lent.{analyzed-demand}
-use Rattle.finality.proofs.Lengths.{zeros-length, SameRoom, call-lengths}
+use Rattle.finality.proofs.Lengths.{zeros-length}
 use Rattle.memory.proofs.Front.{front-holds}
 use Rattle.sheet.specs.Measured.{Accepted}
 use Rattle.starts.specs.Tables.{firstRanges, layoutStarts}
@@ -28,14 +25,13 @@ use Rattle.sheet.specs.declared.Sizes.{Sizes}
 use Rattle.sheet.proofs.Asked.{measured}
 use Rattle.sheet.proofs.Counted.{counted}
 use Rattle.sheet.proofs.Limited.{limited}
-use Rattle.sheet.proofs.Both.{both-left, both-right}
 use Rattle.stages.specs.Stage.{Scratch, zeroScratch}
 use Rattle.stages.specs.Ends.{stageOf}
 use Rattle.stages.specs.Stocked.{Found, Empty, Unmarked}
 use Rattle.analyses.specs.Chain.{next, nextBy, nextOf}
 use Rattle.analyses.specs.Values.{Clean, ValuesEnd, Values, valuesEnd, valuesOf}
 use Rattle.analyses.proofs.Steps.{same-next}
-use Rattle.analyses.proofs.Zeroed.{scratch-twice}
+use Rattle.analyses.proofs.Zeroed.{zeros-twice, scratch-twice}
 
 -- ---- found once a call
 
@@ -63,20 +59,16 @@ module _ {sheet : List ℕ} {sizes : Sizes} (accepted : Accepted sheet sizes) wh
 
 -- ---- cleared
 
-zero-itself : (old : List ℕ) → zeros old ≡ zeros (zeros old)
-unfolding zeros
-zero-itself old = ap (λ (k : ℕ). replicate k 0) (sym (length-replicate {A = ℕ} (length old) 0))
-
 -- a scratch that was cleared
 pub clean : (sheet : List ℕ) (W : Scratch) {w : Scratch} → w ≡ zeroScratch W → localSlots sheet ≤ length (W .marks) → localSlots sheet ≤ length (W .stack)
     → Clean sheet (w .marks) (w .stack) (w .rowKinds) (w .rowValues) (w .workList)
 unfolding zeroScratch
 clean sheet W e m s = rw e (record {
-  no-marks = zero-itself (W .marks);
-  no-stack = zero-itself (W .stack);
-  no-row-kinds = zero-itself (W .rowKinds);
-  no-row-values = zero-itself (W .rowValues);
-  no-list = zero-itself (W .workList);
+  no-marks = sym (zeros-twice (W .marks));
+  no-stack = sym (zeros-twice (W .stack));
+  no-row-kinds = sym (zeros-twice (W .rowKinds));
+  no-row-values = sym (zeros-twice (W .rowValues));
+  no-list = sym (zeros-twice (W .workList));
   wide = omega (arith, zeros-length (W .marks));
   deep = omega (arith, zeros-length (W .stack));
 })
@@ -86,7 +78,7 @@ module _ (sheet : List ℕ) (T : Table) {t : Table} (tz : t ≡ zeroTable T) {ma
   pub unmarked : Unmarked sheet (t .slots) marks stack
   unfolding zeroTable
   unmarked = rw tz (record {
-    no-slots = zero-itself (T .slots);
+    no-slots = sym (zeros-twice (T .slots));
     no-marks = c .no-marks;
     no-stack = c .no-stack;
     wide = c .wide;
@@ -96,9 +88,9 @@ module _ (sheet : List ℕ) (T : Table) {t : Table} (tz : t ≡ zeroTable T) {ma
   pub empty : Empty (t .present) (t .kinds) (t .values) rowKinds rowValues list
   unfolding zeroTable
   empty = rw tz (record {
-    no-present = zero-itself (T .present);
-    no-kinds = zero-itself (T .kinds);
-    no-values = zero-itself (T .values);
+    no-present = sym (zeros-twice (T .present));
+    no-kinds = sym (zeros-twice (T .kinds));
+    no-values = sym (zeros-twice (T .values));
     no-row-kinds = c .no-row-kinds;
     no-row-values = c .no-row-values;
     no-list = c .no-list;

@@ -11,7 +11,7 @@ use Rattle.model.specs.Charges.{Spent, ok, stop, unfinished, Metered, continue,
 use Rattle.model.specs.Closure.{trackedSlots}
 use Rattle.model.specs.Fact.{Fact, Row}
 use Rattle.model.specs.Run.{RunEnd, run}
-use Rattle.model.specs.Analyses.{Analysed, analysis, askRoom, chargeMatrix, firstRow, ranTo, propagate, stage}
+use Rattle.model.specs.Analyses.{analysis, askRoom, chargeMatrix, firstRow, ranTo, propagate, stage}
 use Rattle.model.specs.declared.VerifierResources.{VerifierResources}
 use Rattle.model.specs.declared.AnalysisKind.{AnalysisKind}
 use Rattle.model.specs.declared.AnalysisKind.the-variants.{Constant, IndexCheck, Container}

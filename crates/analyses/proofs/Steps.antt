@@ -1,8 +1,8 @@
 -- What the next analysis makes of the answer so far.
 -- Assumes nothing.
-use mathlib.Core.Path.{_≡_, refl, sym, ap, _∙_, subst}
-use mathlib.Core.Bool.{true, false}
-use mathlib.Core.Option.{Option, none, some}
+use mathlib.Core.Path.{_≡_, refl, sym, ap, _∙_}
+use mathlib.Core.Bool.{true}
+use mathlib.Core.Option.{Option, some}
 use Prim.Native.Nat.{ℕ}
 use native.Mathlib.Omega.{arith}
 use Rattle.model.specs.Charges.{Refusal, overBudget, noRoom, Spent, ok, stop, unfinished, Metered}
@@ -13,11 +13,13 @@ use Rattle.model.specs.declared.VerifierResources.{VerifierResources}
 use Rattle.model.specs.declared.AnalysisKind.{AnalysisKind}
 use Rattle.model.specs.declared.Counts.{Counts}
 use Rattle.model.specs.declared.Answer.{Answer}
-use Rattle.model.specs.declared.Answer.the-variants.{Analyzed, Invalid, OverBudget, NoRoom}
+use Rattle.model.specs.declared.Answer.the-variants.{OverBudget}
 use Rattle.model.proofs.Stages.{Names}
 use Rattle.stages.specs.Stage.{Scratch, zeroScratch}
-use Rattle.stages.specs.Ends.{StageEnd, stageEnd, stageOf}
-use Rattle.analyses.specs.Chain.{refusedBy, counted, afterStage, Next, next, nextBy, nextOf, refusing}
+use Rattle.stages.specs.Ends.{stageOf}
+use Rattle.admission.specs.Begun.{refusedBy}
+use Rattle.answers.specs.Answers.{counted, afterStage, refusing}
+use Rattle.analyses.specs.Chain.{Next, next, nextBy, nextOf}
 
 -- The analysis ended, or was refused.
 pub data Stepped (which : AnalysisKind) (constant index container : Counts) (spent : Spent Analysed) (old : Table) (w : Scratch) (answer : Answer) (output : Table) (w′ : Scratch) : Type 0 where

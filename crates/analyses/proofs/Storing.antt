@@ -8,7 +8,7 @@ use native.Mathlib.Nat.{mul-le-mul-right}
 use native.Mathlib.Omega.{arith}
 use lib.ListN.{length, take}
 use Rattle.model.specs.Sheet.{codeCount, instruction}
-use Rattle.model.specs.Fact.{Fact, Row}
+use Rattle.model.specs.Fact.{Row}
 use Rattle.model.specs.Analyses.{Analysed, lengthFacts}
 use mathlib.Core.Bool.{true, false≢true}
 use Rattle.model.specs.declared.Counts.{Counts}
@@ -17,7 +17,7 @@ use Rattle.model.specs.declared.Answer.{Answer}
 use Rattle.model.specs.declared.Answer.the-variants.{Analyzed, Invalid, OverBudget, NoRoom}
 use Rattle.length_facts.specs.Lengths.{Ended, lengthKinds, lengthValues}
 use Rattle.model.specs.Tables.{lengthTable}
-use Rattle.analyses.specs.Chain.{refusing}
+use Rattle.answers.specs.Answers.{refusing}
 use Rattle.analyses.specs.Lengths.{Stored, Lengthened}
 
 module _ {sheet : List ℕ} {a : Analysed} {given : Counts} {slots present kinds values : List ℕ} (st : Stored sheet a given slots present kinds values) {n s : ℕ} (all : n ≡ codeCount sheet)

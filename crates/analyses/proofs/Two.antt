@@ -1,19 +1,18 @@
 -- The constant and the index analysis, as the code makes them.
 -- Assumes nothing.
 use mathlib.Core.Path.{_≡_, refl, sym, ap, _∙_}
-use mathlib.Core.Bool.{Bool, true, false}
+use mathlib.Core.Bool.{Bool}
 use mathlib.Core.List.{List}
-use mathlib.Core.Option.{Option, none, some}
+use mathlib.Core.Option.{some}
 use Prim.Native.Nat.{ℕ, _<_}
 use native.Mathlib.Omega.{arith}
 use Rattle.model.specs.Sheet.{codeCount, instruction}
-use Rattle.model.specs.Charges.{Refusal, overBudget, noRoom, Spent, ok, stop, unfinished}
+use Rattle.model.specs.Charges.{Refusal, Spent, ok, stop, unfinished}
 use Rattle.model.specs.Fact.{Fact, unknown}
 use Rattle.model.specs.Analyses.{Analysed, lengthFacts, stage}
 use Rattle.model.specs.Call.{Table, roomFor, counts, tables, zeroTable, filledTable}
 use Rattle.model.specs.declared.VerifierResources.{VerifierResources}
-use Rattle.model.specs.declared.AnalysisKind.{AnalysisKind}
-use Rattle.model.specs.declared.AnalysisKind.the-variants.{Constant, IndexCheck, Container}
+use Rattle.model.specs.declared.AnalysisKind.the-variants.{Constant, IndexCheck}
 use Rattle.model.specs.declared.Counts.{Counts}
 use Rattle.model.specs.declared.Answer.{Answer}
 use Rattle.model.specs.declared.Answer.the-variants.{Analyzed}
@@ -22,7 +21,9 @@ use Rattle.sheet.specs.declared.Sizes.{Sizes}
 use Rattle.sheet.specs.Measured.{Accepted}
 use Rattle.model.specs.Tables.{lengthTable}
 use Rattle.stages.specs.Stage.{Scratch, zeroScratch, tableIf}
-use Rattle.analyses.specs.Chain.{noCounts, refusedBy, begunOf, chargeGraph, counted, next, nextOf, refusing}
+use Rattle.admission.specs.Begun.{noCounts, refusedBy, begunOf, chargeGraph}
+use Rattle.answers.specs.Answers.{counted, refusing}
+use Rattle.analyses.specs.Chain.{next, nextOf}
 use Rattle.analyses.specs.Lengths.{Stored, Lengthened}
 use Rattle.analyses.specs.Values.{values, valuesEnd, valuesOf}
 use Rattle.analyses.proofs.Same.{constants-same, index-same}

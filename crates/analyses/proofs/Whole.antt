@@ -1,41 +1,42 @@
 -- The call, as the code makes it: cleared, charged, and the three analyses in order.
 -- Assumes nothing.
-use mathlib.Core.Path.{_≡_, refl, sym, ap, _∙_, subst}
-use mathlib.Core.Bool.{Bool, true, false}
+use mathlib.Core.Path.{_≡_, refl, sym, ap, _∙_}
+use mathlib.Core.Bool.{Bool, true}
 use mathlib.Core.List.{List}
-use mathlib.Core.Option.{Option, none, some}
-use Prim.Native.Nat.{ℕ, _<_}
+use mathlib.Core.Option.{Option, some}
+use Prim.Native.Nat.{ℕ}
 use native.Mathlib.Omega.{arith}
-use Rattle.model.specs.Sheet.{codeCount, instruction, sheetRefusal}
-use Rattle.model.specs.Charges.{Refusal, overBudget, noRoom, Spent, ok, stop, unfinished, Metered}
-use Rattle.model.specs.Fact.{Fact, unknown}
+use Rattle.model.specs.Sheet.{codeCount}
+use Rattle.model.specs.Charges.{Refusal, overBudget, noRoom, Spent, ok, stop, unfinished}
+use Rattle.model.specs.Fact.{unknown}
 use Rattle.model.specs.Analyses.{Analysed, Facts, lengthFacts, stage, analyses}
-use Rattle.model.specs.Call.{Table, Lent, tableOf, roomFor, tableRoom, closureRoom, CallEnd, cleared, completed, callEnd, afterSix, afterFive, call, counts, answer, tables, zeroTable, filledTable, scratchZero, lentAfter, Result, result, resultOf, analyzed}
+use Rattle.model.specs.Call.{Table, Lent, tableOf, roomFor, tableRoom, closureRoom, cleared, callEnd, afterSix, afterFive, call, counts, answer, tables, zeroTable, filledTable, scratchZero, lentAfter, result, resultOf, analyzed}
 use Rattle.model.specs.declared.VerifierResources.{VerifierResources}
-use Rattle.model.specs.declared.AnalysisKind.{AnalysisKind}
 use Rattle.model.specs.declared.AnalysisKind.the-variants.{Constant, IndexCheck, Container}
 use Rattle.model.specs.CallDemand.{LentDemand}
 use lib.ListN.{length}
 use Rattle.model.proofs.Metered.{bound-parts, then-parts, given}
 use Rattle.model.specs.declared.Counts.{Counts}
 use Rattle.model.specs.declared.Answer.{Answer}
-use Rattle.model.specs.declared.Answer.the-variants.{Analyzed, Invalid, OverBudget, NoRoom}
+use Rattle.model.specs.declared.Answer.the-variants.{Analyzed}
 use Rattle.finality.proofs.Lengths.{stage-lengths}
 use Rattle.sheet.specs.declared.Sizes.{Sizes}
 use Rattle.sheet.specs.Measured.{Accepted}
 use Rattle.stages.specs.Stage.{Scratch, lent, zeroScratch, tableIf}
-use Rattle.analyses.specs.Admitted.{admission}
-use Rattle.analyses.specs.Chain.{noCounts, refusedBy, counted, next, nextOf, refusing}
+use Rattle.admission.specs.Admitted.{admission}
+use Rattle.admission.specs.Begun.{noCounts, refusedBy}
+use Rattle.answers.specs.Answers.{counted, refusing}
+use Rattle.analyses.specs.Chain.{next, nextOf}
 use Rattle.analyses.specs.Values.{Values, values, ValuesEnd, valuesEnd, valuesOf}
-use Rattle.analyses.specs.declared.Admission.{Admission}
-use Rattle.analyses.specs.declared.Admission.the-variants.{Admitted}
+use Rattle.admission.specs.declared.Admission.{Admission}
+use Rattle.admission.specs.declared.Admission.the-variants.{Admitted}
 use Rattle.analyses.proofs.Same.{room-same}
 use Rattle.analyses.proofs.Zeroed.{zero-same, zero-twice}
 use Rattle.analyses.proofs.Steps.{Stepped, went, quit, step, stays, refusing-refused}
 use Rattle.analyses.proofs.Constants.{named}
 use Rattle.analyses.proofs.Order.{quit-values, quit-containers, all-went}
 use Rattle.analyses.proofs.Two.{room-as-lent, again, filled-there, cleared-there}
-use Rattle.analyses.proofs.Asking.{taken-in}
+use Rattle.admission.proofs.Asking.{taken-in}
 use Rattle.analyses.proofs.Ready.{demanded}
 
 module _ (sheet : List ℕ) {sizes : Sizes} (accepted : Accepted sheet sizes) (budget : VerifierResources) (C I K : Table) (W : Scratch)

@@ -1,12 +1,12 @@
 -- Outputs and scratch that were cleared: what is asked of them and stored in them depends on their lengths alone.
 -- Assumes nothing.
-use mathlib.Core.Path.{_≡_, refl, sym, ap, _∙_}
+use mathlib.Core.Path.{_≡_, ap}
 use mathlib.Core.List.{List, _++_}
 use Prim.Native.Nat.{ℕ, _-_}
 use lib.ListN.{length, replicate}
 use Rattle.model.specs.Call.{Table, roomFor, zeros, filled, zeroTable, filledTable}
 use Rattle.finality.proofs.Lengths.{zeros-length, SameLengths}
-use Rattle.stages.specs.Stage.{Scratch, zeroScratch, roomBy, room-by}
+use Rattle.stages.specs.Stage.{Scratch, zeroScratch}
 
 zeros-same : (xs ys : List ℕ) → length xs ≡ length ys → zeros xs ≡ zeros ys
 unfolding zeros
@@ -22,7 +22,7 @@ zero-same t u h =
       zeros-same (t .values) (u .values) (h .values),
     )
 
-zeros-twice : (xs : List ℕ) → zeros (zeros xs) ≡ zeros xs
+pub zeros-twice : (xs : List ℕ) → zeros (zeros xs) ≡ zeros xs
 zeros-twice xs = zeros-same (zeros xs) xs (zeros-length xs)
 
 pub zero-twice : (t : Table) → zeroTable (zeroTable t) ≡ zeroTable t

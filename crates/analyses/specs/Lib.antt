@@ -1,5 +1,4 @@
 -- What the functions of this crate ask and answer, by the definitions of `model`.
-pub mod Admitted
 pub mod Chain
 pub mod Lengths
 pub mod Values

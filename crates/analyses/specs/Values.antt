@@ -15,7 +15,7 @@ use Rattle.model.specs.declared.AnalysisKind.the-variants.{Constant, IndexCheck
 use Rattle.model.specs.declared.Answer.{Answer}
 use Rattle.model.specs.declared.Answer.the-variants.{Analyzed}
 use Rattle.stages.specs.Stage.{Scratch, zeroScratch}
-use Rattle.analyses.specs.Chain.{noCounts, refusedBy, chargeGraph}
+use Rattle.admission.specs.Begun.{noCounts, refusedBy, chargeGraph}
 
 -- scratch of zeros, with room for the closure
 pub record Clean (sheet marks stack rowKinds rowValues list : List ℕ) : Type 0 where

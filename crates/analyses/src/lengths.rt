@@ -8,7 +8,7 @@ ghost use Rattle.model.specs.declared.Answer.the-variants.{Analyzed};
 ghost use Rattle.model.specs.declared.Counts.{Counts};
 ghost use Rattle.model.specs.declared.VerifierResources.{VerifierResources};
 ghost use Rattle.sheet.specs.Measured.{Measured};
-ghost use Rattle.analyses.specs.Chain.{refusing};
+ghost use Rattle.answers.specs.Answers.{refusing};
 ghost use Rattle.analyses.specs.Lengths.{Stored, Lengthened};
 use length_facts::length_facts;
 use model::Answer;

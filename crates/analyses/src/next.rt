@@ -2,121 +2,19 @@
 ghost use mathlib.Core.Path.{_≡_};
 ghost use mathlib.Core.Option.{some};
 ghost use Rattle.model.specs.Sheet.{codeCount};
-ghost use Rattle.model.specs.Closure.{stageNumber};
 ghost use Rattle.model.specs.Analyses.{stage};
 ghost use Rattle.model.specs.Call.{roomFor, zeroTable};
 ghost use Rattle.model.specs.Tables.{lengthTable};
 ghost use Rattle.stages.specs.Stage.{table, scratch};
 ghost use Rattle.stages.specs.Stocked.{Found};
-ghost use Rattle.analyses.specs.Chain.{counted, afterStage, refusing, next, nextOf};
+ghost use Rattle.analyses.specs.Chain.{next, nextOf};
 ghost use Rattle.analyses.specs.Values.{Clean};
 use analysis::analyze_stage;
+use answers::after_stage;
 use model::AnalysisKind;
 use model::Answer;
-use model::Counts;
-use model::VerifierResources;
 use sheet::Sizes;
-use stages::Staged;
 use stages::clear_table;
-
-// "stage (1 to 5 in charge order)"
-fn stage_number(which: AnalysisKind) -> u8
-    ensures { λ r. ⌜ r ≡ stageNumber which ⌝ }
-{
-    match which {
-        AnalysisKind::Constant => 3,
-        AnalysisKind::IndexCheck => 4,
-        AnalysisKind::Container => 5,
-    }
-}
-
-// The counts of all three, with those of this analysis.
-fn with_counts(
-    which: AnalysisKind,
-    counts: Counts,
-    constant: Counts,
-    index: Counts,
-    container: Counts,
-    left: VerifierResources,
-) -> Answer
-    ensures { λ r. ⌜ r ≡ counted which counts constant index container left ⌝ }
-{
-    match which {
-        AnalysisKind::Constant => Answer::Analyzed {
-            constant: counts,
-            index,
-            container,
-            left,
-        },
-        AnalysisKind::IndexCheck => Answer::Analyzed {
-            constant,
-            index: counts,
-            container,
-            left,
-        },
-        AnalysisKind::Container => Answer::Analyzed {
-            constant,
-            index,
-            container: counts,
-            left,
-        },
-    }
-}
-
-// The answer with what a stage came to.
-fn after_stage(
-    which: AnalysisKind,
-    ended: Staged,
-    constant: Counts,
-    index: Counts,
-    container: Counts,
-) -> Answer
-    ensures { λ r. ⌜ r ≡ afterStage which ended constant index container ⌝ }
-{
-    match ended {
-        Staged::Done { counts, left } => with_counts(
-            which,
-            counts,
-            constant,
-            index,
-            container,
-            left,
-        ),
-        Staged::OverBudget {
-            requested,
-            remaining,
-            left,
-        } => Answer::OverBudget {
-            stage: stage_number(which),
-            requested,
-            remaining,
-            left,
-        },
-        Staged::NoRoom { left } => Answer::NoRoom { left },
-    }
-}
-
-// Whether an answer is no success.
-pub fn refuses(answer: Answer) -> bool
-    ensures { λ r. ⌜ r ≡ refusing answer ⌝ }
-{
-    match answer {
-        Answer::Analyzed {
-            constant: _,
-            index: _,
-            container: _,
-            left: _,
-        } => false,
-        Answer::Invalid { number: _, left: _ } => true,
-        Answer::OverBudget {
-            stage: _,
-            requested: _,
-            remaining: _,
-            left: _,
-        } => true,
-        Answer::NoRoom { left: _ } => true,
-    }
-}
 
 // The next analysis, in a scratch that is zero; its output is cleared, and stays so where the answer so far is a refusal.
 pub fn analyze_next(

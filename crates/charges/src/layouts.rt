@@ -9,17 +9,17 @@ ghost use Rattle.sheet.specs.Measured.{Measured};
 use budget::Metering;
 use budget::charge_bytes;
 use budget::metered;
+use code::instruction_at;
+use code::note_a_at;
+use code::note_b_at;
+use code::note_kind_at;
+use entries::layout_length_at;
 use fact_cells::map_cell;
 use fact_cells::queue_cell;
 use fact_cells::unknown_cell;
 use model::FactCell;
 use model::VerifierResources;
 use sheet::Sizes;
-use sheet::instruction_at;
-use sheet::layout_length_at;
-use sheet::note_a_at;
-use sheet::note_b_at;
-use sheet::note_kind_at;
 
 // "Opcodes (decimal)"
 const MAP_NEW: u8 = 89;

@@ -61,10 +61,10 @@ fn load_const_cell(sheet: &[u8], sizes: Sizes, i: usize) -> FactCell
     if sizes.constant_count <= i {
         return unknown_cell();
     }
-    if sheet::constant_kind_at(sheet, sizes, i) != 1 {
+    if entries::constant_kind_at(sheet, sizes, i) != 1 {
         return unknown_cell();
     }
-    integer_cell(sheet::constant_bits_at(sheet, sizes, i))
+    integer_cell(entries::constant_bits_at(sheet, sizes, i))
 }
 
 // Shl of two facts "from 0 to 2^64 − 1"; a shift by 64 or more is Unknown.

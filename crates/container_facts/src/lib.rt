@@ -37,19 +37,19 @@ fn instruction_fact(sheet: &[u8], sizes: Sizes, pc: usize, op: u8) -> FactCell
     requires { ⌜ Measured (now sheet) sizes × (pc < sizes .«code_count») × (op ≡ instruction (now sheet) pc .op) ⌝ }
     ensures { λ r. ⌜ r ≡ cellOf (orUnknown (instructionFact (now (sheet .entry)) pc)) ⌝ }
 {
-    let kind = sheet::note_kind_at(sheet, sizes, pc);
+    let kind = code::note_kind_at(sheet, sizes, pc);
     if op == MAP_NEW {
         if kind == MAP_NEW_NOTE {
             return map_cell(
-                sheet::note_a_at(sheet, sizes, pc),
-                sheet::note_b_at(sheet, sizes, pc),
+                code::note_a_at(sheet, sizes, pc),
+                code::note_b_at(sheet, sizes, pc),
             );
         }
         return unknown_cell();
     }
     if op == QUEUE_NEW {
         if kind == QUEUE_LAYOUT_NOTE {
-            return queue_cell(sheet::note_a_at(sheet, sizes, pc));
+            return queue_cell(code::note_a_at(sheet, sizes, pc));
         }
         return unknown_cell();
     }

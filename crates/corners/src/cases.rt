@@ -121,7 +121,7 @@ fn answer(sheet: &[u8], sizes: Sizes, firsts: &[u16], question: Question) -> boo
     let pc = question.pc;
     let slot = question.slot;
     let before = question.before;
-    let inst = sheet::instruction_at(sheet, pc);
+    let inst = code::instruction_at(sheet, pc);
     if question.asks == SUCCESSORS {
         lines::successors(pc, cfg::instruction_successors(sizes.code_count, pc, inst));
         return true;

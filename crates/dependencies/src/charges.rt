@@ -13,10 +13,10 @@ use budget::charge_bytes;
 use budget::charge_edges;
 use budget::charge_work;
 use budget::metered;
+use code::instruction_at;
 use model::Instruction;
 use model::VerifierResources;
 use sheet::Sizes;
-use sheet::instruction_at;
 
 // "successor record 24": bytes 24 × n, then work n.
 pub fn charge_flow(sizes: Sizes, resources: VerifierResources) -> Metering

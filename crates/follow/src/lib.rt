@@ -9,6 +9,7 @@ ghost use mathlib.Core.List.{_++_};
 ghost use lib.Dec.{ltb};
 ghost use Rattle.marks.specs.Marks.{Lain, Holding};
 ghost use Rattle.follow.specs.Sources.{edgesIn, onlyIf, Reach, Follows};
+use code::instruction_at;
 use dependencies::CONSTANT;
 use dependencies::CONTAINER;
 use dependencies::COPY_N;
@@ -22,7 +23,6 @@ use marks::two;
 use model::AnalysisKind;
 use model::Instruction;
 use sheet::Sizes;
-use sheet::instruction_at;
 
 // The edges of an instruction to one slot: their sources, and the mask of the analyses that follow them.
 struct SlotEdges {

@@ -6,15 +6,15 @@ ghost use Rattle.model.specs.Count.{every};
 ghost use Rattle.model.specs.Sheet.{codeCount, constantCount, paramCount, slotKindCount, layoutsUsed, kindsNamed};
 ghost use Rattle.model.specs.Sheet.{noteNamed, constantNamed, paramNamed, slotKindNamed};
 ghost use Rattle.sheet.specs.Measured.{Measured};
+use code::note_a_at;
+use code::note_b_at;
+use code::note_kind_at;
+use entries::constant_kind_at;
+use entries::param_a_at;
+use entries::param_b_at;
+use entries::param_kind_at;
+use entries::slot_kind_at;
 use sheet::Sizes;
-use sheet::constant_kind_at;
-use sheet::note_a_at;
-use sheet::note_b_at;
-use sheet::note_kind_at;
-use sheet::param_a_at;
-use sheet::param_b_at;
-use sheet::param_kind_at;
-use sheet::slot_kind_at;
 
 // "kind 1 uses A (key) and B (value); the other nonzero kinds use A only. Unused ones are ignored."
 fn layouts_used(count: usize, kind: u8, a: u16, b: u16) -> bool

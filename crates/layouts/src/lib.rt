@@ -4,9 +4,9 @@ ghost use Prim.Native.Nat.{_≤_};
 ghost use lib.ListN.{length};
 ghost use Rattle.model.specs.Listing.{lowest};
 ghost use Rattle.layouts.specs.Readable.{Readable, startOf};
+use entries::layout_length_at;
+use entries::slot_kind_at;
 use sheet::Sizes;
-use sheet::layout_length_at;
-use sheet::slot_kind_at;
 
 // Where the slot kinds of layout i begin among the q. starts is what layout_starts has filled; from y up there are none.
 fn start_of(starts: &[u16], y: usize, i: usize) -> usize

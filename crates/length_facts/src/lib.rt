@@ -60,7 +60,7 @@ fn length_fact(
     requires { ⌜ (pc < sizes .«code_count») × (length (now present) ≡ sizes .«code_count») ⌝ }
     ensures { λ r. ⌜ ((rows : List (Option Row)) → Ended (now (slots .entry)) rows (now (present .entry)) (now (kinds .entry)) (now (values .entry)) → r ≡ cellOf (lengthFact (now (sheet .entry)) (now (slots .entry)) rows pc)) ⌝ }
 {
-    let inst = sheet::instruction_at(sheet, pc);
+    let inst = code::instruction_at(sheet, pc);
     if inst.op == INDEX_CHECK {
         return row_fact(slots, present, kinds, values, pc, wide(inst.b));
     }

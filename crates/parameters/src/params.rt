@@ -6,15 +6,15 @@ ghost use Rattle.model.specs.Transfer.{orUnknown};
 ghost use Rattle.model.specs.Parameters.{transferSlots, paramStart, paramFact};
 ghost use Rattle.sheet.specs.Measured.{Measured};
 ghost use Rattle.parameters.specs.Start.{startOf};
+use entries::param_a_at;
+use entries::param_b_at;
+use entries::param_kind_at;
+use entries::param_width_at;
 use fact_cells::map_cell;
 use fact_cells::queue_cell;
 use fact_cells::unknown_cell;
 use model::FactCell;
 use sheet::Sizes;
-use sheet::param_a_at;
-use sheet::param_b_at;
-use sheet::param_kind_at;
-use sheet::param_width_at;
 
 // The slot of the first parameter, if there is one.
 pub enum ParamStart {

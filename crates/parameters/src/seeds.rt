@@ -17,6 +17,7 @@ use crate::params::param_fact;
 use crate::params::param_start;
 use budget::Metering;
 use charges::charge_layouts;
+use entries::param_width_at;
 use memory::clear_u8;
 use memory::clear_u64;
 use model::FactCell;
@@ -25,7 +26,6 @@ use search::Place;
 use search::find;
 use search::wide;
 use sheet::Sizes;
-use sheet::param_width_at;
 
 // The fact of a slot is set, if the slot is tracked.
 fn put(slots: &[u16], slot: usize, cell: FactCell, row_kinds: &mut [u8], row_values: &mut [u64])

@@ -2,9 +2,9 @@
 ghost use mathlib.Core.Path.{_≡_};
 ghost use Rattle.model.specs.Sheet.{codeCount, layoutCount, firstRange, layoutStart, sumsMatch};
 ghost use Rattle.sheet.specs.Measured.{Measured};
+use code::ranges_of;
+use entries::layout_length_at;
 use sheet::Sizes;
-use sheet::layout_length_at;
-use sheet::ranges_of;
 
 // How many ranges all instructions take.
 fn ranges_taken(sheet: &[u8], sizes: Sizes) -> usize

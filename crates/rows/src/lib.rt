@@ -71,8 +71,8 @@ fn write_ranges(
 {
     let mut i = 0;
     while i < count {
-        let start = sheet::range_start_at(sheet, sizes, first + i);
-        let length = sheet::range_length_at(sheet, sizes, first + i) as u64;
+        let start = code::range_start_at(sheet, sizes, first + i);
+        let length = code::range_length_at(sheet, sizes, first + i) as u64;
         write_range(
             effect,
             slots,

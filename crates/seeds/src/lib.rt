@@ -7,6 +7,7 @@ ghost use Rattle.model.specs.Closure.{markSeeds};
 ghost use Rattle.sheet.specs.Measured.{Measured};
 ghost use Rattle.marks.specs.Marks.{Lain, Goes, Holding};
 ghost use Rattle.seeds.specs.Fields.{fieldsIn};
+use code::instruction_at;
 use marks::Candidates;
 use marks::mark_slots;
 use marks::none;
@@ -15,7 +16,6 @@ use marks::two;
 use model::AnalysisKind;
 use model::Instruction;
 use sheet::Sizes;
-use sheet::instruction_at;
 
 // The fields of an instruction that are seeds, in the order of the Rust.
 enum Fields {

@@ -1,6 +1,4 @@
-// The analyses in sequence: the constant and the index analysis, and the container analysis after them.
-mod containers;
+// The first two analyses in sequence: constants, then index, which reads the constants.
 mod values;
 
-pub use containers::analyze_containers;
 pub use values::analyze_values;

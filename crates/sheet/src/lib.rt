@@ -1,24 +1,9 @@
-// The sheet: its sizes, and a reader for each field.
-mod bytes;
-mod fields;
-
-pub use fields::constant_bits_at;
-pub use fields::constant_kind_at;
-pub use fields::instruction_at;
-pub use fields::layout_length_at;
-pub use fields::note_a_at;
-pub use fields::note_b_at;
-pub use fields::note_kind_at;
-pub use fields::param_a_at;
-pub use fields::param_b_at;
-pub use fields::param_kind_at;
-pub use fields::param_width_at;
-pub use fields::range_length_at;
-pub use fields::range_start_at;
-pub use fields::ranges_of;
-pub use fields::size_at;
-pub use fields::slot_kind_at;
-pub use fields::write_count_at;
+// The sheet: its sizes, and where its arrays begin.
+ghost use mathlib.Core.Path.{_≡_};
+ghost use Prim.Native.Nat.{_<_, _≤_};
+ghost use lib.ListN.{length};
+ghost use Rattle.model.specs.Sheet.{size};
+use endian::u32_in;
 
 // Where each array of a sheet begins; the code begins at 40.
 pub struct Places {
@@ -51,4 +36,12 @@ pub struct Sizes {
     pub recv_slots: usize,
     pub is_closure: usize,
     pub places: Places,
+}
+
+// The size j, which may be any 32 bits until its limit has been asked.
+pub fn size_at(sheet: &[u8], j: usize) -> usize
+    requires { ⌜ (40 ≤ length (now sheet)) × (j < 10) ⌝ }
+    ensures { λ r. ⌜ (r ≡ size (now (sheet .entry)) j) × (r < 4294967296) ⌝ }
+{
+    u32_in(sheet, 0, j) as usize
 }

@@ -6,8 +6,8 @@ ghost use Rattle.model.specs.Fact.{equalContent, equalLayouts};
 ghost use Rattle.model.specs.Sheet.{layoutStart, layoutCount, slotKindsAt};
 ghost use Rattle.memory.specs.Front.{Holds};
 ghost use Rattle.sheet.specs.Measured.{Accepted};
+use entries::layout_length_at;
 use sheet::Sizes;
-use sheet::layout_length_at;
 
 // Whether the count bytes from a are those from b.
 fn equal_bytes(bytes: &[u8], a: usize, b: usize, count: usize) -> bool

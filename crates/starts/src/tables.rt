@@ -4,9 +4,9 @@ ghost use Prim.Native.Nat.{_≤_};
 ghost use lib.ListN.{length};
 ghost use Rattle.sheet.specs.Measured.{Accepted};
 ghost use Rattle.starts.specs.Tables.{firstRanges, layoutStarts};
+use code::ranges_of;
+use entries::layout_length_at;
 use sheet::Sizes;
-use sheet::layout_length_at;
-use sheet::ranges_of;
 
 // The number of the first range of each instruction.
 pub fn first_ranges(sheet: &[u8], sizes: Sizes, out: &mut [u16])

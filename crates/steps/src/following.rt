@@ -6,9 +6,9 @@ ghost use Rattle.model.specs.Successors.{sheetSuccessors};
 ghost use Rattle.steps.specs.Laid.{Following, Follow};
 use crate::visits::offer;
 use cfg::instruction_successors;
+use code::instruction_at;
 use model::AnalysisKind;
 use sheet::Sizes;
-use sheet::instruction_at;
 
 // "Then each successor in order": each of p's is offered the copy. The list's new top.
 pub fn offer_successors(

@@ -79,7 +79,7 @@ pub fn transfer_row(
     requires { ⌜ Tracked (now slots) (now kinds) (now values) × (length (now «out_kinds») ≡ length (now slots)) × (length (now «out_values») ≡ length (now slots)) ⌝ }
     ensures { λ r. ⌜ Lies (transferRow which (now (sheet .entry)) (now (slots .entry)) (λ p. factIn «length_fact») pc (factsOf (now (kinds .entry)) (now (values .entry)))) (now («out_kinds» .exit)) (now («out_values» .exit)) ⌝ }
 {
-    let inst = sheet::instruction_at(sheet, pc);
+    let inst = code::instruction_at(sheet, pc);
     let effect = effect_of(which, sheet, sizes, slots, kinds, values, pc, inst);
     let written = slots_written(which, sheet, sizes, firsts, slots, kinds, values, pc, inst);
     memory::copy_u8(kinds, out_kinds);

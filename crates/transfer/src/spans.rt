@@ -27,7 +27,7 @@ fn ranges_written(sheet: &[u8], sizes: Sizes, firsts: &[u16], pc: usize) -> Writ
     requires { ⌜ Accepted (now sheet) sizes × Holds (firstRange (now sheet)) (codeCount (now sheet)) (now firsts) × (pc < sizes .«code_count») ⌝ }
     ensures { λ r. ⌜ Names r (now (sheet .entry)) sizes (rangesWrite (erred (now (sheet .entry)) pc) (now (sheet .entry)) pc) ⌝ }
 {
-    let count = sheet::write_count_at(sheet, sizes, pc);
+    let count = code::write_count_at(sheet, sizes, pc);
     if count == 65535 {
         return Written::Span {
             start: 0,

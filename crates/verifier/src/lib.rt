@@ -7,12 +7,12 @@ ghost use Rattle.model.specs.declared.Answer.the-variants.{Analyzed};
 ghost use Rattle.model.specs.declared.Counts.{Counts};
 ghost use Rattle.model.specs.declared.VerifierResources.{VerifierResources};
 ghost use Rattle.stages.specs.Stage.{table, scratch, lent};
-use analyses::Admission;
-use analyses::admit;
-use analyses::refuses;
+use admission::Admission;
+use admission::admit;
+use answers::refuses;
+use containers::analyze_containers;
 use model::Answer;
 use model::VerifierResources;
-use sequence::analyze_containers;
 use sequence::analyze_values;
 use stages::clear_table_if;
 

@@ -9,6 +9,7 @@ ghost use Rattle.steps.specs.Stepped.{ranAnalysis, Lending};
 ghost use Rattle.turns.specs.Turn.{Fresh};
 ghost use Rattle.worklist.specs.Result.{runResult, ranOf};
 use crate::ending::finish;
+use code::instruction_at;
 use model::AnalysisKind;
 use model::InstructionSuccessors;
 use sheet::Sizes;

@@ -15,7 +15,7 @@ fn note_length(sheet: &[u8], sizes: Sizes, pc: usize) -> u16
     requires { ⌜ Measured (now sheet) sizes × (pc < sizes .«code_count») ⌝ }
     ensures { λ r. ⌜ r ≡ layoutLength (now (sheet .entry)) (noteA (now (sheet .entry)) pc) ⌝ }
 {
-    sheet::layout_length_at(sheet, sizes, sheet::note_a_at(sheet, sizes, pc) as usize)
+    entries::layout_length_at(sheet, sizes, code::note_a_at(sheet, sizes, pc) as usize)
 }
 
 // "a SlotLayout note whose layout is not empty"
@@ -23,7 +23,7 @@ pub fn has_elements(sheet: &[u8], sizes: Sizes, pc: usize) -> bool
     requires { ⌜ Measured (now sheet) sizes × (pc < sizes .«code_count») ⌝ }
     ensures { λ r. ⌜ r ≡ hasElements (slotLayoutNote (now (sheet .entry)) pc) (now (sheet .entry)) pc ⌝ }
 {
-    if sheet::note_kind_at(sheet, sizes, pc) == SLOT_LAYOUT {
+    if code::note_kind_at(sheet, sizes, pc) == SLOT_LAYOUT {
         return 0 < note_length(sheet, sizes, pc);
     }
     false
@@ -34,7 +34,7 @@ pub fn elem_slots(sheet: &[u8], sizes: Sizes, pc: usize, inst: Instruction) -> u
     requires { ⌜ Measured (now sheet) sizes × (pc < sizes .«code_count») × (inst ≡ instruction (now sheet) pc) ⌝ }
     ensures { λ r. ⌜ r ≡ noteElemSlots (slotLayoutNote (now (sheet .entry)) pc) (now (sheet .entry)) pc ⌝ }
 {
-    if sheet::note_kind_at(sheet, sizes, pc) == SLOT_LAYOUT {
+    if code::note_kind_at(sheet, sizes, pc) == SLOT_LAYOUT {
         return note_length(sheet, sizes, pc);
     }
     inst.flags as u16

@@ -35,8 +35,8 @@ fn range_holds(sheet: &[u8], sizes: Sizes, i: usize, slot: u16) -> bool
 {
     in_range(
         slot,
-        sheet::range_start_at(sheet, sizes, i),
-        sheet::range_length_at(sheet, sizes, i) as u64,
+        code::range_start_at(sheet, sizes, i),
+        code::range_length_at(sheet, sizes, i) as u64,
     )
 }
 

@@ -15,7 +15,7 @@ fn ranges_write(sheet: &[u8], sizes: Sizes, firsts: &[u16], pc: usize, slot: u16
     requires { ⌜ Accepted (now sheet) sizes × Holds (firstRange (now sheet)) (codeCount (now sheet)) (now firsts) × (pc < sizes .«code_count») ⌝ }
     ensures { λ r. ⌜ r ≡ rangesWrite (erred (now (sheet .entry)) pc) (now (sheet .entry)) pc slot ⌝ }
 {
-    let count = sheet::write_count_at(sheet, sizes, pc);
+    let count = code::write_count_at(sheet, sizes, pc);
     if count == 65535 {
         return true;
     }

@@ -2,7 +2,7 @@
 -- Assumes nothing.
 use mathlib.Core.Path.{_∙_}
 use Rattle.stages.specs.Stage.{table, scratch, lent}
-use Rattle.analyses.proofs.Asking.{turned-away, admitted-asks}
+use Rattle.admission.proofs.Asking.{turned-away, admitted-asks}
 use Rattle.analyses.proofs.Ready.{clean, values-clear, demanded}
 use Rattle.analyses.proofs.Whole.{promise}
 use borrow.Author.Needs.{needs}
@@ -10,14 +10,14 @@ use Rattle.verifier.proofs.analyze.Statement.{statement}
 use Rattle.verifier.proofs.analyze.Tie as tie
 use Rattle.verifier.proofs.analyze.Reads as reads
 use Rattle.verifier.proofs.analyze.Lts as lts
-use Rattle.analyses.proofs.admit.Reads as admit-reads
-use Rattle.sequence.proofs.analyze_containers.Reads as analyze-containers-reads
-use Rattle.analyses.proofs.refuses.Reads as refuses-reads
+use Rattle.admission.proofs.admit.Reads as admit-reads
+use Rattle.containers.proofs.analyze_containers.Reads as analyze-containers-reads
+use Rattle.answers.proofs.refuses.Reads as refuses-reads
 use Rattle.sequence.proofs.analyze_values.Reads as analyze-values-reads
 use Rattle.stages.proofs.clear_table_if.Reads as clear-table-if-reads
 
 admit-requires : tie.Need-admit-requires
-admit-requires c κs = search needs
+admit-requires c κs = tt
 
 enum-known-admission : tie.Need-enum-known-admission
 enum-known-admission c = search needs
@@ -37,13 +37,13 @@ analyze-containers-requires c κs =
     (asks .0, clean _ (scratch (start .args .marks .now) (start .args .stack .now) (start .args .row-kinds .now) (start .args .row-values .now) (start .args .work-list .now)) (values-clear (table (start .args .constant-slots .now) (start .args .constant-present .now) (start .args .constant-kinds .now) (start .args .constant-values .now)) (table (start .args .index-slots .now) (start .args .index-present .now) (start .args .index-kinds .now) (start .args .index-values .now)) (scratch (start .args .marks .now) (start .args .stack .now) (start .args .row-kinds .now) (start .args .row-values .now) (start .args .work-list .now)) _ (c .before .before .before .before .before .before .before .before .before .before .before .before .before .before .before .before .before .before .before .before .before .before .before .before .before .before .before .before .before .before .before .before .before .before .before .analyze-values .ensures)) (asks .1) (asks .2))
 
 refuses-requires : tie.Need-refuses-requires
-refuses-requires c κs = search needs
+refuses-requires c κs = tt
 
 clear-table-if-requires : tie.Need-clear-table-if-requires
-clear-table-if-requires c κs = search needs
+clear-table-if-requires c κs = tt
 
 clear-table-if-requires-2 : tie.Need-clear-table-if-requires-2
-clear-table-if-requires-2 c κs = search needs
+clear-table-if-requires-2 c κs = tt
 
 returns : tie.Need-returns
 returns c =

@@ -12,26 +12,26 @@ use Rattle.sequence.proofs.values.analyze_values.Statement.{statement}
 use Rattle.sequence.proofs.values.analyze_values.Tie as tie
 use Rattle.sequence.proofs.values.analyze_values.Reads as reads
 use Rattle.sequence.proofs.values.analyze_values.Lts as lts
-use Rattle.analyses.proofs.charge_graph.Reads as charge-graph-reads
+use Rattle.admission.proofs.charge_graph.Reads as charge-graph-reads
 use Rattle.analyses.proofs.store_lengths.Reads as store-lengths-reads
 use Rattle.analyses.proofs.analyze_next.Reads as analyze-next-reads
-use Rattle.analyses.proofs.refuses.Reads as refuses-reads
+use Rattle.answers.proofs.refuses.Reads as refuses-reads
 use Rattle.starts.proofs.first_ranges.Reads as first-ranges-reads
 use Rattle.starts.proofs.layout_starts.Reads as layout-starts-reads
 use Rattle.stages.proofs.clear_scratch.Reads as clear-scratch-reads
 use Rattle.stages.proofs.clear_table_if.Reads as clear-table-if-reads
 
 clear-scratch-requires : tie.Need-clear-scratch-requires
-clear-scratch-requires c κs = search needs
+clear-scratch-requires c κs = tt
 
 slice-aggregate-first-ranges : tie.Need-slice-aggregate-first-ranges
-slice-aggregate-first-ranges c = search needs
+slice-aggregate-first-ranges c = refl
 
 first-ranges-requires : tie.Need-first-ranges-requires
 first-ranges-requires c κs = let start = c .before .before .before .before .before .before .before .before .before .before .before .before .before .before .before .before .before .before .before .before .before .before .before .before .before .before .before .before .before .before .before in (start .pre .0, few-code (start .pre .0))
 
 slice-aggregate-layout-starts : tie.Need-slice-aggregate-layout-starts
-slice-aggregate-layout-starts c = search needs
+slice-aggregate-layout-starts c = refl
 
 layout-starts-requires : tie.Need-layout-starts-requires
 layout-starts-requires c κs = let start = c .before .before .before .before .before .before .before .before .before .before .before .before .before .before .before .before .before .before .before .before .before .before .before .before .before .before .before .before .before .before .before .before .before .before in (start .pre .0, few-layouts (start .pre .0))
@@ -46,10 +46,10 @@ slice-aggregate-analyze-next-2 : tie.Need-slice-aggregate-analyze-next-2
 slice-aggregate-analyze-next-2 c = search needs
 
 slice-aggregate-analyze-next-3 : tie.Need-slice-aggregate-analyze-next-3
-slice-aggregate-analyze-next-3 c = search needs
+slice-aggregate-analyze-next-3 c = refl
 
 slice-aggregate-analyze-next-4 : tie.Need-slice-aggregate-analyze-next-4
-slice-aggregate-analyze-next-4 c = search needs
+slice-aggregate-analyze-next-4 c = refl
 
 analyze-next-requires : tie.Need-analyze-next-requires
 analyze-next-requires c κs = let start = c .before .before .before .before .before .before .before .before .before .before .before .before .before .before .before .before .before .before .before .before .before .before .before .before .before .before .before .before .before .before .before .before .before .before .before .before .before .before .before .before .before .before .before .before .before .before .before .before .before .before in (
@@ -58,10 +58,10 @@ analyze-next-requires c κs = let start = c .before .before .before .before .bef
 )
 
 slice-aggregate-store-lengths : tie.Need-slice-aggregate-store-lengths
-slice-aggregate-store-lengths c = search needs
+slice-aggregate-store-lengths c = refl
 
 slice-aggregate-store-lengths-2 : tie.Need-slice-aggregate-store-lengths-2
-slice-aggregate-store-lengths-2 c = search needs
+slice-aggregate-store-lengths-2 c = refl
 
 store-lengths-requires : tie.Need-store-lengths-requires
 store-lengths-requires c κs = let start = c .before .before .before .before .before .before .before .before .before .before .before .before .before .before .before .before .before .before .before .before .before .before .before .before .before .before .before .before .before .before .before .before .before .before .before .before .before .before .before .before .before .before .before .before .before .before .before .before .before .before .before .before .before .before .before .before .before .before .before .before .before .before .before .before .before .before .before .before .before .before .before .before .before .before .before in (
@@ -88,10 +88,10 @@ analyze-next-requires-2 c κs = let start = c .before .before .before .before .b
 )
 
 refuses-requires : tie.Need-refuses-requires
-refuses-requires c κs = search needs
+refuses-requires c κs = tt
 
 clear-table-if-requires : tie.Need-clear-table-if-requires
-clear-table-if-requires c κs = search needs
+clear-table-if-requires c κs = tt
 
 same-length : tie.Need-same-length
 same-length c = c .before .before .before .before .before .before .before .constant-slots2 .given ∙ c .before .before .before .before .before .before .before .before .before .before .before .before .before .before .before .before .before .before .before .before .before .before .before .before .before .before .before .before .before .before .before .before .before .before .before .before .before .before .before .before .before .before .before .before .before .before .before .before .before .before .before .before .before .before .before .before .before .before .before .before .before .before .before .before .before .before .before .before .before .before .before .before .constant-slots .given

@@ -8,7 +8,7 @@ use Rattle.steps.proofs.following.offer_successors.Tie as tie
 use Rattle.steps.proofs.following.offer_successors.Reads as reads
 use Rattle.steps.proofs.following.offer_successors.Lts as lts
 use Rattle.cfg.proofs.instruction_successors.Reads as instruction-successors-reads
-use Rattle.sheet.proofs.instruction_at.Reads as instruction-at-reads
+use Rattle.code.proofs.instruction_at.Reads as instruction-at-reads
 use Rattle.steps.proofs.visits.offer.Reads as offer-reads
 
 instruction-at-requires : tie.Need-instruction-at-requires

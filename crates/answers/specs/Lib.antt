@@ -1,0 +1,2 @@
+-- What the functions of this crate answer, by the definitions of `model`.
+pub mod Answers
