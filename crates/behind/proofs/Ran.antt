@@ -29,9 +29,9 @@ use Rattle.sheet.proofs.Counted.{counted}
 use Rattle.sheet.proofs.Limited.{limited}
 use Rattle.parameters.specs.First.{Blank, First, first, firstOf}
 use Rattle.steps.specs.Stepped.{ranAnalysis, Lending}
-use Rattle.turns.specs.Turn.{Fresh}
-use Rattle.turns.specs.declared.Run.{Run}
-use Rattle.turns.specs.declared.Run.the-variants.{Finished, Overdrawn}
+use Rattle.worklist.specs.Turn.{Fresh}
+use Rattle.worklist.specs.declared.Run.{Run}
+use Rattle.worklist.specs.declared.Run.the-variants.{Finished, Overdrawn}
 use Rattle.worklist.specs.Result.{RunResult, runResult, ranOf}
 use Rattle.stages.specs.Parts.{entering, behindRoom, stagedOf, Behind, behind, behindZero, behindOf}
 use Rattle.stages.specs.Stocked.{Found, Slotted, Zeroed}

@@ -10,8 +10,8 @@ use Rattle.model.specs.Analyses.{Analysed, chargeMatrix, firstRow, propagate}
 use Rattle.model.specs.Call.{counts, tables}
 use Rattle.model.specs.declared.VerifierResources.{VerifierResources}
 use Rattle.model.specs.declared.AnalysisKind.{AnalysisKind}
-use Rattle.turns.specs.declared.Run.{Run}
-use Rattle.turns.specs.declared.Run.the-variants.{Finished, Overdrawn}
+use Rattle.worklist.specs.declared.Run.{Run}
+use Rattle.worklist.specs.declared.Run.the-variants.{Finished, Overdrawn}
 use Rattle.stages.specs.declared.Staged.{Staged}
 use Rattle.stages.specs.declared.Staged.the-variants.{Done, OverBudget, NoRoom}
 

@@ -16,7 +16,7 @@ use model::AnalysisKind;
 use model::Counts;
 use model::VerifierResources;
 use sheet::Sizes;
-use turns::Run;
+use worklist::Run;
 
 // "its matrix charge", then the first row with its charges, in a row that is zero; a refusal leaves it zero.
 pub fn enter(

@@ -26,7 +26,7 @@ use Rattle.sheet.specs.declared.Sizes.{Sizes}
 use Rattle.sheet.proofs.Counted.{counted}
 use Rattle.search.specs.Rows.{Lies, Tracked}
 use Rattle.steps.specs.Laid.{RowsLaid, RowLaid, StateLaid, Following, Follow}
-use Rattle.steps.specs.Stepped.{ranAnalysis, Lending, Stepping, Step}
+use Rattle.steps.specs.Stepped.{ranAnalysis, Lending, Stepping, Step, Copied}
 use Rattle.steps.proofs.Laying.{row-end, mid-row, rows-are}
 
 -- the length's fact of one instruction is all that its transfer reads
@@ -102,6 +102,10 @@ module _ {which : AnalysisKind} {sheet : List ℕ} {sizes : Sizes} {firsts start
       where
         transferred-length : (x : Row) → length x ≡ length slots → length (transferRow which sheet slots (lengthTable lengthKinds lengthValues) p x) ≡ length slots
         transferred-length x h = unfold analysis in (lawful which sheet slots (lengthTable lengthKinds lengthValues) (t .entry) (t .lending .entry-length) .transfer-length p x h)
+
+    pub copied : Copied which sheet slots lengthKinds lengthValues p present kinds values rowKinds′ rowValues′
+    unfolding Copied
+    copied = copy-laid
 
     -- it has s facts
     copy-length : (length rowKinds′ ≡ length slots) × (length rowValues′ ≡ length slots)

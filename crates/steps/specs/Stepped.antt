@@ -3,7 +3,7 @@
 use mathlib.Core.Path.{_≡_}
 use mathlib.Core.Bool.{true}
 use mathlib.Core.List.{List}
-use mathlib.Core.Option.{some}
+use mathlib.Core.Option.{Option, some}
 use Prim.Native.Nat.{ℕ, _*_, _≤_, _<_}
 use lib.ListN.{length}
 use Rattle.model.specs.Fact.{Row}
@@ -16,7 +16,8 @@ use Rattle.memory.specs.Front.{Holds}
 use Rattle.sheet.specs.Measured.{Accepted}
 use Rattle.sheet.specs.declared.Sizes.{Sizes}
 use Rattle.model.specs.declared.AnalysisKind.{AnalysisKind}
-use Rattle.steps.specs.Laid.{StateLaid}
+use Rattle.model.specs.Transfer.{transferRow}
+use Rattle.steps.specs.Laid.{StateLaid, RowsLaid, RowLaid}
 
 -- the analysis that the loop runs, from its first row
 unfoldable pub ranAnalysis : AnalysisKind → List ℕ → List ℕ → List ℕ → List ℕ → Row → Analysis
@@ -61,3 +62,9 @@ Step which sheet slots lengthKinds lengthValues p present kinds values list top 
     (entry : Row) (room : ℕ) (st : State) (row : Row) → StateLaid (length slots) room st present kinds values list top → rowAt (st .rows) p ≡ some row
     → length (carry (ranAnalysis which sheet slots lengthKinds lengthValues entry) p (some row) st .list) < room
     → StateLaid (length slots) room (carry (ranAnalysis which sheet slots lengthKinds lengthValues entry) p (some row) st) present′ kinds′ values′ list′ top′
+
+-- The row scratch behind it: the copy of p's row, whatever row stands there, behind the transfer.
+unfoldable pub Copied : AnalysisKind → List ℕ → List ℕ → List ℕ → List ℕ → ℕ → List ℕ → List ℕ → List ℕ → List ℕ → List ℕ → Type 0
+Copied which sheet slots lengthKinds lengthValues p present kinds values rowKinds′ rowValues′ =
+    (rows : List (Option Row)) (row : Row) → RowsLaid (length slots) rows present kinds values → rowAt rows p ≡ some row
+    → RowLaid (length slots) (transferRow which sheet slots (lengthTable lengthKinds lengthValues) p row) rowKinds′ rowValues′

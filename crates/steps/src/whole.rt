@@ -1,6 +1,6 @@
 // One step, from the entry that was taken.
 ghost use mathlib.Core.Path.{_≡_};
-ghost use Rattle.steps.specs.Stepped.{Stepping, Step};
+ghost use Rattle.steps.specs.Stepped.{Stepping, Step, Copied};
 use crate::following::offer_successors;
 use model::AnalysisKind;
 use model::FactCell;
@@ -28,7 +28,7 @@ pub fn step(
     list: &mut [u16],
 ) -> usize
     requires { ⌜ Stepping which (now sheet) sizes (now firsts) (now starts) (now slots) (now «length_kinds») (now «length_values») p top (now present) (now kinds) (now values) (now «row_kinds») (now «row_values») (now list) ⌝ }
-    ensures { λ r. ⌜ Step which (now (sheet .entry)) (now (slots .entry)) (now («length_kinds» .entry)) (now («length_values» .entry)) p (now (present .entry)) (now (kinds .entry)) (now (values .entry)) (now (list .entry)) top (now (present .exit)) (now (kinds .exit)) (now (values .exit)) (now (list .exit)) r ⌝ }
+    ensures { λ r. ⌜ Step which (now (sheet .entry)) (now (slots .entry)) (now («length_kinds» .entry)) (now («length_values» .entry)) p (now (present .entry)) (now (kinds .entry)) (now (values .entry)) (now (list .entry)) top (now (present .exit)) (now (kinds .exit)) (now (values .exit)) (now (list .exit)) r × Copied which (now (sheet .entry)) (now (slots .entry)) (now («length_kinds» .entry)) (now («length_values» .entry)) p (now (present .entry)) (now (kinds .entry)) (now (values .entry)) (now («row_kinds» .exit)) (now («row_values» .exit)) ⌝ }
 {
     let s = slots.len();
     let at = p * s;

@@ -14,9 +14,9 @@ use Rattle.model.specs.declared.AnalysisKind.{AnalysisKind}
 use Rattle.sheet.specs.declared.Sizes.{Sizes}
 use Rattle.steps.specs.Laid.{Offer}
 use Rattle.steps.specs.Stepped.{ranAnalysis, Lending}
-use Rattle.turns.specs.Turn.{firstOf, Turn, Ran, Fresh}
-use Rattle.turns.specs.declared.Run.{Run}
-use Rattle.turns.proofs.Loop.{start-turn, start-first}
+use Rattle.worklist.specs.Turn.{firstOf, Turn, Ran, Fresh}
+use Rattle.worklist.specs.declared.Run.{Run}
+use Rattle.worklist.proofs.Loop.{start-turn, start-first}
 use Rattle.worklist.specs.Result.{RunResult, finishOf, ranOf}
 use Rattle.worklist.proofs.Finishing.{ends}
 

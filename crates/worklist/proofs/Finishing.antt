@@ -9,9 +9,9 @@ use Rattle.model.specs.Call.{zeros}
 use Rattle.model.specs.Fact.{kind, value, Row}
 use Rattle.model.specs.Run.{Analysis, RunEnd, finished, overdrawn, bound, run}
 use Rattle.model.specs.Tables.{presentBytes, cells}
-use Rattle.turns.specs.Turn.{Ran}
-use Rattle.turns.specs.declared.Run.{Run}
-use Rattle.turns.specs.declared.Run.the-variants.{Finished, Overdrawn}
+use Rattle.worklist.specs.Turn.{Ran}
+use Rattle.worklist.specs.declared.Run.{Run}
+use Rattle.worklist.specs.declared.Run.the-variants.{Finished, Overdrawn}
 use Rattle.worklist.specs.Result.{RunResult, runResult, finishOf, ranOf}
 
 result-path : {r : Run} {p k v rk rv l p′ k′ v′ rk′ rv′ l′ : List ℕ} → p ≡ p′ → k ≡ k′ → v ≡ v′ → rk ≡ rk′ → rv ≡ rv′ → l ≡ l′

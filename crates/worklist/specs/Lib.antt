@@ -1,2 +1,3 @@
--- What the whole run answers and leaves
+-- The loop between two turns, and what the whole run answers and leaves
+pub mod Turn
 pub mod Result

@@ -8,8 +8,8 @@ use Rattle.model.specs.Fact.{kind, value}
 use Rattle.model.specs.Run.{RunEnd, finished, overdrawn, fuelSpent}
 use Rattle.model.specs.Tables.{presentBytes, cells}
 use Rattle.model.specs.Call.{zeros}
-use Rattle.turns.specs.declared.Run.{Run}
-use Rattle.turns.specs.declared.Run.the-variants.{Finished, Overdrawn}
+use Rattle.worklist.specs.declared.Run.{Run}
+use Rattle.worklist.specs.declared.Run.the-variants.{Finished, Overdrawn}
 
 -- What the run answers and leaves.
 pub record RunResult : Type 0 where

@@ -1,10 +1,10 @@
 // What is cleared behind the loop.
 ghost use mathlib.Core.Path.{_≡_};
 ghost use Rattle.worklist.specs.Result.{runResult, finishOf};
+use crate::Run;
 use memory::clear_u8;
 use memory::clear_u16;
 use memory::clear_u64;
-use turns::Run;
 
 // "Success leaves scratch .. zero": the row scratch. After a refused charge all that the run was lent becomes zero.
 pub fn finish(

@@ -6,16 +6,15 @@ ghost use Rattle.model.specs.Run.{run};
 ghost use Rattle.model.specs.Sheet.{codeCount};
 ghost use Rattle.model.specs.Tables.{factsOf};
 ghost use Rattle.steps.specs.Stepped.{ranAnalysis, Lending};
-ghost use Rattle.turns.specs.Turn.{Fresh};
+ghost use Rattle.worklist.specs.Turn.{Fresh};
 ghost use Rattle.worklist.specs.Result.{runResult, ranOf};
+use crate::Run;
 use crate::ending::finish;
-use code::instruction_at;
+use crate::turns::run_list;
 use model::AnalysisKind;
 use model::InstructionSuccessors;
 use sheet::Sizes;
 use steps::offer;
-use turns::Run;
-use turns::run_list;
 
 // "instruction 0 starts with a row .., and the list holds 0 alone": instruction 0 is offered the first row, which is lent as the row
 // scratch. Then the list is run to its end. Pops and work left are the defined run's; what is lent holds its tables, or zeros.

@@ -1,7 +1,7 @@
 -- `step` meets its contract: the copy goes through the transfer, then to each successor.
 -- Assumes nothing.
 use native.Mathlib.Omega.{arith}
-use Rattle.steps.proofs.Stepping.{step-end, transfer-asks, following, stepped}
+use Rattle.steps.proofs.Stepping.{step-end, transfer-asks, following, stepped, copied}
 use Rattle.steps.proofs.whole.step.Statement.{statement}
 use Rattle.steps.proofs.whole.step.Tie as tie
 use Rattle.steps.proofs.whole.step.Reads as reads
@@ -70,7 +70,7 @@ same-length-6 : tie.Need-same-length-6
 same-length-6 c = (c .before .before .before .before .before .before .before .before .offer-successors .kept .1 .1 .1 .1 .1 .1 .1 .1 .1 .1 .1 .0)
 
 returns : tie.Need-returns
-returns c = stepped (c .before .before .before .before .before .before .before .before .before .before .before .before .before .before .before .before .before .before .before .before .before .before .before .before .before .before .before .before .before .before .before .before .before .before .before .before .before .before .before .before .pre) _ _ (c .before .before .before .before .before .before .before .before .before .before .before .before .before .before .before .before .before .before .before .transfer-row .ensures) _ _ _ _ _ (c .before .before .before .before .before .before .before .before .offer-successors .ensures)
+returns c = (stepped (c .before .before .before .before .before .before .before .before .before .before .before .before .before .before .before .before .before .before .before .before .before .before .before .before .before .before .before .before .before .before .before .before .before .before .before .before .before .before .before .before .pre) _ _ (c .before .before .before .before .before .before .before .before .before .before .before .before .before .before .before .before .before .before .before .transfer-row .ensures) _ _ _ _ _ (c .before .before .before .before .before .before .before .before .offer-successors .ensures), copied (c .before .before .before .before .before .before .before .before .before .before .before .before .before .before .before .before .before .before .before .before .before .before .before .before .before .before .before .before .before .before .before .before .before .before .before .before .before .before .before .before .pre) _ _ (c .before .before .before .before .before .before .before .before .before .before .before .before .before .before .before .before .before .before .before .transfer-row .ensures))
 
 pub step-spec : {M : Type 1} → statement M
 step-spec =

@@ -1,14 +1,14 @@
 -- `propagate` meets its contract: instruction 0 gets the first row, the loop runs, and what is over is cleared.
 -- Assumes nothing.
 use mathlib.Core.Path.{refl, _∙_}
-use Rattle.turns.proofs.Loop.{start-offering}
+use Rattle.worklist.proofs.Loop.{start-offering}
 use Rattle.worklist.proofs.Beginning.{begun, whole}
 use Rattle.worklist.proofs.whole.propagate.Statement.{statement}
 use Rattle.worklist.proofs.whole.propagate.Tie as tie
 use Rattle.worklist.proofs.whole.propagate.Reads as reads
 use Rattle.worklist.proofs.whole.propagate.Lts as lts
 use Rattle.worklist.proofs.ending.finish.Reads as finish-reads
-use Rattle.turns.proofs.run_list.Reads as run-list-reads
+use Rattle.worklist.proofs.turns.run_list.Reads as run-list-reads
 use Rattle.steps.proofs.offer.Reads as offer-reads
 
 offer-requires : tie.Need-offer-requires

@@ -22,7 +22,7 @@ use Rattle.finality.proofs.Memory.{row-part}
 use Rattle.finality.proofs.Fuel.{run-is}
 use Rattle.steps.specs.Laid.{RowsLaid, StateLaid}
 use Rattle.steps.proofs.Offers.{visits-count, visits-left}
-use Rattle.turns.specs.Turn.{Running}
+use Rattle.worklist.specs.Turn.{Running}
 
 -- ---- lists
 

@@ -1,6 +1,6 @@
 // The loop over a run's list, whose first entry is there already.
 ghost use Rattle.steps.specs.Stepped.{ranAnalysis, Lending};
-ghost use Rattle.turns.specs.Turn.{firstOf, Turn, Ran};
+ghost use Rattle.worklist.specs.Turn.{firstOf, Turn, Ran};
 use crate::Run;
 use model::AnalysisKind;
 use sheet::Sizes;

@@ -13,8 +13,8 @@ use Rattle.model.specs.Demand.{Visited}
 use Rattle.model.specs.declared.AnalysisKind.{AnalysisKind}
 use Rattle.steps.specs.Laid.{RowsLaid, StateLaid}
 use Rattle.steps.specs.Stepped.{ranAnalysis}
-use Rattle.turns.specs.declared.Run.{Run}
-use Rattle.turns.specs.declared.Run.the-variants.{Finished, Overdrawn}
+use Rattle.worklist.specs.declared.Run.{Run}
+use Rattle.worklist.specs.declared.Run.the-variants.{Finished, Overdrawn}
 
 -- the row of instruction 0, as it lies in the tables
 unfoldable pub firstOf : List ℕ → List ℕ → List ℕ → Row

@@ -18,10 +18,10 @@ use Rattle.finality.proofs.Lawful.{lawful}
 use Rattle.sheet.specs.declared.Sizes.{Sizes}
 use Rattle.steps.specs.Laid.{RowsLaid, RowLaid, StateLaid, successorAt, Offering, Offer}
 use Rattle.steps.specs.Stepped.{ranAnalysis, Lending, Stepping, Step}
-use Rattle.turns.specs.Turn.{firstOf, Running, Turn, Ran, Fresh}
-use Rattle.turns.specs.declared.Run.the-variants.{Finished, Overdrawn}
-use Rattle.turns.proofs.Turns as T
-use Rattle.turns.proofs.Turns.{Sizes as TurnSizes, bare}
+use Rattle.worklist.specs.Turn.{firstOf, Running, Turn, Ran, Fresh}
+use Rattle.worklist.specs.declared.Run.the-variants.{Finished, Overdrawn}
+use Rattle.worklist.proofs.Running as T
+use Rattle.worklist.proofs.Running.{Sizes as TurnSizes, bare}
 
 -- n × (1 + 2 × s) is below 2^29
 bound-little : (n s : ℕ) → n ≤ 4096 → s ≤ 65535 → n * (1 + 2 * s) ≤ 536866816

@@ -7,12 +7,12 @@ use lib.ListN.{length, length-set}
 use mir.Syntax.{w16, w64}
 use mir.Val.{Fits}
 use Rattle.model.specs.Sheet.{codeCount}
-use Rattle.turns.specs.Turn.{firstOf, Turn, Ran}
-use Rattle.turns.proofs.Loop.{turn-entry, stepping, stepped, ends-refused, ends-empty}
-use Rattle.turns.proofs.whole.run_list.Statement.{statement}
-use Rattle.turns.proofs.whole.run_list.Tie as tie
-use Rattle.turns.proofs.whole.run_list.Reads as reads
-use Rattle.turns.proofs.whole.run_list.Lts as lts
+use Rattle.worklist.specs.Turn.{firstOf, Turn, Ran}
+use Rattle.worklist.proofs.Loop.{turn-entry, stepping, stepped, ends-refused, ends-empty}
+use Rattle.worklist.proofs.turns.run_list.Statement.{statement}
+use Rattle.worklist.proofs.turns.run_list.Tie as tie
+use Rattle.worklist.proofs.turns.run_list.Reads as reads
+use Rattle.worklist.proofs.turns.run_list.Lts as lts
 use Rattle.steps.proofs.step.Reads as step-reads
 
 -- an entry of 16 bits fits in 64
@@ -80,7 +80,7 @@ loop-less : tie.Need-loop-less Inv-loop μ-loop
 loop-less c = omega (arith, (c .before .before .before .before .before .before .before .before .before .before .before .before .before .before .before .before .before .before .before .before .before .before .loop .inv) .fits, (c .before .before .before .before .before .before .before .before .before .before .before .before .before .before .before .before .before .before .before .before .before .before .loop .inv) .list-length, (c .before .before .before .before .before .before .before .before .before .before .before .before .before .before .before .before .before .before .before .before .before .before .loop .inv) .list-little, (c .before .before .before .before .before .before .before .before .before .before .before .before .before .before .before .before .before .before .before .before .before .loop-test .taken))
 
 loop-again : tie.Need-loop-again Inv-loop μ-loop
-loop-again c = stepped (c .before .before .before .before .before .before .before .before .before .before .before .before .before .before .before .before .before .before .before .before .before .before .before .before .before .before .before .before .before .before .before .before .before .before .before .args .which) _ _ _ _ _ _ _ _ (c .before .before .before .before .before .before .before .before .before .before .before .before .before .before .before .before .before .before .before .before .before .before .before .before .before .before .before .before .before .before .before .before .before .before .before .args .work) (c .before .before .before .before .before .before .before .before .before .before .before .before .before .before .before .before .before .before .before .before .before .before .before .before .before .before .before .before .before .before .before .before .before .before .before .pre .0) _ _ _ _ _ _ _ _ _ (c .before .before .before .before .before .before .before .before .before .before .before .before .before .before .before .before .before .before .before .before .before .before .loop .inv) (c .before .before .before .before .before .before .before .before .before .before .before .before .before .before .before .before .before .before .before .before .before .loop-test .taken) (c .before .before .before .before .before .before .before .before .before .before .before .before .before .before .before .before .before .before .before .if1 .left) _ _ _ _ _ _ _ (c .before .before .before .before .before .before .before .before .before .before .before .before .step .kept .1 .1 .1 .1 .1 .1 .1 .1 .1 .1 .1 .1 .1 .0) (c .before .before .before .before .before .before .before .before .before .before .before .before .step .kept .1 .1 .1 .1 .1 .1 .1 .1 .1 .1 .1 .1 .1 .1 .0) (c .before .before .before .before .before .before .before .before .before .before .before .before .step .ensures)
+loop-again c = stepped (c .before .before .before .before .before .before .before .before .before .before .before .before .before .before .before .before .before .before .before .before .before .before .before .before .before .before .before .before .before .before .before .before .before .before .before .args .which) _ _ _ _ _ _ _ _ (c .before .before .before .before .before .before .before .before .before .before .before .before .before .before .before .before .before .before .before .before .before .before .before .before .before .before .before .before .before .before .before .before .before .before .before .args .work) (c .before .before .before .before .before .before .before .before .before .before .before .before .before .before .before .before .before .before .before .before .before .before .before .before .before .before .before .before .before .before .before .before .before .before .before .pre .0) _ _ _ _ _ _ _ _ _ (c .before .before .before .before .before .before .before .before .before .before .before .before .before .before .before .before .before .before .before .before .before .before .loop .inv) (c .before .before .before .before .before .before .before .before .before .before .before .before .before .before .before .before .before .before .before .before .before .loop-test .taken) (c .before .before .before .before .before .before .before .before .before .before .before .before .before .before .before .before .before .before .before .if1 .left) _ _ _ _ _ _ _ (c .before .before .before .before .before .before .before .before .before .before .before .before .step .kept .1 .1 .1 .1 .1 .1 .1 .1 .1 .1 .1 .1 .1 .0) (c .before .before .before .before .before .before .before .before .before .before .before .before .step .kept .1 .1 .1 .1 .1 .1 .1 .1 .1 .1 .1 .1 .1 .1 .0) (c .before .before .before .before .before .before .before .before .before .before .before .before .step .ensures .0)
 
 same-length-7 : tie.Need-same-length-7 Inv-loop μ-loop
 same-length-7 c = (c .before .loop .inv) .present-length ∙ sym ((c .before .before .before .before .before .before .before .before .before .before .before .before .before .before .pre .1) .present-length)

@@ -1,2 +1,0 @@
--- The loop between two turns
-pub mod Turn
