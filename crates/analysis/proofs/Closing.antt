@@ -1,23 +1,22 @@
 -- An analysis with its closure, as the code makes it.
 -- Assumes nothing.
-use mathlib.Core.Path.{_≡_, refl, sym, ap, _∙_, subst}
-use mathlib.Core.Bool.{Bool, true, false, _&&_}
-use mathlib.Core.Logic.{_⊎_, inl, inr}
+use mathlib.Core.Path.{_≡_, refl, sym, ap, _∙_}
+use mathlib.Core.Bool.{Bool, true, false}
 use mathlib.Core.List.{List, [], _∷_, _++_, List·Memᴰ as Member, List·Memᴰ·head as head, List·Memᴰ·tail as tail}
-use mathlib.Core.Option.{Option, none, some}
-use Prim.Native.Nat.{ℕ, zero, suc, _+_, _*_, _≤_, _<_}
+use mathlib.Core.Option.{Option, some}
+use Prim.Native.Nat.{ℕ, _+_, _≤_, _<_}
 use native.Mathlib.Omega.{arith}
 use lib.Dec.{leb, ltb}
 use lib.ListN.{length, replicate, take, drop, length-append, length-drop}
 use lib.Seq.{take-append-seam}
-use borrow.Author.Tests.{leb-true, leb-false, ltb-true, le-leb}
+use borrow.Author.Tests.{leb-true, ltb-true, le-leb}
 use Rattle.model.specs.Sheet.{codeCount, localSlots}
 use Rattle.model.specs.Charges.{overBudget, noRoom, Spent, ok, stop, unfinished}
 use Rattle.model.specs.Closure.{trackedSlots}
 use Rattle.model.specs.Fact.{Fact, Row}
-use Rattle.model.specs.Run.{RunEnd, finished, overdrawn, fuelSpent, run}
-use Rattle.model.specs.Analyses.{Analysed, analysis, ranTo, propagate, stage}
-use Rattle.model.specs.Call.{Table, roomFor, tables, zeros, filled, zeroTable, filledTable}
+use Rattle.model.specs.Run.{RunEnd, finished, overdrawn, fuelSpent}
+use Rattle.model.specs.Analyses.{Analysed, ranTo, propagate, stage}
+use Rattle.model.specs.Call.{roomFor, tables, zeros, filled, zeroTable, filledTable}
 use Rattle.model.specs.Lookup.{ascends}
 use Rattle.model.specs.CallDemand.{TrackedExactly}
 use Rattle.model.specs.declared.VerifierResources.{VerifierResources}
@@ -25,7 +24,7 @@ use Rattle.model.specs.declared.AnalysisKind.{AnalysisKind}
 use Rattle.model.proofs.Metered.{bound-parts}
 use Rattle.finality.proofs.Closure.{closure-exact}
 use Rattle.sheet.specs.declared.Sizes.{Sizes}
-use Rattle.sheet.specs.Measured.{Accepted, Measured}
+use Rattle.sheet.specs.Measured.{Accepted}
 use Rattle.sheet.proofs.Asked.{measured}
 use Rattle.sheet.proofs.Counted.{counted}
 use Rattle.sheet.proofs.Limited.{limited}
@@ -34,12 +33,12 @@ use Rattle.marks.specs.Slots.{fittedIf, fitted}
 use Rattle.closure.specs.Closed.{Ended, closedTo, closedOf}
 use Rattle.closure.specs.declared.Closed.{Closed}
 use Rattle.closure.specs.declared.Closed.the-variants.{Tracked, Refused}
-use Rattle.stages.specs.Parts.{entering, behindRoom, Behind, behind}
-use Rattle.stages.specs.Stage.{table, Scratch, scratch, zeroScratch, roomBy, room-by}
+use Rattle.stages.specs.Parts.{behindRoom, Behind, behind}
+use Rattle.stages.specs.Stage.{table, scratch, zeroScratch, roomBy, room-by}
 use Rattle.stages.specs.Ends.{afterClosure, behindIn, slotsAfter, StageEnd, stageEnd, stageOf}
 use Rattle.stages.specs.Stocked.{Empty, Unmarked}
 use Rattle.stages.specs.declared.Staged.{Staged}
-use Rattle.stages.specs.declared.Staged.the-variants.{Done, OverBudget, NoRoom}
+use Rattle.stages.specs.declared.Staged.the-variants.{OverBudget}
 use Rattle.stages.proofs.Stepwise.{closure-refused, no-room, with-room}
 use Rattle.behind.proofs.Zeros.{front-filled}
 use Rattle.behind.proofs.Asking.{room-parts}

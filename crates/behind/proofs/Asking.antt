@@ -3,20 +3,17 @@
 use mathlib.Core.Path.{_≡_, refl, sym, ap, _∙_}
 use mathlib.Core.Bool.{Bool, true, false, _&&_}
 use mathlib.Core.Logic.{_⊎_, inl, inr}
-use mathlib.Core.List.{List, [], _∷_, _++_}
+use mathlib.Core.List.{List, _∷_, _++_}
 use mathlib.Core.Option.{Option, none, some}
 use Prim.Native.Nat.{ℕ, zero, suc, _+_, _*_, _≤_, _<_}
 use native.Mathlib.Nat.{zero-mul, suc-mul}
 use native.Mathlib.Omega.{arith}
-use lib.Dec.{leb}
 use lib.ListN.{length, replicate, take, length-replicate, replicate-append-replicate}
 use lib.Seq.{length-take-le}
 use borrow.Author.Tests.{leb-true}
 use Rattle.model.specs.Sheet.{codeCount}
-use Rattle.model.specs.Charges.{Spent, ok}
-use Rattle.model.specs.Fact.{Fact, kind, value, Row}
+use Rattle.model.specs.Fact.{Fact, kind, value}
 use Rattle.model.specs.Tables.{presentByte, presentBytes, rowCells, cells}
-use Rattle.model.specs.Analyses.{Analysed}
 use Rattle.model.specs.Call.{workListRoom, counts, tables, zeros, filled}
 use Rattle.model.specs.Lookup.{ascends}
 use Rattle.model.specs.declared.VerifierResources.{VerifierResources}
@@ -27,7 +24,7 @@ use Rattle.stages.specs.Stage.{roomBy}
 use Rattle.stages.specs.Ends.{afterClosure, atOnce, behindIn}
 use Rattle.stages.specs.Stocked.{Slotted, Empty, Roomy}
 use Rattle.stages.specs.declared.Staged.{Staged}
-use Rattle.stages.specs.declared.Staged.the-variants.{Done, NoRoom}
+use Rattle.stages.specs.declared.Staged.the-variants.{NoRoom}
 use Rattle.stages.proofs.Paths.{some-room}
 use Rattle.stages.proofs.Stepwise.{at-once}
 use Rattle.behind.proofs.Zeros.{front-cleared, front-filled}

@@ -1,18 +1,18 @@
 -- An analysis behind question 8, as the code makes it.
 -- Assumes nothing.
-use mathlib.Core.Path.{_≡_, refl, sym, ap, ap₂, _∙_, subst}
+use mathlib.Core.Path.{_≡_, sym, ap, ap₂, _∙_}
 use mathlib.Core.List.{List, map}
-use mathlib.Core.Option.{Option, none, some}
+use mathlib.Core.Option.{Option, some}
 use Prim.Native.Nat.{ℕ, _+_, _*_, _≤_, _<_}
 use native.Mathlib.Omega.{arith}
-use lib.ListN.{length, replicate, length-map}
+use lib.ListN.{length, replicate}
 use Rattle.model.specs.Sheet.{codeCount}
-use Rattle.model.specs.Charges.{Refusal, overBudget, Spent, ok, stop, unfinished}
+use Rattle.model.specs.Charges.{overBudget, Spent, ok, stop, unfinished}
 use Rattle.model.specs.Closure.{stageNumber}
-use Rattle.model.specs.Fact.{Fact, kind, value, Row}
+use Rattle.model.specs.Fact.{kind, value, Row}
 use Rattle.model.specs.Run.{RunEnd, finished, overdrawn, fuelSpent, run}
 use Rattle.model.specs.Tables.{lengthTable, factsOf, presentBytes, cells}
-use Rattle.model.specs.Analyses.{Analysed, analysis, chargeMatrix, firstRow, ranTo}
+use Rattle.model.specs.Analyses.{analysis, ranTo}
 use Rattle.model.specs.Call.{counts, tables}
 use Rattle.model.specs.declared.VerifierResources.{VerifierResources}
 use Rattle.model.specs.declared.AnalysisKind.{AnalysisKind}
@@ -33,10 +33,10 @@ use Rattle.worklist.specs.Turn.{Fresh}
 use Rattle.worklist.specs.declared.Run.{Run}
 use Rattle.worklist.specs.declared.Run.the-variants.{Finished, Overdrawn}
 use Rattle.worklist.specs.Result.{RunResult, runResult, ranOf}
-use Rattle.stages.specs.Parts.{entering, behindRoom, stagedOf, Behind, behind, behindZero, behindOf}
+use Rattle.stages.specs.Parts.{entering, behindRoom, stagedOf, behind, behindZero, behindOf}
 use Rattle.stages.specs.Stocked.{Found, Slotted, Zeroed}
 use Rattle.stages.specs.declared.Staged.{Staged}
-use Rattle.stages.specs.declared.Staged.the-variants.{Done, OverBudget, NoRoom}
+use Rattle.stages.specs.declared.Staged.the-variants.{OverBudget}
 use Rattle.stages.proofs.Stepwise.{entering-refused, then-run}
 
 -- ---- the first row

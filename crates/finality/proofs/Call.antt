@@ -1,25 +1,24 @@
 -- Demand 3 of a whole call: it ends, and where it ends with facts, each analysis' facts are those of the run that the call made.
 -- Assumes nothing.
-use mathlib.Core.Path.{_≡_, refl, sym, ap, _∙_, subst}
-use mathlib.Core.Bool.{Bool, true, false, _&&_, _||_}
+use mathlib.Core.Path.{_≡_, refl, ap, _∙_, subst}
+use mathlib.Core.Bool.{Bool, true, false, _&&_}
 use mathlib.Core.List.{List}
 use mathlib.Core.Option.{Option, none, some}
-use Prim.Native.Nat.{ℕ, zero, suc, _-_, _≤_, _<_}
+use Prim.Native.Nat.{ℕ, zero, suc, _-_}
 use native.Mathlib.Omega.{arith}
-use lib.Dec.{leb, eqb}
+use lib.Dec.{leb}
 use lib.ListN.{length}
-use Rattle.model.specs.Sheet.{codeCount, localSlots, sheetRefusal, instruction, paramCount}
-use Rattle.model.specs.Charges.{Spent, ok, stop, unfinished, Metered, fresh}
-use Rattle.model.specs.Dependencies.{copyWork, depends, chargeInstruction, chargeDependencies}
+use Rattle.model.specs.Sheet.{codeCount, localSlots, sheetRefusal, paramCount}
+use Rattle.model.specs.Charges.{Spent, ok, stop, unfinished, fresh}
+use Rattle.model.specs.Dependencies.{chargeInstruction, chargeDependencies}
 use Rattle.model.specs.Closure.{stageNumber, trackedSlots}
 use Rattle.model.specs.Fact.{Fact, unknown, conflict, known, Row}
 use Rattle.model.specs.Transfer.{put, instructionFact}
 use Rattle.model.specs.Parameters.{chargeLayout, chargeLayouts, seedParam, seedParams, paramRow, paramStart, paramFact, chargeFact, chargeInstructionFacts}
-use Rattle.model.specs.Run.{Analysis, RunEnd, finished, overdrawn, fuelSpent, run}
+use Rattle.model.specs.Run.{RunEnd, finished, overdrawn, fuelSpent, run}
 use Rattle.model.specs.Analyses.{Analysed, Facts, analysis, unknownRow, lengthFacts, askRoom, chargeMatrix, containerRow, firstRow, ranTo, propagate, stage, chargeFlow, analyses}
-use Rattle.model.specs.Call.{Lent, CallEnd, kept, cleared, completed, callEnd, afterSix, afterFive, call, closureRoom, tableRoom, tables, filled, filledTable}
+use Rattle.model.specs.Call.{Lent, CallEnd, completed, callEnd, afterSix, afterFive, call, closureRoom, tableRoom, tables, filled, filledTable}
 use Rattle.model.specs.Listing.{callLines, listingLent, sized, asked, fits, listing}
-use Rattle.model.specs.Demand.{Demand3, Final}
 use Rattle.model.specs.CallDemand.{analysisOf, Made, Demanded, CallDemand}
 use Rattle.model.specs.declared.VerifierResources.{VerifierResources}
 use Rattle.model.specs.declared.AnalysisKind.{AnalysisKind}

@@ -1,10 +1,10 @@
 -- The laws of the flat tables: a row is the part of s cells from p × s; to store a row is to put another part there.
 -- Assumes nothing.
-use mathlib.Core.Path.{_≡_, refl, sym, ap, _∙_}
-use mathlib.Core.List.{List, [], _∷_, _++_, map, append-assoc, reverse, reverse-cons}
+use mathlib.Core.Path.{_≡_, refl, ap, _∙_}
+use mathlib.Core.List.{List, [], _∷_, _++_, append-assoc, reverse, reverse-cons}
 use mathlib.Core.Option.{Option, none, some}
 use Prim.Native.Nat.{ℕ, zero, suc, _+_, _*_, _-_, _≤_, _<_}
-use native.Mathlib.Nat.{le-of-suc-le-suc, not-suc-le-zero, zero-mul, suc-mul, zero-add, add-comm, add-assoc}
+use native.Mathlib.Nat.{le-of-suc-le-suc, not-suc-le-zero, zero-mul}
 use native.Mathlib.Omega.{arith}
 use lib.ListN.{length, getD, set, take, drop, replicate, length-append, length-replicate, length-map, length-reverse}
 use lib.Seq.{take-at, set-at, getD-at, take-append-add, drop-append-add}

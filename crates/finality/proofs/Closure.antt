@@ -8,11 +8,11 @@ use Prim.Native.Nat.{ℕ, zero, suc, _+_, _≤_, _<_}
 use native.Mathlib.Omega.{arith}
 use lib.Dec.{eqb, ltb}
 use lib.Bits.{bitAnd}
-use lib.ListN.{length, getD, replicate, length-replicate}
+use lib.ListN.{length, replicate, length-replicate}
 use borrow.Author.Tests.{ltb-true}
 use Rattle.model.specs.Count.{collect}
 use Rattle.model.specs.Sheet.{codeCount, localSlots, instruction}
-use Rattle.model.specs.Charges.{Metered, ok, unfinished, give, giveUp}
+use Rattle.model.specs.Charges.{Metered, ok, giveUp}
 use Rattle.model.specs.Dependencies.{dependencyBit, FactDependency, edgeIf, edge, Depends, copyEdge, copyNEdges, foldEdges, iterEdge, noEdges, depends, edgesBy, instructionEdges, keepIf, edgesInto, edgesTo, Field, field, seedFields}
 use Rattle.model.specs.Closure.{Marked, mark, markFields, markSeeds, followIf, follow, unmarked, seeded, takeSlot, expand, trackedSlots, places, stageNumber}
 use Rattle.model.specs.CallDemand.{Tracked, seed, source, TrackedExactly}

@@ -3,15 +3,14 @@
 use mathlib.Core.Path.{_≡_, refl, sym, _∙_}
 use mathlib.Core.Bool.{Bool, true, false, cond, _||_}
 use mathlib.Core.Logic.{_⊎_, inl, inr}
-use mathlib.Core.List.{List}
-use mathlib.Core.Option.{Option, none, some}
-use Prim.Native.Nat.{ℕ, _+_, _*_, _≤_, _<_}
+use mathlib.Core.Option.{none}
+use Prim.Native.Nat.{ℕ, _<_}
 use native.Mathlib.Omega.{arith}
 use lib.Dec.{eqb}
-use lib.ListN.{length, replicate}
-use Rattle.model.specs.Run.{Analysis, State, RunEnd, finished, overdrawn, fuelSpent, loop, bound, start, runWith, run}
-use Rattle.model.specs.Demand.{Lawful, Demand3, Visited}
-use Rattle.finality.proofs.Invariant.{eqb-pos, zero-or-above}
+use lib.ListN.{replicate}
+use Rattle.model.specs.Run.{Analysis, finished, loop, bound, start, runWith, run}
+use Rattle.model.specs.Demand.{Lawful, Demand3}
+use Rattle.finality.proofs.Invariant.{zero-or-above}
 use Rattle.finality.proofs.Final.{outcome, list-fits}
 use Rattle.finality.proofs.Fuel.{ends-at, more-fuel}
 use Rattle.finality.proofs.Work.{ends-paid, start-paid}

@@ -1,7 +1,7 @@
 -- A run ends within n × (1 + 2 × s) steps, and its rows are final.
 -- Assumes nothing.
-use mathlib.Core.Path.{_≡_, refl, sym, ap, _∙_}
-use mathlib.Core.Bool.{Bool, true, false, cond}
+use mathlib.Core.Path.{_≡_, refl, sym, _∙_}
+use mathlib.Core.Bool.{Bool, true, false}
 use mathlib.Core.Logic.{_⊎_, inl, inr}
 use mathlib.Core.List.{List, [], _∷_, List·Memᴰ as Member, List·Memᴰ·head as head, List·Memᴰ·tail as tail, List·Memᴰ·not-nil as not-nil, List·Memᴰ·cases-cons as cases-cons}
 use mathlib.Core.Option.{Option, none, some}

@@ -1,7 +1,7 @@
 -- The fuel of a run does not matter: whoever passes through its states and comes to an end has computed it.
 -- Assumes nothing.
 use mathlib.Core.Path.{_≡_, refl}
-use Prim.Native.Nat.{ℕ, zero, suc, _+_, _≤_, _<_}
+use Prim.Native.Nat.{ℕ, zero, suc, _≤_, _<_}
 use native.Mathlib.Omega.{arith}
 use Rattle.model.specs.Run.{Analysis, State, RunEnd, fuelSpent, Step, next, ended, step, andThen, loop, bound, start, runWith, run}
 use Rattle.model.specs.Demand.{Lawful, Visited, begun, then, Ends, stops, goes}

@@ -3,9 +3,9 @@
 use mathlib.Core.Path.{_≡_, refl, sym, ap, _∙_, subst}
 use mathlib.Core.Bool.{Bool, true, false, _&&_, false≢true}
 use mathlib.Core.Logic.{_⊎_, inl, inr}
-use mathlib.Core.List.{List, [], _∷_, _++_}
+use mathlib.Core.List.{List}
 use mathlib.Core.Option.{Option, none, some}
-use Prim.Native.Nat.{ℕ, zero, suc, _+_, _*_, _-_, _≤_, _<_}
+use Prim.Native.Nat.{ℕ, _*_, _-_, _≤_, _<_}
 use native.Mathlib.Omega.{arith}
 use lib.Dec.{leb}
 use lib.ListN.{length, replicate, length-append, length-replicate}
@@ -16,8 +16,7 @@ use Rattle.model.specs.Fact.{Fact, unknown, kind, value, Row}
 use Rattle.model.specs.Run.{finished, rowAt}
 use Rattle.model.specs.Tables.{presentBytes, cells}
 use Rattle.model.specs.Analyses.{Analysed, Facts, analysis, askRoom, lengthFacts, stage, analyses}
-use Rattle.model.specs.Call.{Table, Lent, tableOf, workListRoom, roomFor, tableRoom, CallEnd, kept, cleared, completed, callEnd, closureRoom, afterSix, afterFive, call, tables, zeros, filled, zeroTable, filledTable, scratchZero, lentAfter}
-use Rattle.model.specs.Demand.{Final}
+use Rattle.model.specs.Call.{Table, Lent, tableOf, roomFor, tableRoom, CallEnd, kept, cleared, completed, callEnd, closureRoom, afterSix, afterFive, call, tables, zeros, filled, zeroTable, filledTable, scratchZero, lentAfter}
 use Rattle.model.specs.CallDemand.{Made, Demanded}
 use Rattle.model.specs.declared.VerifierResources.{VerifierResources}
 use Rattle.model.specs.declared.AnalysisKind.{AnalysisKind}

@@ -3,18 +3,15 @@
 use mathlib.Core.Path.{_≡_, refl, sym, ap, _∙_, subst}
 use mathlib.Core.List.{List}
 use mathlib.Core.Option.{Option, none, some}
-use Prim.Native.Nat.{ℕ, _≤_, _<_}
+use Prim.Native.Nat.{ℕ}
 use native.Mathlib.Omega.{arith}
-use lib.ListN.{length}
-use Rattle.model.specs.Sheet.{codeCount}
 use Rattle.model.specs.Charges.{overBudget, noRoom}
-use Rattle.model.specs.Fact.{Fact, unknown}
-use Rattle.model.specs.Analyses.{Analysed, Facts, analysis, lengthFacts}
-use Rattle.model.specs.Call.{Table, Lent, CallEnd, kept, cleared, completed, call, counts, answer, answerNumbered, tables, filledTable, scratchZero, lentAfter, Result, result, resultOf, analyzed}
-use Rattle.model.specs.CallDemand.{Demanded, CallDemand, TableDemand, LentDemand}
+use Rattle.model.specs.Fact.{Fact}
+use Rattle.model.specs.Analyses.{Analysed, Facts, analysis}
+use Rattle.model.specs.Call.{Table, Lent, CallEnd, kept, cleared, completed, call, counts, answer, tables, filledTable, scratchZero, lentAfter, Result, result, resultOf, analyzed}
+use Rattle.model.specs.CallDemand.{Demanded, TableDemand, LentDemand}
 use Rattle.model.specs.declared.Counts.{Counts}
-use Rattle.model.specs.declared.Answer.{Answer}
-use Rattle.model.specs.declared.Answer.the-variants.{Analyzed, Invalid, OverBudget, NoRoom}
+use Rattle.model.specs.declared.Answer.the-variants.{Analyzed}
 use Rattle.model.specs.declared.VerifierResources.{VerifierResources}
 use Rattle.model.specs.declared.AnalysisKind.{AnalysisKind}
 use Rattle.finality.proofs.Call.{call-demand}

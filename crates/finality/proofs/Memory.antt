@@ -8,10 +8,10 @@ use native.Mathlib.Nat.{mul-le-mul-right}
 use native.Mathlib.Omega.{arith}
 use lib.ListN.{length, getD, take, drop, replicate, length-drop}
 use lib.Seq.{take-append-le, drop-append-le}
-use Rattle.model.specs.Fact.{Fact, unknown, conflict, known, kind, value, Row, joinRow}
+use Rattle.model.specs.Fact.{Fact, unknown, conflict, known, kind, value, Row}
 use Rattle.model.specs.Run.{Analysis, rowAt}
 use Rattle.model.specs.Tables.{presentByte, presentBytes, rowCells, cells, factOf, factsOf, tableRow}
-use Rattle.model.specs.Demand.{Reachable, Present, Settled, Final, Shows, SettledTable, FinalTable}
+use Rattle.model.specs.Demand.{Present, Settled, Final, Shows, SettledTable, FinalTable}
 use Rattle.finality.proofs.Invariant.{none-some}
 use Rattle.finality.proofs.Cells.{present-at, length-cells, cells-part}
 

@@ -6,7 +6,7 @@ use mathlib.Core.Logic.{inl, inr}
 use mathlib.Core.List.{List, [], _∷_, List·Memᴰ as Member, List·Memᴰ·head as head, List·Memᴰ·tail as tail, List·Memᴰ·not-nil as not-nil, List·Memᴰ·cases-cons as cases-cons}
 use Prim.Native.Nat.{ℕ, zero, suc, _+_, _<_}
 use native.Mathlib.Omega.{arith}
-use lib.Dec.{eqb, ltb}
+use lib.Dec.{eqb}
 use borrow.Author.Tests.{lt-ltb}
 use Rattle.model.specs.Closure.{listed, places}
 use Rattle.model.specs.Lookup.{ascends}

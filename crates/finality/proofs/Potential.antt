@@ -1,13 +1,13 @@
 -- The potential of the rows: an absent row 1 + 2 × s, a known fact 2, Unknown 1, Conflict 0. Whatever is added to the list lowers it.
 -- Assumes nothing.
-use mathlib.Core.Path.{_≡_, refl, sym, ap, _∙_}
-use mathlib.Core.Bool.{Bool, true, false}
+use mathlib.Core.Path.{_≡_}
+use mathlib.Core.Bool.{Bool, true}
 use mathlib.Core.List.{List, [], _∷_}
 use mathlib.Core.Option.{Option, none, some}
 use Prim.Native.Nat.{ℕ, zero, suc, _+_, _*_, _≤_, _<_}
 use native.Mathlib.Nat.{le-of-suc-le-suc, not-suc-le-zero}
 use native.Mathlib.Omega.{arith}
-use lib.ListN.{length, getD, set, replicate}
+use lib.ListN.{length, set, replicate}
 use Rattle.model.specs.Fact.{Row}
 use Rattle.model.specs.Run.{rowAt, merged, news}
 use Rattle.finality.proofs.Joins.{rowWeight, rowWeight-max, joinRow-le, joinRow-lt}

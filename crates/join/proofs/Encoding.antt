@@ -4,7 +4,7 @@ use mathlib.Core.Path.{_≡_, refl, sym, ap, _∙_}
 use mathlib.Core.Bool.{Bool}
 use mathlib.Core.List.{List, [], _∷_, map}
 use Prim.Native.Nat.{ℕ}
-use lib.ListN.{length, length-map}
+use lib.ListN.{length-map}
 use Rattle.model.specs.Fact.{Fact, unknown, conflict, known, kind, value, Row, rowDiffers, joinRow}
 use Rattle.model.specs.Tables.{factOf, factsOf}
 use Rattle.join.specs.Rows.{Encoded, JoinedRow}

@@ -15,7 +15,6 @@ use Rattle.model.specs.Transfer.{integer, checked, transferRow}
 use Rattle.model.specs.Analyses.{Analysed, lengthFacts}
 use Rattle.model.specs.Charges.{fresh}
 use Rattle.model.specs.Listing.{ascii, listing, listingCompute}
-use Rattle.model.specs.declared.AnalysisKind.{AnalysisKind}
 use Rattle.model.specs.declared.AnalysisKind.the-variants.{Constant, IndexCheck}
 
 -- ---- sheets without constants, parameters, layouts and notes

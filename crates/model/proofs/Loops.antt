@@ -1,7 +1,7 @@
 -- Loops that count up end at the first refusal and at the first test that fails.
 -- Assumes nothing.
-use mathlib.Core.Path.{_≡_, refl}
-use mathlib.Core.Bool.{Bool, true, false, _&&_}
+use mathlib.Core.Path.{_≡_}
+use mathlib.Core.Bool.{Bool, false}
 use Prim.Native.Nat.{ℕ, zero, suc, _+_}
 use Rattle.model.specs.Count.{every}
 use Rattle.model.specs.Charges.{Refusal, stop, Metered, continue, _>>_, forEach}

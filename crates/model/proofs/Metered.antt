@@ -3,7 +3,6 @@
 use mathlib.Core.Path.{_≡_, refl}
 use Prim.Native.Nat.{ℕ, zero, suc}
 use native.Mathlib.Omega.{arith}
-use mathlib.Core.Bool.{Bool, true, false}
 use Rattle.model.specs.Charges.{Spent, ok, stop, unfinished, Metered, give, continue, _>>=_, _>>_, inStage, spendBytes, spendWork, forEach}
 use Rattle.model.specs.declared.Charge.{Charge}
 use Rattle.model.specs.declared.Charge.the-variants.{Covered, Refused}

@@ -7,13 +7,12 @@ use mathlib.Core.Option.{Option, none, some}
 use Prim.Native.Nat.{ℕ, zero, suc, _+_, _*_, _/_, _%_, _^_, _≤_, _<_}
 use native.Mathlib.Nat.{mod-lt}
 use native.Mathlib.Omega.{arith}
-use lib.Dec.{leb, ltb, eqb}
+use lib.Dec.{ltb, eqb}
 use lib.ListN.{length, getD, set}
 use lib.Seq.{getD-set-same}
-use lib.IntN.{pos, negsuc}
 use borrow.Author.Tests.{le-leb, lt-leb, lt-ltb, le-ltb}
 use Rattle.model.specs.Count.{sum}
-use Rattle.model.specs.Sheet.{instruction, noteKind, layout, localSlots, codeCount, paramWidth, paramCount}
+use Rattle.model.specs.Sheet.{instruction, noteKind, layout, paramWidth, paramCount}
 use Rattle.model.specs.Opcode as O
 use Rattle.model.specs.Opcode.{select}
 use Rattle.model.specs.Fact.{Fact, unknown, conflict, known, value, Row, equalNumbers, equalContent, equalLayouts, equalContainers, join, joinRow}
@@ -21,7 +20,7 @@ use Rattle.model.specs.Written.{inRange, slotLayoutNote, hasElements, wr
 use Rattle.model.specs.Charges.{overBudget, Spent, ok, stop, unfinished, Metered, give, continue, _>>=_, _>>_, inStage, workCharged, chargeWork, spendWork}
 use Rattle.model.specs.Dependencies.{edgesTo}
 use Rattle.model.specs.Closure.{Marked, marked, mark, stageNumber, takeSlot}
-use Rattle.model.specs.Transfer.{factFor, target, u64Fact, foldBinary, shifted, shl, or, fold, iterNext, iterNextRule, containerFact, put}
+use Rattle.model.specs.Transfer.{factFor, target, u64Fact, foldBinary, shifted, shl, fold, iterNext, iterNextRule, containerFact, put}
 use Rattle.model.specs.Parameters.{paramStart, paramFact, seedParam, seedParams, paramRow, chargeLayouts, chargeInstructionFacts}
 use Rattle.model.specs.Run.{Analysis, State, next, rowAt, merged, news, visit, carry, popped, charged, pop, step}
 use Rattle.model.specs.Analyses.{unknownRow, containerRow}

@@ -12,10 +12,10 @@ use Rattle.model.specs.Charges.{Refusal, overBudget, noRoom, Spent, ok, 
 use Rattle.model.specs.Dependencies.{chargeInstruction, chargeDependencies}
 use Rattle.model.specs.Closure.{Marked, stageNumber, seeded, takeSlot, expand, places, trackedSlots}
 use Rattle.model.specs.Fact.{Fact, unknown, conflict, known, Row}
-use Rattle.model.specs.Transfer.{put, instructionFact}
+use Rattle.model.specs.Transfer.{instructionFact}
 use Rattle.model.specs.Parameters.{paramStart, paramFact, chargeLayout, chargeLayouts, seedParam, seedParams, paramRow, chargeFact, chargeInstructionFacts}
 use Rattle.model.specs.Run.{RunEnd, finished, overdrawn, fuelSpent, run}
-use Rattle.model.specs.Analyses.{Analysed, unknownRow, analysis, askRoom, chargeMatrix, containerRow, firstRow, ranTo, propagate, stage, chargeFlow}
+use Rattle.model.specs.Analyses.{unknownRow, analysis, askRoom, chargeMatrix, containerRow, firstRow, ranTo, propagate, stage, chargeFlow}
 use Rattle.model.specs.declared.Charge.{Charge}
 use Rattle.model.specs.declared.Charge.the-variants.{Covered, Refused}
 use Rattle.model.specs.declared.VerifierResources.{VerifierResources}

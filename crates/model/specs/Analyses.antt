@@ -8,10 +8,10 @@ use lib.Dec.{eqb}
 use lib.ListN.{length, replicate}
 use Rattle.model.specs.Sheet.{codeCount, instruction, sheetCompute}
 use Rattle.model.specs.Successors.{sheetSuccessors, successorsCompute}
-use Rattle.model.specs.Charges.{overBudget, noRoom, ok, stop, unfinished, Spent, Metered, give, _>>=_, _>>_, spendBytes, spendWork, chargesCompute}
+use Rattle.model.specs.Charges.{overBudget, noRoom, ok, stop, unfinished, Metered, give, _>>=_, _>>_, spendBytes, spendWork, chargesCompute}
 use Rattle.model.specs.Dependencies.{chargeDependencies, dependenciesCompute}
 use Rattle.model.specs.Closure.{stageNumber, trackedSlots, closureCompute}
-use Rattle.model.specs.Fact.{Fact, unknown, Row, equalKnown, factCompute}
+use Rattle.model.specs.Fact.{Fact, unknown, Row, equalKnown}
 use Rattle.model.specs.Transfer.{factFor, transferRow, transferCompute}
 use Rattle.model.specs.Parameters.{paramStart, paramRow, chargeInstructionFacts, parametersCompute}
 use Rattle.model.specs.Run.{Analysis, RunEnd, finished, overdrawn, fuelSpent, rowAt, run, runCompute}

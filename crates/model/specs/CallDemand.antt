@@ -1,8 +1,8 @@
 -- What demand 3 says of a whole call that ends with facts: of each analysis, the run that the call made.
 -- Assumes nothing.
 use mathlib.Core.Path.{_≡_}
-use mathlib.Core.Bool.{Bool, true, false}
-use mathlib.Core.List.{List, [], _∷_, List·Memᴰ}
+use mathlib.Core.Bool.{true, false}
+use mathlib.Core.List.{List, _∷_, List·Memᴰ}
 use mathlib.Core.Option.{some}
 use Prim.Native.Nat.{ℕ, _+_, _*_, _≤_, _<_}
 use lib.Dec.{eqb}
@@ -15,7 +15,7 @@ use Rattle.model.specs.Closure.{Marked, mark, unmarked, trackedSlots}
 use Rattle.model.specs.Fact.{Fact, unknown}
 use Rattle.model.specs.Run.{Analysis, finished, bound, run}
 use Rattle.model.specs.Analyses.{Analysed, Facts, analysis, lengthFacts, chargeMatrix, firstRow, chargeFlow}
-use Rattle.model.specs.Call.{Table, Lent, CallEnd, completed, call, tables, filledTable}
+use Rattle.model.specs.Call.{Table, Lent, completed, call, tables, filledTable}
 use Rattle.model.specs.Lookup.{ascends}
 use Rattle.model.specs.Demand.{Final, FinalTable, Demand3}
 use Rattle.model.specs.declared.Counts.{Counts}

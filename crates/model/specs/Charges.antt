@@ -1,7 +1,6 @@
 -- "Charges": `VerifierResources`, and how the parts of a call that spend follow each other.
 -- Assumes nothing.
 use mathlib.Core.Bool.{Bool, true, false}
-use mathlib.Core.List.{List, [], _∷_}
 use Prim.Native.Nat.{ℕ, zero, suc, _-_}
 use lib.Dec.{leb}
 use Rattle.model.specs.declared.VerifierResources.{VerifierResources}

@@ -9,7 +9,7 @@ use Rattle.model.specs.Count.{collect, countCompute}
 use Rattle.model.specs.Sheet.{codeCount, localSlots, instruction, sheetCompute}
 use Rattle.model.specs.Opcode as O
 use Rattle.model.specs.Opcode.{select, opcodeCompute}
-use Rattle.model.specs.Charges.{Metered, give, _>>=_, _>>_, spendBytes, spendWork, forEach, chargesCompute}
+use Rattle.model.specs.Charges.{Metered, _>>=_, _>>_, spendBytes, spendWork, forEach, chargesCompute}
 use Rattle.model.specs.declared.Instruction.{Instruction}
 use Rattle.model.specs.declared.AnalysisKind.{AnalysisKind}
 use Rattle.model.specs.declared.AnalysisKind.the-variants.{Constant, IndexCheck, Container}

@@ -6,7 +6,7 @@ use mathlib.Core.Option.{Option, none, some}
 use Prim.Native.Nat.{ℕ, zero, suc, _+_, _*_, _-_}
 use lib.Dec.{leb, eqb}
 use lib.ListN.{getD, set, replicate}
-use Rattle.model.specs.Fact.{Fact, Row, rowDiffers, join, joinRow, factCompute}
+use Rattle.model.specs.Fact.{Row, rowDiffers, joinRow, factCompute}
 
 -- What one analysis brings to the run.
 pub record Analysis : Type 0 where

@@ -1,6 +1,6 @@
 // The lengths of the 17 buffers, in the order of the call's parameters: slots, present, kinds and values of each analysis; marks, stack, row kinds,
 // row values, work list.
-ghost use Prim.Native.Nat.{_≤_, _<_};
+ghost use Prim.Native.Nat.{_<_};
 use crate::numbers::after;
 use crate::numbers::cells;
 use crate::numbers::entries;

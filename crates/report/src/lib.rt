@@ -1,7 +1,4 @@
 // What the program `facts` writes for a sheet: its listing, `refused` and a number, or `too large`.
-ghost use Prim.Native.Nat.{_≤_};
-ghost use lib.ListN.{length};
-ghost use mathlib.Core.Path.{_≡_};
 ghost use Rattle.sheet.specs.Measured.{Accepted};
 use questions::SheetCheck;
 use questions::check_sheet;

@@ -1,5 +1,5 @@
 // Lines, written to standard output. Their text is that of the crates `line_text` and `listing`.
-ghost use Prim.Native.Nat.{_*_, _≤_};
+ghost use Prim.Native.Nat.{_≤_};
 ghost use mathlib.Core.Path.{_≡_};
 ghost use lib.ListN.{length};
 ghost use Rattle.layouts.specs.Readable.{Readable};

@@ -1,5 +1,5 @@
 // The part of a listing that one analysis has.
-ghost use Prim.Native.Nat.{_*_, _≤_};
+ghost use Prim.Native.Nat.{_≤_};
 ghost use lib.ListN.{length};
 ghost use Rattle.layouts.specs.Readable.{Readable};
 use crate::lines;

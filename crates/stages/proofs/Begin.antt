@@ -1,11 +1,10 @@
 -- The matrix charge and the first row, as the code makes them.
 -- Assumes nothing.
-use mathlib.Core.Path.{_≡_, refl, sym, ap, _∙_}
+use mathlib.Core.Path.{_≡_, sym, ap, _∙_}
 use mathlib.Core.List.{List}
 use Prim.Native.Nat.{ℕ, _*_}
-use lib.ListN.{length, replicate}
-use Rattle.model.specs.Sheet.{codeCount}
-use Rattle.model.specs.Charges.{overBudget, Spent, ok, stop, spendBytes}
+use lib.ListN.{length}
+use Rattle.model.specs.Charges.{overBudget, ok, stop, spendBytes}
 use Rattle.model.specs.Closure.{stageNumber}
 use Rattle.model.specs.Analyses.{factBytes, chargeMatrix, firstRow}
 use Rattle.model.specs.declared.VerifierResources.{VerifierResources}

@@ -1,15 +1,14 @@
 -- Records of lent memory are equal where their slices are; and question 8, test by test.
 -- Assumes nothing.
 use mathlib.Core.Path.{_≡_, refl}
-use mathlib.Core.Bool.{Bool, true, false, _&&_, _||_}
+use mathlib.Core.Bool.{Bool, true, false, _||_}
 use mathlib.Core.List.{List}
-use Prim.Native.Nat.{ℕ, zero, suc, _+_, _*_, _≤_, _<_}
+use Prim.Native.Nat.{ℕ, zero, suc, _+_, _*_, _≤_}
 use native.Mathlib.Nat.{mul-le-mul-right}
 use native.Mathlib.Omega.{arith}
 use lib.Dec.{leb, eqb, eqb·suc-zero}
-use borrow.Author.Tests.{le-leb, lt-leb}
 use Rattle.model.specs.Call.{workListRoom}
-use Rattle.stages.specs.Stage.{table, scratch, roomBy}
+use Rattle.stages.specs.Stage.{table, scratch}
 
 pub table-path : {slots present kinds values slots′ present′ kinds′ values′ : List ℕ} → slots ≡ slots′ → present ≡ present′ → kinds ≡ kinds′ → values ≡ values′
     → table slots present kinds values ≡ table slots′ present′ kinds′ values′

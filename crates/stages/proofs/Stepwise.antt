@@ -1,22 +1,22 @@
 -- A stage, step by step: by what its closure gave, by question 8, by the matrix charge, the first row and the run.
 -- Assumes nothing.
-use mathlib.Core.Path.{_≡_, refl, sym, ap, _∙_}
+use mathlib.Core.Path.{_≡_, refl, ap, _∙_}
 use mathlib.Core.Bool.{Bool, true, false, _||_}
 use mathlib.Core.Logic.{_⊎_, inl, inr}
 use mathlib.Core.List.{List}
-use mathlib.Core.Option.{Option, none, some}
-use Prim.Native.Nat.{ℕ, zero, suc, _*_, _-_}
+use mathlib.Core.Option.{none}
+use Prim.Native.Nat.{ℕ, _*_, _-_}
 use native.Mathlib.Nat.{sub-zero, zero-mul, mul-zero}
 use native.Mathlib.Omega.{arith}
-use lib.Dec.{leb, eqb}
+use lib.Dec.{eqb}
 use lib.ListN.{length, replicate}
 use borrow.Author.Tests.{le-leb}
 use Rattle.model.specs.Sheet.{codeCount}
-use Rattle.model.specs.Charges.{Refusal, noRoom, Spent, ok, stop, unfinished, Metered, give, continue, _>>=_, _>>_, inStage, bytesCharged, chargeBytes, spendBytes}
-use Rattle.model.specs.Closure.{stageNumber, trackedSlots}
+use Rattle.model.specs.Charges.{Refusal, noRoom, Spent, ok, stop, unfinished, give, continue, _>>=_, _>>_, inStage, bytesCharged, chargeBytes, spendBytes}
+use Rattle.model.specs.Closure.{trackedSlots}
 use Rattle.model.specs.Fact.{Fact, Row}
-use Rattle.model.specs.Run.{Analysis, RunEnd, finished, overdrawn, run}
-use Rattle.model.specs.Analyses.{Analysed, unknownRow, analysis, askRoom, factBytes, chargeMatrix, containerRow, firstRow, ranTo, propagate, stage}
+use Rattle.model.specs.Run.{RunEnd, run}
+use Rattle.model.specs.Analyses.{unknownRow, analysis, askRoom, factBytes, chargeMatrix, containerRow, firstRow, ranTo, propagate, stage}
 use Rattle.model.specs.declared.VerifierResources.{VerifierResources}
 use Rattle.model.specs.declared.AnalysisKind.{AnalysisKind}
 use Rattle.model.specs.declared.AnalysisKind.the-variants.{Constant, IndexCheck, Container}

@@ -3,8 +3,8 @@
 use mathlib.Core.List.{List}
 use mathlib.Core.Option.{Option, none, some}
 use Prim.Native.Nat.{ℕ, _+_, _*_}
-use lib.ListN.{length, replicate}
-use Rattle.model.specs.Charges.{Refusal, overBudget, noRoom, Spent, ok, stop, unfinished, Metered, _>>=_, _>>_}
+use lib.ListN.{replicate}
+use Rattle.model.specs.Charges.{overBudget, noRoom, Spent, ok, stop, unfinished, Metered, _>>=_, _>>_}
 use Rattle.model.specs.Fact.{Fact, Row}
 use Rattle.model.specs.Analyses.{Analysed, chargeMatrix, firstRow, propagate}
 use Rattle.model.specs.Call.{counts, tables}
@@ -13,7 +13,7 @@ use Rattle.model.specs.declared.AnalysisKind.{AnalysisKind}
 use Rattle.worklist.specs.declared.Run.{Run}
 use Rattle.worklist.specs.declared.Run.the-variants.{Finished, Overdrawn}
 use Rattle.stages.specs.declared.Staged.{Staged}
-use Rattle.stages.specs.declared.Staged.the-variants.{Done, OverBudget, NoRoom}
+use Rattle.stages.specs.declared.Staged.the-variants.{Done, OverBudget}
 
 -- the matrix charge and the first row, of the tracked slots
 unfoldable pub entering : AnalysisKind → List ℕ → List ℕ → Metered Row

@@ -1,10 +1,10 @@
 -- The lent memory of a stage, and what a stage makes of it.
 -- Assumes nothing.
 use mathlib.Core.Path.{_≡_, refl}
-use mathlib.Core.Bool.{Bool, true, false, _&&_, _||_}
+use mathlib.Core.Bool.{Bool, true, false, _&&_}
 use mathlib.Core.List.{List}
-use Prim.Native.Nat.{ℕ, _+_, _*_}
-use lib.Dec.{leb, eqb}
+use Prim.Native.Nat.{ℕ, _*_}
+use lib.Dec.{leb}
 use lib.ListN.{length}
 use Rattle.model.specs.Call.{Table, Lent, zeros, zeroTable, workListRoom, roomFor}
 

@@ -3,14 +3,13 @@
 use mathlib.Core.Path.{_≡_, refl, sym, ap, ap₂, _∙_}
 use mathlib.Core.Logic.{_≢_, _⊎_, inl, inr}
 use mathlib.Core.Bool.{Bool, true, false}
-use mathlib.Core.List.{List, [], _∷_, _++_, map}
+use mathlib.Core.List.{List, map}
 use mathlib.Core.Option.{Option, none, some}
-use Prim.Native.Nat.{ℕ, zero, suc, _+_, _*_, _-_, _≤_, _<_}
+use Prim.Native.Nat.{ℕ, _+_, _*_, _-_, _≤_, _<_}
 use native.Mathlib.Nat.{mul-le-mul-right}
 use native.Mathlib.Omega.{arith}
-use lib.ListN.{length, getD, set, take, drop, length-map}
+use lib.ListN.{length, getD, set, length-map}
 use lib.Seq.{set-getD}
-use lib.Dec.{ltb}
 use borrow.Author.Tests.{lt-ltb, le-ltb}
 use borrow.Rule.Slice.PartMut.{midOf, putMid, post-is, mid-len}
 use Rattle.model.specs.Fact.{Fact, kind, value, Row, joinRow}

@@ -8,7 +8,7 @@ use native.Mathlib.Omega.{arith}
 use lib.Dec.{ltb}
 use lib.IntN.{ℤ, pos, negsuc}
 use lib.ListN.{length, getD, replicate, length-append}
-use borrow.Author.Tests.{lt-ltb, le-ltb}
+use borrow.Author.Tests.{lt-ltb}
 use Rattle.model.specs.Sheet.{instruction, codeCount}
 use Rattle.model.specs.Successors.{Branch, fallThrough, jump, conditional, forLoop, leave, branch, contains, push, pushValid, pushFallthrough, jumpTarget, forLoopTarget, branchSuccessors, successors, sheetSuccessors, asRecord}
 use Rattle.model.specs.Fact.{Row}
@@ -21,7 +21,7 @@ use Rattle.sheet.specs.declared.Sizes.{Sizes}
 use Rattle.sheet.proofs.Counted.{counted}
 use Rattle.sheet.proofs.Asked.{measured}
 use Rattle.sheet.proofs.Inside.{code-inside}
-use Rattle.steps.specs.Laid.{StateLaid, successorAt, Offering, Offer, Following, Follow}
+use Rattle.steps.specs.Laid.{successorAt, Offering, Offer, Following, Follow}
 
 -- ---- at most two
 

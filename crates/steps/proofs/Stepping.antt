@@ -10,12 +10,11 @@ use lib.ListN.{length, getD, length-map}
 use borrow.Rule.Slice.PartMut.{midOf}
 use Rattle.model.specs.Sheet.{codeCount, firstRange}
 use Rattle.model.specs.Successors.{sheetSuccessors}
-use Rattle.model.specs.Fact.{Fact, kind, value, Row, equalKnown}
-use Rattle.model.specs.Run.{Analysis, State, rowAt, visits, carry}
+use Rattle.model.specs.Fact.{kind, value, Row, equalKnown}
+use Rattle.model.specs.Run.{rowAt, carry}
 use Rattle.model.specs.Tables.{rowCells, factsOf, factIn, lengthTable}
 use Rattle.model.specs.Transfer.{indexTransfer, transferRow}
 use Rattle.model.specs.Analyses.{analysis}
-use Rattle.model.specs.Demand.{Lawful}
 use Rattle.model.specs.declared.AnalysisKind.{AnalysisKind}
 use Rattle.model.specs.declared.AnalysisKind.the-variants.{Constant, IndexCheck, Container}
 use Rattle.finality.proofs.Lawful.{lawful}
@@ -25,8 +24,8 @@ use Rattle.sheet.specs.Measured.{Accepted}
 use Rattle.sheet.specs.declared.Sizes.{Sizes}
 use Rattle.sheet.proofs.Counted.{counted}
 use Rattle.search.specs.Rows.{Lies, Tracked}
-use Rattle.steps.specs.Laid.{RowsLaid, RowLaid, StateLaid, Following, Follow}
-use Rattle.steps.specs.Stepped.{ranAnalysis, Lending, Stepping, Step, Copied}
+use Rattle.steps.specs.Laid.{RowsLaid, RowLaid, Following, Follow}
+use Rattle.steps.specs.Stepped.{ranAnalysis, Stepping, Step, Copied}
 use Rattle.steps.proofs.Laying.{row-end, mid-row, rows-are}
 
 -- the length's fact of one instruction is all that its transfer reads

@@ -1,5 +1,4 @@
 // The successors of an instruction, at most two.
-ghost use mathlib.Core.Path.{_≡_};
 ghost use lib.ListN.{length};
 ghost use Rattle.model.specs.Fact.{equalKnown};
 ghost use Rattle.model.specs.Successors.{sheetSuccessors};

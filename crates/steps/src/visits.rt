@@ -1,7 +1,6 @@
 // One successor of a step: its row gets the copy or is joined with it, and it is added to the list where that is news.
-ghost use mathlib.Core.Path.{_≡_};
-ghost use Prim.Native.Nat.{_+_, _*_, _<_, _≤_};
-ghost use lib.ListN.{length, getD};
+ghost use Prim.Native.Nat.{_+_, _*_, _<_};
+ghost use lib.ListN.{length};
 ghost use Rattle.model.specs.Fact.{equalKnown};
 ghost use Rattle.steps.specs.Laid.{Visiting, Visit, Offering, Offer};
 use join::join_row;

@@ -1,5 +1,4 @@
 // One step, from the entry that was taken.
-ghost use mathlib.Core.Path.{_≡_};
 ghost use Rattle.steps.specs.Stepped.{Stepping, Step, Copied};
 use crate::following::offer_successors;
 use model::AnalysisKind;

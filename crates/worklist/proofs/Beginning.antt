@@ -2,12 +2,12 @@
 -- Assumes nothing.
 use mathlib.Core.Path.{_≡_, refl, sym, ap, _∙_, subst}
 use mathlib.Core.List.{List, [], _∷_}
-use mathlib.Core.Option.{Option, none, some}
-use Prim.Native.Nat.{ℕ, _+_, _*_}
+use mathlib.Core.Option.{some}
+use Prim.Native.Nat.{ℕ}
 use lib.ListN.{length}
 use Rattle.model.specs.Sheet.{codeCount}
 use Rattle.model.specs.Fact.{Row, equalKnown}
-use Rattle.model.specs.Run.{Analysis, run}
+use Rattle.model.specs.Run.{run}
 use Rattle.model.specs.Tables.{factsOf}
 use Rattle.model.specs.Analyses.{analysis}
 use Rattle.model.specs.declared.AnalysisKind.{AnalysisKind}

@@ -1,18 +1,16 @@
 -- What the loop leaves, cleared, is what the defined run gives.
 -- Assumes nothing.
-use mathlib.Core.Path.{_≡_, refl, sym, ap, _∙_}
+use mathlib.Core.Path.{_≡_, refl, ap}
 use mathlib.Core.List.{List}
-use mathlib.Core.Option.{Option, none, some}
-use Prim.Native.Nat.{ℕ, _+_, _*_}
-use lib.ListN.{length, replicate}
+use mathlib.Core.Option.{some}
+use Prim.Native.Nat.{ℕ, _*_}
+use lib.ListN.{length}
 use Rattle.model.specs.Call.{zeros}
-use Rattle.model.specs.Fact.{kind, value, Row}
-use Rattle.model.specs.Run.{Analysis, RunEnd, finished, overdrawn, bound, run}
-use Rattle.model.specs.Tables.{presentBytes, cells}
+use Rattle.model.specs.Run.{Analysis, bound, run}
 use Rattle.worklist.specs.Turn.{Ran}
 use Rattle.worklist.specs.declared.Run.{Run}
 use Rattle.worklist.specs.declared.Run.the-variants.{Finished, Overdrawn}
-use Rattle.worklist.specs.Result.{RunResult, runResult, finishOf, ranOf}
+use Rattle.worklist.specs.Result.{runResult, finishOf, ranOf}
 
 result-path : {r : Run} {p k v rk rv l p′ k′ v′ rk′ rv′ l′ : List ℕ} → p ≡ p′ → k ≡ k′ → v ≡ v′ → rk ≡ rk′ → rv ≡ rv′ → l ≡ l′
     → runResult r p k v rk rv l ≡ runResult r p′ k′ v′ rk′ rv′ l′

@@ -2,14 +2,14 @@
 -- Assumes nothing.
 use mathlib.Core.Path.{_≡_, refl, sym, ap, _∙_, subst}
 use mathlib.Core.List.{List, [], _∷_, map}
-use mathlib.Core.Option.{Option, none, some}
-use Prim.Native.Nat.{ℕ, zero, suc, _+_, _*_, _-_, _≤_, _<_}
-use native.Mathlib.Nat.{mul-le-mul-right, mul-le-mul-left}
+use mathlib.Core.Option.{none}
+use Prim.Native.Nat.{ℕ, _+_, _*_, _-_, _≤_, _<_}
+use native.Mathlib.Nat.{mul-le-mul-right}
 use native.Mathlib.Omega.{arith}
 use lib.ListN.{length, getD, set, replicate, length-map, length-replicate, length-set}
 use Rattle.model.specs.Sheet.{codeCount}
-use Rattle.model.specs.Fact.{Fact, kind, value, Row, equalKnown}
-use Rattle.model.specs.Run.{Analysis, State, finished, overdrawn, bound, run, visits}
+use Rattle.model.specs.Fact.{kind, value, Row, equalKnown}
+use Rattle.model.specs.Run.{Analysis, overdrawn, run, visits}
 use Rattle.model.specs.Tables.{factsOf, lengthTable}
 use Rattle.model.specs.Analyses.{analysis}
 use Rattle.model.specs.Demand.{Lawful}
@@ -19,7 +19,7 @@ use Rattle.sheet.specs.declared.Sizes.{Sizes}
 use Rattle.steps.specs.Laid.{RowsLaid, RowLaid, StateLaid, successorAt, Offering, Offer}
 use Rattle.steps.specs.Stepped.{ranAnalysis, Lending, Stepping, Step}
 use Rattle.worklist.specs.Turn.{firstOf, Running, Turn, Ran, Fresh}
-use Rattle.worklist.specs.declared.Run.the-variants.{Finished, Overdrawn}
+use Rattle.worklist.specs.declared.Run.the-variants.{Finished}
 use Rattle.worklist.proofs.Running as T
 use Rattle.worklist.proofs.Running.{Sizes as TurnSizes, bare}
 

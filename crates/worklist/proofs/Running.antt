@@ -1,17 +1,15 @@
 -- The loop's state between two turns (`Running`) and inside one (`Taken`), and how it goes on.
 -- Assumes nothing.
 use mathlib.Core.Path.{_≡_, refl, sym, ap, ap₂, _∙_}
-use mathlib.Core.Logic.{_⊎_, inl, inr}
-use mathlib.Core.Bool.{Bool, true, false}
-use mathlib.Core.List.{List, [], _∷_, _++_, map, append-nil, List·Memᴰ as Member, List·Memᴰ·head as head, List·Memᴰ·tail as tail}
+use mathlib.Core.List.{List, [], _∷_, _++_, append-nil, List·Memᴰ as Member, List·Memᴰ·head as head, List·Memᴰ·tail as tail}
 use mathlib.Core.Option.{Option, none, some}
 use Prim.Native.Nat.{ℕ, zero, suc, _+_, _*_, _-_, _≤_, _<_, suc-le-suc}
-use native.Mathlib.Nat.{zero-mul, mul-le-mul-right, not-suc-le-zero}
+use native.Mathlib.Nat.{zero-mul}
 use native.Mathlib.Omega.{arith}
-use lib.ListN.{length, getD, set, replicate, length-replicate, length-map, replicate-append-replicate}
+use lib.ListN.{length, getD, set, replicate, length-replicate, replicate-append-replicate}
 use lib.Seq.{getD-set-same}
 use Rattle.model.specs.Fact.{Fact, kind, value, Row}
-use Rattle.model.specs.Run.{Analysis, State, RunEnd, finished, overdrawn, next, ended, rowAt, news, merged, visit, visits, carry, popped, step, bound, start, run}
+use Rattle.model.specs.Run.{Analysis, State, finished, overdrawn, rowAt, news, merged, visit, visits, carry, popped, bound, start, run}
 use Rattle.model.specs.Tables.{presentByte, presentBytes, rowCells, cells, stacked, tableRow}
 use Rattle.model.specs.Demand.{Lawful, Present, Visited, begun, then}
 use Rattle.finality.proofs.Cells.{length-cells, length-present, length-stacked, stacked-top, stacked-pop}

@@ -1,6 +1,6 @@
 -- `run_front` meets its contract: the run in the first places of what is lent.
 -- Assumes nothing.
-use mathlib.Core.Path.{sym, _∙_}
+use mathlib.Core.Path.{sym}
 use native.Mathlib.Omega.{arith}
 use lib.Seq.{length-take-le}
 use Rattle.sheet.proofs.Counted.{counted}

@@ -8,7 +8,7 @@ use mir.Syntax.{w16, w64}
 use mir.Val.{Fits}
 use Rattle.model.specs.Sheet.{codeCount}
 use Rattle.worklist.specs.Turn.{firstOf, Turn, Ran}
-use Rattle.worklist.proofs.Loop.{turn-entry, stepping, stepped, ends-refused, ends-empty}
+use Rattle.worklist.proofs.Loop.{stepping, stepped, ends-refused, ends-empty}
 use Rattle.worklist.proofs.turns.run_list.Statement.{statement}
 use Rattle.worklist.proofs.turns.run_list.Tie as tie
 use Rattle.worklist.proofs.turns.run_list.Reads as reads
