@@ -20,7 +20,7 @@ use Rattle.model.specs.declared.Answer.the-variants.{Invalid}
 use Rattle.budget.specs.Metering.{asSpent}
 use Rattle.budget.specs.declared.Metering.{Metering}
 use Rattle.budget.specs.declared.Metering.the-variants as M
-use Rattle.sheet.proofs.Both.{both-left, both-right}
+use Rattle.model.proofs.Tests.{both-left, both-right}
 use Rattle.sheet.specs.Sizes.{sizesOf}
 use Rattle.questions.specs.Check.{checkOf, sheetCheck}
 use Rattle.sheet.specs.Measured.{Accepted}

@@ -5,12 +5,8 @@ use mathlib.Core.List.{List, _++_}
 use Prim.Native.Nat.{ℕ, _-_}
 use lib.ListN.{length, replicate}
 use Rattle.model.specs.Call.{Table, roomFor, zeros, filled, zeroTable, filledTable}
-use Rattle.finality.proofs.Lengths.{zeros-length, SameLengths}
+use Rattle.finality.proofs.Lengths.{zeros-length, SameLengths, zeros-same}
 use Rattle.stages.specs.Stage.{Scratch, zeroScratch}
-
-zeros-same : (xs ys : List ℕ) → length xs ≡ length ys → zeros xs ≡ zeros ys
-unfolding zeros
-zeros-same xs ys e = ap (λ (k : ℕ). replicate k 0) e
 
 pub zero-same : (t u : Table) → SameLengths t u → zeroTable t ≡ zeroTable u
 unfolding zeroTable

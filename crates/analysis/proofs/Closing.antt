@@ -7,7 +7,7 @@ use mathlib.Core.Option.{Option, some}
 use Prim.Native.Nat.{ℕ, _+_, _≤_, _<_}
 use native.Mathlib.Omega.{arith}
 use lib.Dec.{leb, ltb}
-use lib.ListN.{length, replicate, take, drop, length-append, length-drop}
+use lib.ListN.{length, take, drop, length-append, length-drop}
 use lib.Seq.{take-append-seam}
 use borrow.Author.Tests.{leb-true, ltb-true, le-leb}
 use Rattle.model.specs.Sheet.{codeCount, localSlots}
@@ -28,7 +28,7 @@ use Rattle.sheet.specs.Measured.{Accepted}
 use Rattle.sheet.proofs.Asked.{measured}
 use Rattle.sheet.proofs.Counted.{counted}
 use Rattle.sheet.proofs.Limited.{limited}
-use Rattle.sheet.proofs.Both.{both-left, both-right}
+use Rattle.model.proofs.Tests.{both-left, both-right}
 use Rattle.marks.specs.Slots.{fittedIf, fitted}
 use Rattle.closure.specs.Closed.{Ended, closedTo, closedOf}
 use Rattle.closure.specs.declared.Closed.{Closed}
@@ -42,6 +42,8 @@ use Rattle.stages.specs.declared.Staged.the-variants.{OverBudget}
 use Rattle.stages.proofs.Stepwise.{closure-refused, no-room, with-room}
 use Rattle.behind.proofs.Zeros.{front-filled}
 use Rattle.behind.proofs.Asking.{room-parts}
+use Rattle.finality.proofs.Lengths.{zeros-same}
+use Rattle.behind.proofs.Fronts.{some-same}
 
 -- ---- ascending numbers below a bound are no more than it
 
@@ -129,13 +131,6 @@ behind-slots which sheet slots lengthFact budget a left e = let p = bound-parts 
 
 -- ---- the whole
 
-same-zeros : (xs ys : List ℕ) → length xs ≡ length ys → zeros xs ≡ zeros ys
-unfolding zeros
-same-zeros xs ys e = ap (λ (k : ℕ). replicate k 0) e
-
-behind-same : {a b : Behind} → _≡_ {A = Option Behind} (some a) (some b) → a ≡ b
-behind-same e = cc
-
 -- what is left behind the closure, with the slots, is what the stage leaves
 module _ (slots present kinds values marks stack rowKinds rowValues list : List ℕ) {answer : Staged} {slots′ slots″ p k v marks′ stack′ rk rv l : List ℕ}
     (long : length slots′ ≡ length slots) (after : slots″ ≡ slotsAfter answer slots′) (no-marks : marks′ ≡ zeros marks) (no-stack : stack′ ≡ zeros stack) where
@@ -144,7 +139,7 @@ module _ (slots present kinds values marks stack rowKinds rowValues list : List 
       → some (stageEnd answer (table slots″ p k v) (scratch marks′ stack′ rk rv l)) ≡ stageOf (table slots present kinds values) (scratch marks stack rowKinds rowValues list) spent
   unfolding behindIn stageOf slotsAfter zeroTable filledTable zeroScratch tables
   stage-end (ok a left) fills e =
-      let w = behind-same e in
+      let w = some-same e in
       rw (
         after,
         ap (λ (b : Behind). b .answer) w,
@@ -159,11 +154,11 @@ module _ (slots present kinds values marks stack rowKinds rowValues list : List 
         no-stack,
       )
   stage-end (stop (overBudget stage requested remaining) left) fills e =
-      let w = behind-same e in
+      let w = some-same e in
       rw (
         after,
         ap (λ (b : Behind). b .answer) w,
-        same-zeros slots′ slots long,
+        zeros-same slots′ slots long,
         ap (λ (b : Behind). b .present) w,
         ap (λ (b : Behind). b .kinds) w,
         ap (λ (b : Behind). b .values) w,
@@ -174,11 +169,11 @@ module _ (slots present kinds values marks stack rowKinds rowValues list : List 
         no-stack,
       )
   stage-end (stop noRoom left) fills e =
-      let w = behind-same e in
+      let w = some-same e in
       rw (
         after,
         ap (λ (b : Behind). b .answer) w,
-        same-zeros slots′ slots long,
+        zeros-same slots′ slots long,
         ap (λ (b : Behind). b .present) w,
         ap (λ (b : Behind). b .kinds) w,
         ap (λ (b : Behind). b .values) w,

@@ -1,24 +1,23 @@
 -- Question 8, and what follows it.
 -- Assumes nothing.
 use mathlib.Core.Path.{_≡_, refl, sym, ap, _∙_}
-use mathlib.Core.Bool.{Bool, true, false, _&&_}
+use mathlib.Core.Bool.{Bool, true, false}
 use mathlib.Core.Logic.{_⊎_, inl, inr}
-use mathlib.Core.List.{List, _∷_, _++_}
+use mathlib.Core.List.{List}
 use mathlib.Core.Option.{Option, none, some}
 use Prim.Native.Nat.{ℕ, zero, suc, _+_, _*_, _≤_, _<_}
-use native.Mathlib.Nat.{zero-mul, suc-mul}
 use native.Mathlib.Omega.{arith}
-use lib.ListN.{length, replicate, take, length-replicate, replicate-append-replicate}
+use lib.ListN.{length, replicate, take, length-replicate}
 use lib.Seq.{length-take-le}
 use borrow.Author.Tests.{leb-true}
 use Rattle.model.specs.Sheet.{codeCount}
 use Rattle.model.specs.Fact.{Fact, kind, value}
-use Rattle.model.specs.Tables.{presentByte, presentBytes, rowCells, cells}
+use Rattle.model.specs.Tables.{presentBytes, cells}
 use Rattle.model.specs.Call.{workListRoom, counts, tables, zeros, filled}
 use Rattle.model.specs.Lookup.{ascends}
 use Rattle.model.specs.declared.VerifierResources.{VerifierResources}
 use Rattle.model.specs.declared.AnalysisKind.{AnalysisKind}
-use Rattle.sheet.proofs.Both.{both-left, both-right}
+use Rattle.model.proofs.Tests.{both}
 use Rattle.stages.specs.Parts.{behindRoom, Behind, behind}
 use Rattle.stages.specs.Stage.{roomBy}
 use Rattle.stages.specs.Ends.{afterClosure, atOnce, behindIn}
@@ -28,23 +27,21 @@ use Rattle.stages.specs.declared.Staged.the-variants.{NoRoom}
 use Rattle.stages.proofs.Paths.{some-room}
 use Rattle.stages.proofs.Stepwise.{at-once}
 use Rattle.behind.proofs.Zeros.{front-cleared, front-filled}
+use Rattle.worklist.proofs.Running.{no-cells, no-present}
 
 -- ---- the answer, as inequalities
-
-and-parts : (x y : Bool) → x && y ≡ true → (x ≡ true) × (y ≡ true)
-and-parts x y e = (both-left x y e, both-right x y e)
 
 module _ (n s slots present kinds values rowKinds rowValues list : ℕ) (e : roomBy n s slots present kinds values rowKinds rowValues list ≡ true) where
   -- each of the seven tests
   pub room-parts : (s ≤ slots) × (s ≤ rowKinds) × (s ≤ rowValues) × (n ≤ present) × (n * s ≤ kinds) × (n * s ≤ values) × (workListRoom n s list ≡ true)
   unfolding roomBy
   room-parts =
-      let seven = and-parts _ _ e in
-      let six = and-parts _ _ (seven .0) in
-      let five = and-parts _ _ (six .0) in
-      let four = and-parts _ _ (five .0) in
-      let three = and-parts _ _ (four .0) in
-      let two = and-parts _ _ (three .0) in (
+      let seven = both _ _ e in
+      let six = both _ _ (seven .0) in
+      let five = both _ _ (six .0) in
+      let four = both _ _ (five .0) in
+      let three = both _ _ (four .0) in
+      let two = both _ _ (three .0) in (
         leb-true s slots (two .0),
         leb-true s rowKinds (two .1),
         leb-true s rowValues (three .1),
@@ -66,21 +63,6 @@ module _ (n s slots present kinds values rowKinds rowValues list : ℕ) (e : roo
   }
 
 -- ---- rows of which none is present
-
-none-present : (n : ℕ) → presentBytes (replicate n none) ≡ replicate n 0
-unfolding presentBytes presentByte
-none-present zero = refl
-none-present (suc n) = ap {B = List ℕ} (λ xs. 0 ∷ xs) (none-present n)
-
-none-cells : (f : Fact → ℕ) (s n : ℕ) → cells f s (replicate n none) ≡ replicate (n * s) 0
-unfolding cells rowCells
-none-cells f s zero = rw (zero-mul s)
-none-cells f s (suc n) =
-    ap (λ (xs : List ℕ). replicate s 0 ++ xs) (none-cells f s n) ∙ replicate-append-replicate s (n * s) 0
-    ∙ ap (λ (m : ℕ). replicate m 0) same
-  where
-    same : s + n * s ≡ suc n * s
-    same = omega (arith, suc-mul n s)
 
 -- zeros at the front of zeros
 zero-filled : (k : ℕ) (old : List ℕ) → k ≤ length old → old ≡ zeros old → {table : List ℕ} → table ≡ replicate k 0 → old ≡ filled table old
@@ -120,9 +102,9 @@ module _ (which : AnalysisKind) (sheet : List ℕ) (n s : ℕ) (all : n ≡ code
       ≡ behindIn present kinds values rowKinds rowValues list (afterClosure which sheet s slots enough lengthFact left)
   unfolding behindIn counts tables atOnce
   ended-at-once e none-here answer is = with-front e (let fit = room-parts n s _ _ _ _ _ _ _ e in rw (at-once which sheet (take s slots) lengthFact left (here none-here), is, length-take-le s slots slots-fit) (
-      let p = zero-filled n present (fit .3) (z .no-present) (ap (λ (m : ℕ). presentBytes (replicate m none)) (sym all) ∙ none-present n) in
-      let k = zero-filled (n * s) kinds (fit .4) (z .no-kinds) (ap (λ (m : ℕ). cells kind s (replicate m none)) (sym all) ∙ none-cells kind s n) in
-      let v = zero-filled (n * s) values (fit .5) (z .no-values) (ap (λ (m : ℕ). cells value s (replicate m none)) (sym all) ∙ none-cells value s n) in
+      let p = zero-filled n present (fit .3) (z .no-present) (ap (λ (m : ℕ). presentBytes (replicate m none)) (sym all) ∙ no-present n) in
+      let k = zero-filled (n * s) kinds (fit .4) (z .no-kinds) (ap (λ (m : ℕ). cells kind s (replicate m none)) (sym all) ∙ no-cells kind s n) in
+      let v = zero-filled (n * s) values (fit .5) (z .no-values) (ap (λ (m : ℕ). cells value s (replicate m none)) (sym all) ∙ no-cells value s n) in
       let rk = z .no-row-kinds in let rv = z .no-row-values in let l = z .no-list in cc))
     where
       slots-fit : s ≤ length slots

@@ -19,7 +19,7 @@ use Rattle.stages.specs.declared.Staged.{Staged}
 use Rattle.stages.proofs.Paths.{cells-fit}
 use Rattle.behind.proofs.Zeros.{take-zero, front-cleared, front-filled}
 
-some-same : {a b : Behind} → _≡_ {A = Option Behind} (some a) (some b) → a ≡ b
+pub some-same : {a b : Behind} → _≡_ {A = Option Behind} (some a) (some b) → a ≡ b
 some-same e = cc
 
 -- a part that is as long as what it stands for

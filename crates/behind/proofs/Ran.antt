@@ -18,7 +18,6 @@ use Rattle.model.specs.declared.VerifierResources.{VerifierResources}
 use Rattle.model.specs.declared.AnalysisKind.{AnalysisKind}
 use Rattle.model.proofs.Metered.{then-parts}
 use Rattle.finality.proofs.Lawful.{entry-length}
-use Rattle.finality.proofs.Memory.{facts-back}
 use Rattle.budget.specs.Metering.{asSpent}
 use Rattle.budget.specs.declared.Metering.{Metering}
 use Rattle.budget.specs.declared.Metering.the-variants.{Covered, Refused}
@@ -38,6 +37,7 @@ use Rattle.stages.specs.Stocked.{Found, Slotted, Zeroed}
 use Rattle.stages.specs.declared.Staged.{Staged}
 use Rattle.stages.specs.declared.Staged.the-variants.{OverBudget}
 use Rattle.stages.proofs.Stepwise.{entering-refused, then-run}
+use Rattle.model.proofs.Facts.{facts-back}
 
 -- ---- the first row
 

@@ -16,10 +16,11 @@ use Rattle.model.specs.Count.{every}
 use Rattle.model.specs.Lookup.{lastKind, cellAt, kindNamed, rowNamed, cell, isReachable, reachedBy}
 use Rattle.model.specs.declared.SlotFact.the-variants.{Cell, Absent}
 use Rattle.model.specs.declared.Reachability.the-variants.{Yes, No, Unreadable}
-use Rattle.tables.specs.Place.{placed}
+use Rattle.search.specs.Place.{placed}
 use Rattle.cells.specs.Inside.{Inside, rowsNamed}
-use Rattle.tables.specs.declared.place.Place.{Place}
-use Rattle.tables.specs.declared.place.Place.the-variants.{At, Untracked}
+use Rattle.search.specs.declared.Place.{Place}
+use Rattle.search.specs.declared.Place.the-variants.{At, Untracked}
+use Rattle.model.proofs.Tests.{and-false, and-true}
 
 -- a byte that is not 0 stands below n
 pub present-below : (present : List ℕ) (pc : ℕ) → 0 < getD present pc 0 → pc < length present
@@ -44,14 +45,6 @@ cell-inside s present cells pc j byte at e h b l =
     in-table pc (length present) s j cells (present-below present pc (omega arith)) (i .0) (i .1)
 
 -- ---- question 9 of a row, and its cell
-
-and-true : (b : Bool) → (b && true) ≡ b
-and-true true = refl
-and-true false = refl
-
-and-false : (b : Bool) → (b && false) ≡ false
-and-false true = refl
-and-false false = refl
 
 module _ (last s : ℕ) (present kinds : List ℕ) (pc byte : ℕ) (e : byte ≡ getD present pc 0) where
   pub untracked-row : (at : Place) → at ≡ Untracked → leb byte 1 ≡ rowNamed last s present kinds (placed at) pc

@@ -3,10 +3,10 @@ ghost use mathlib.Core.Path.{_≡_};
 ghost use lib.ListN.{length, getD};
 ghost use lib.Dec.{eqb};
 ghost use Rattle.model.specs.Lookup.{rowNamed, cell};
-ghost use Rattle.tables.specs.Place.{placed};
+ghost use Rattle.search.specs.Place.{placed};
 ghost use Rattle.cells.specs.Inside.{Inside, rowsNamed};
 use model::SlotFact;
-use tables::Place;
+use search::Place;
 
 // The present byte of pc; 0 "for pc from n up".
 pub fn present_at(present: &[u8], pc: u64) -> u8

@@ -34,6 +34,7 @@ use Rattle.closure.specs.Taking.{Standing, topEdges, topTaken, Takes}
 use Rattle.closure.specs.Closed.{Blank, expandedTo, expandedOf}
 use Rattle.follow.specs.declared.Followed.{Followed}
 use Rattle.marks.proofs.Marking.{some-lain}
+use Rattle.finality.proofs.Lengths.{zeros-same}
 
 -- ---- what is on the stack is below L
 
@@ -268,10 +269,6 @@ pub lies-room : {sheet : List ℕ} {room : ℕ} {m : Marked} {marks stack : List
 lies-room l = rw (l .long) l
 
 -- ---- how it ends
-
-pub zeros-same : (xs ys : List ℕ) → length xs ≡ length ys → zeros xs ≡ zeros ys
-unfolding zeros
-zeros-same xs ys e = ap (λ (k : ℕ). replicate k 0) e
 
 -- the answer to a refused charge
 refused-is : {requested remaining : ℕ} {left : VerifierResources} (r : Metering) → asSpent 0 r ≡ stop (overBudget 0 requested remaining) left → r ≡ M.Refused requested remaining left

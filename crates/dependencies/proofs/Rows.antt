@@ -1,7 +1,7 @@
 -- The edges of an instruction as rows: their number, and those to one destination.
 -- Assumes nothing.
 use mathlib.Core.Path.{_≡_, refl, sym, ap, _∙_}
-use mathlib.Core.Bool.{Bool, true, false, _&&_, cond}
+use mathlib.Core.Bool.{Bool, true, false, cond}
 use mathlib.Core.Logic.{_⊎_, inl, inr}
 use mathlib.Core.List.{[], append-nil}
 use Prim.Native.Nat.{ℕ, zero, suc, _+_, _-_, _≤_, _<_, min}
@@ -16,6 +16,7 @@ use Rattle.model.specs.Opcode.{select}
 use Rattle.model.specs.declared.Instruction.{Instruction}
 use Rattle.dependencies.specs.Rows.{row, rowIf, rows}
 use Rattle.dependencies.specs.declared.Dependence.{Dependence}
+use Rattle.model.proofs.Tests.{and-false}
 
 -- ---- the rules are rows
 
@@ -56,10 +57,6 @@ module _ (l : ℕ) (inst : Instruction) where
   no-rows e = rule (by 0 false 0) e (one-row 0 0)
 
 -- ---- how many edges a row has
-
-and-false : (t : Bool) → (t && false) ≡ false
-and-false true = refl
-and-false false = refl
 
 module _ (l a b kinds : ℕ) where
   edge-inside : a < l → b < l → edge l a b kinds ≡ edgeIf true a b kinds

@@ -1,20 +1,14 @@
 -- Facts as they lie in cells.
 -- Assumes nothing.
-use mathlib.Core.Path.{_≡_, refl, ap}
+use mathlib.Core.Path.{_≡_, ap}
 use Prim.Native.Nat.{ℕ}
-use Rattle.model.specs.Fact.{Fact, unknown, conflict, known, kind, value}
-use Rattle.model.specs.Tables.{factOf, factIn, cellOf}
+use Rattle.model.specs.Fact.{Fact, kind, value}
+use Rattle.model.specs.Tables.{factIn, cellOf}
 use Rattle.model.specs.declared.FactCell.{FactCell}
+use Rattle.model.proofs.Facts.{fact-back}
 
 abbrev pub cell : ℕ → ℕ → FactCell
 cell k v = record { kind = k; value = v }
-
--- a fact is what its kind and value stand for
-pub fact-back : (f : Fact) → factOf (kind f) (value f) ≡ f
-unfolding factOf kind value
-fact-back unknown = refl
-fact-back conflict = refl
-fact-back (known k v) = refl
 
 -- what a cell stands for is the fact whose cell it is
 pub read : (f : Fact) {r : FactCell} → r ≡ cellOf f → factIn r ≡ f

@@ -22,15 +22,12 @@ use Rattle.model.specs.declared.AnalysisKind.{AnalysisKind}
 use Rattle.model.proofs.Metered.{then-parts, bound-parts, given, Finishes, bound-finishes, then-finishes, give-finishes, bytes-finish, work-finishes}
 use Rattle.finality.proofs.Marks.{IsSet, Grows, grows-self, grows-on, mark-grows, mark-sets, mark-only, weight, mark-weight, unmarked-weight}
 use Rattle.finality.proofs.Places.{places-ascend, places-only, places-all}
+use Rattle.model.proofs.Tests.{both-right}
 
 -- ---- an edge's source is below L
 
 Sources : ℕ → List FactDependency → Type 0
 Sources l es = (e : FactDependency) → Member e es → e .source < l
-
-and-right : (x y : Bool) → x && y ≡ true → y ≡ true
-and-right true y e = e
-and-right false y e = absurd (false≢true e)
 
 edge-source : (l d s kinds : ℕ) → Sources l (edge l d s kinds)
 unfolding edge edgeIf Sources
@@ -38,7 +35,7 @@ edge-source l d s kinds e m = go (ltb d l && ltb s l) refl m
   where
     go : (b : Bool) → ltb d l && ltb s l ≡ b → Member e (edgeIf b d s kinds) → e .source < l
     go true t k = elim (cases-cons k) [
-      | inl w ↦ let h : ltb s l ≡ true = and-right (ltb d l) (ltb s l) t in rw w (omega (arith, ltb-true))
+      | inl w ↦ let h : ltb s l ≡ true = both-right (ltb d l) (ltb s l) t in rw w (omega (arith, ltb-true))
       | inr x ↦ absurd (not-nil x)
     ]
     go false t k = absurd (not-nil k)

@@ -1,7 +1,7 @@
 -- Every lent buffer is as long after a call as before it.
 -- Assumes nothing.
 use mathlib.Core.Path.{_≡_, refl, sym, ap, _∙_, subst}
-use mathlib.Core.Bool.{Bool, true, false, _&&_, false≢true}
+use mathlib.Core.Bool.{Bool, true, false}
 use mathlib.Core.Logic.{_⊎_, inl, inr}
 use mathlib.Core.List.{List}
 use mathlib.Core.Option.{Option, none, some}
@@ -25,10 +25,16 @@ use Rattle.model.proofs.Metered.{bound-parts, then-parts, given}
 use Rattle.finality.proofs.Call.{stage-made, made-demanded}
 use Rattle.finality.proofs.Cells.{length-present, length-cells}
 use Rattle.finality.proofs.Invariant.{none-some, rowAt-replicate, zero-or-above}
+use Rattle.model.proofs.Tests.{both}
 
 pub zeros-length : (old : List ℕ) → length (zeros old) ≡ length old
 unfolding zeros
 zeros-length old = length-replicate {A = ℕ} (length old) 0
+
+-- as many zeros are the same zeros
+pub zeros-same : (xs ys : List ℕ) → length xs ≡ length ys → zeros xs ≡ zeros ys
+unfolding zeros
+zeros-same xs ys e = ap (λ (k : ℕ). replicate k 0) e
 
 filled-length : (table old : List ℕ) → length table ≤ length old → length (filled table old) ≡ length old
 unfolding filled
@@ -51,21 +57,16 @@ zero-lengths old = record {
   values = zeros-length (old .values);
 }
 
--- question 8, as inequalities
-and-parts : (x y : Bool) → x && y ≡ true → (x ≡ true) × (y ≡ true)
-and-parts true y e = (refl, e)
-and-parts false y e = absurd (false≢true e)
-
 pub roomy : (n : ℕ) (t : Table) (rowKinds rowValues workList : List ℕ) (s : ℕ) → roomFor n t rowKinds rowValues workList s ≡ true
     → (s ≤ length (t .slots)) × (n ≤ length (t .present)) × (n * s ≤ length (t .kinds)) × (n * s ≤ length (t .values))
 unfolding roomFor
 roomy n t rowKinds rowValues workList s e =
-    let list = and-parts _ _ e in
-    let values = and-parts _ _ (list .0) in
-    let kinds = and-parts _ _ (values .0) in
-    let present = and-parts _ _ (kinds .0) in
-    let row = and-parts _ _ (present .0) in
-    let slots = and-parts _ _ (row .0) in
+    let list = both _ _ e in
+    let values = both _ _ (list .0) in
+    let kinds = both _ _ (values .0) in
+    let present = both _ _ (kinds .0) in
+    let row = both _ _ (present .0) in
+    let slots = both _ _ (row .0) in
     (below (slots .0), below (present .1), below (kinds .1), below (values .1))
   where
     below : {i j : ℕ} → leb i j ≡ true → i ≤ j

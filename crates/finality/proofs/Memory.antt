@@ -1,36 +1,19 @@
 -- Demand 3 of a run's rows is demand 3 of its tables as they lie in memory.
 -- Assumes nothing.
-use mathlib.Core.Path.{_≡_, refl, sym, ap, ap₂, _∙_}
+use mathlib.Core.Path.{_≡_, refl, sym, ap, _∙_}
 use mathlib.Core.List.{List, [], _∷_, _++_, map, List·Memᴰ as Member}
 use mathlib.Core.Option.{Option, none, some}
-use Prim.Native.Nat.{ℕ, zero, suc, _+_, _*_, _≤_, _<_, suc-le-suc}
+use Prim.Native.Nat.{ℕ, zero, suc, _+_, _*_, _≤_, _<_}
 use native.Mathlib.Nat.{mul-le-mul-right}
 use native.Mathlib.Omega.{arith}
 use lib.ListN.{length, getD, take, drop, replicate, length-drop}
 use lib.Seq.{take-append-le, drop-append-le}
-use Rattle.model.specs.Fact.{Fact, unknown, conflict, known, kind, value, Row}
+use Rattle.model.specs.Fact.{Fact, kind, value, Row}
 use Rattle.model.specs.Run.{Analysis, rowAt}
-use Rattle.model.specs.Tables.{presentByte, presentBytes, rowCells, cells, factOf, factsOf, tableRow}
+use Rattle.model.specs.Tables.{presentByte, presentBytes, rowCells, cells, tableRow}
 use Rattle.model.specs.Demand.{Present, Settled, Final, Shows, SettledTable, FinalTable}
-use Rattle.finality.proofs.Invariant.{none-some}
 use Rattle.finality.proofs.Cells.{present-at, length-cells, cells-part}
-
-fact-back : (f : Fact) → factOf (kind f) (value f) ≡ f
-unfolding factOf kind value
-fact-back unknown = refl
-fact-back conflict = refl
-fact-back (known k v) = refl
-
--- a row is what its kinds and values stand for
-pub facts-back : (r : Row) → factsOf (map kind r) (map value r) ≡ r
-unfolding factsOf
-facts-back [] = refl
-facts-back (f ∷ fs) = ap₂ _∷_ (fact-back f) (facts-back fs)
-
-present-below : (rows : List (Option Row)) (p : ℕ) (r : Row) → rowAt rows p ≡ some r → p < length rows
-present-below [] p r e = absurd (none-some r e)
-present-below (o ∷ os) zero r e = omega arith
-present-below (o ∷ os) (suc p) r e = suc-le-suc (present-below os p r e)
+use Rattle.model.proofs.Facts.{facts-back, row-below}
 
 -- ---- tables with zeros behind them
 
@@ -74,7 +57,7 @@ module _ (s : ℕ) (rows : List (Option Row)) (sized : (p : ℕ) (r : Row) → r
   cells-at : (f : Fact → ℕ) (ys : List ℕ) (p : ℕ) (r : Row) → rowAt rows p ≡ some r → take s (drop (p * s) (cells f s rows ++ ys)) ≡ map f r
   unfolding rowCells
   cells-at f ys p r e =
-      let below : p < length rows = present-below rows p r e in
+      let below : p < length rows = row-below rows p r e in
       padded-part (cells f s rows) ys (p * s) s (rw (length-cells f s rows sized) (row-inside p (length rows) s below))
       ∙ cells-part f s rows p sized below
       ∙ ap (rowCells f s) e

@@ -1,29 +1,18 @@
 -- Rows that lie in kinds and values as cells meet what `join_row` asks, and are read back as they were: for the callers.
 -- Assumes nothing.
-use mathlib.Core.Path.{_≡_, refl, sym, ap, _∙_}
+use mathlib.Core.Path.{_≡_, sym, ap, _∙_}
 use mathlib.Core.Bool.{Bool}
-use mathlib.Core.List.{List, [], _∷_, map}
+use mathlib.Core.List.{List, map}
 use Prim.Native.Nat.{ℕ}
 use lib.ListN.{length-map}
-use Rattle.model.specs.Fact.{Fact, unknown, conflict, known, kind, value, Row, rowDiffers, joinRow}
-use Rattle.model.specs.Tables.{factOf, factsOf}
+use Rattle.model.specs.Fact.{kind, value, Row, rowDiffers, joinRow}
 use Rattle.join.specs.Rows.{Encoded, JoinedRow}
-
-fact-back : (f : Fact) → factOf (kind f) (value f) ≡ f
-unfolding factOf kind value
-fact-back unknown = refl
-fact-back conflict = refl
-fact-back (known k v) = refl
-
-pub row-back : (r : Row) → factsOf (map kind r) (map value r) ≡ r
-unfolding factsOf
-row-back [] = refl
-row-back (f ∷ fs) = rw (fact-back f, row-back fs)
+use Rattle.model.proofs.Facts.{facts-back}
 
 pub encoded : (r : Row) → Encoded (map kind r) (map value r)
 encoded r = record {
   level = length-map r value ∙ sym (length-map r kind);
-  values-are = ap (λ (x : Row). map value x) (sym (row-back r));
+  values-are = ap (λ (x : Row). map value x) (sym (facts-back r));
 }
 
 -- what `join_row` leaves, said of rows
@@ -35,7 +24,7 @@ pub record JoinedInto (same : ℕ → ℕ → ℕ → ℕ → Bool) (old new : R
 pub joined-into : {same : ℕ → ℕ → ℕ → ℕ → Bool} {kinds values : List ℕ} {changed : Bool} (old new : Row)
     → JoinedRow same (map kind old) (map value old) (map kind new) (map value new) kinds values changed → JoinedInto same old new kinds values changed
 joined-into old new j = record {
-  kinds-are = rw (row-back old, row-back new) at (j .kinds-are);
-  values-are = rw (row-back old, row-back new) at (j .values-are);
-  changed-is = rw (row-back old, row-back new) at (j .changed-is);
+  kinds-are = rw (facts-back old, facts-back new) at (j .kinds-are);
+  values-are = rw (facts-back old, facts-back new) at (j .values-are);
+  changed-is = rw (facts-back old, facts-back new) at (j .changed-is);
 }

@@ -24,10 +24,6 @@ pub or-false : (x : Bool) → x || false ≡ x
 or-false true = refl
 or-false false = refl
 
-pub or-true : (x : Bool) → x || true ≡ true
-or-true true = refl
-or-true false = refl
-
 or-assoc : (x y z : Bool) → x || (y || z) ≡ x || y || z
 or-assoc true y z = refl
 or-assoc false y z = refl

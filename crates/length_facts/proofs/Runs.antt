@@ -4,7 +4,7 @@ use mathlib.Core.Path.{_≡_, refl, ap, _∙_}
 use mathlib.Core.Bool.{Bool, true, false, cond, _||_}
 use mathlib.Core.List.{List, [], _∷_}
 use mathlib.Core.Option.{Option, none, some}
-use Prim.Native.Nat.{ℕ, zero, suc, _<_, suc-le-suc}
+use Prim.Native.Nat.{ℕ, zero, suc, _<_}
 use native.Mathlib.Omega.{arith}
 use lib.Dec.{leb, eqb}
 use lib.ListN.{length, replicate, length-set, length-replicate}
@@ -17,6 +17,7 @@ use Rattle.model.specs.Analyses.{analysis}
 use Rattle.model.specs.declared.Instruction.{Instruction}
 use Rattle.model.specs.declared.AnalysisKind.{AnalysisKind}
 use Rattle.model.specs.declared.AnalysisKind.the-variants.{Constant, IndexCheck, Container}
+use Rattle.model.proofs.Facts.{row-below}
 
 -- ---- the transfer
 
@@ -34,11 +35,6 @@ same-transfer IndexCheck sheet slots f g pc row h = checked-same _ (instruction 
 same-transfer Container sheet slots f g pc row h = refl
 
 -- ---- runs whose transfers agree below n
-
-row-below : (rows : List (Option Row)) (p : ℕ) (r : Row) → rowAt rows p ≡ some r → p < length rows
-row-below [] p r e = let z : _≡_ {A = ℕ} 0 1 = cc in absurd (omega arith)
-row-below (o ∷ os) zero r e = omega arith
-row-below (o ∷ os) (suc p) r e = suc-le-suc (row-below os p r e)
 
 visits-length : (same : ℕ → ℕ → ℕ → ℕ → Bool) (copy : Row) (qs : List ℕ) (st : State) → length (visits same copy qs st .rows) ≡ length (st .rows)
 unfolding visits visit

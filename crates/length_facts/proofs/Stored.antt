@@ -16,7 +16,8 @@ use Rattle.model.specs.declared.FactCell.{FactCell}
 use Rattle.memory.proofs.Front.{getD-front}
 use Rattle.memory.proofs.Turned.{Turned, start, turn}
 use Rattle.length_facts.specs.Lengths.{Ended, lengthFactIf, lengthFact, lengthKinds, lengthValues}
-use Rattle.fact_cells.proofs.Facts.{fact-back, kind-of, value-of}
+use Rattle.fact_cells.proofs.Facts.{kind-of, value-of}
+use Rattle.model.proofs.Facts.{fact-back}
 
 -- ---- one fact
 

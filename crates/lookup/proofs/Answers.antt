@@ -12,11 +12,11 @@ use Rattle.model.specs.Lookup.{lastKind, placeFrom, place, tablesAgree, rowName
 use Rattle.model.specs.declared.AnalysisKind.{AnalysisKind}
 use Rattle.model.specs.declared.SlotFact.{SlotFact}
 use Rattle.model.specs.declared.SlotFact.the-variants.{Absent, Damaged}
-use Rattle.tables.specs.Place.{placed}
+use Rattle.search.specs.Place.{placed}
 use Rattle.lookup.specs.Shown.{shownBy}
 use Rattle.cells.specs.Inside.{Inside, rowsNamed}
-use Rattle.tables.specs.declared.place.Place.{Place}
-use Rattle.tables.specs.declared.place.Place.the-variants.{At, Untracked}
+use Rattle.search.specs.declared.Place.{Place}
+use Rattle.search.specs.declared.Place.the-variants.{At, Untracked}
 use Rattle.lookup.specs.declared.shown.Seen.{Seen}
 use Rattle.tables.proofs.Agreement.{agreed}
 

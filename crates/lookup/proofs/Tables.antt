@@ -4,7 +4,7 @@ use mathlib.Core.Path.{_≡_, refl, sym, ap, ap₂, _∙_}
 use mathlib.Core.Bool.{Bool, true, false, cond}
 use mathlib.Core.List.{List, [], _∷_, map}
 use mathlib.Core.Option.{Option, none, some}
-use Prim.Native.Nat.{ℕ, zero, suc, _+_, _*_, _-_, _≤_, _<_, suc-le-suc}
+use Prim.Native.Nat.{ℕ, zero, suc, _+_, _*_, _-_, _≤_, _<_}
 use native.Mathlib.Omega.{arith}
 use lib.Dec.{eqb}
 use lib.ListN.{length, getD, drop, List·getD-map}
@@ -19,11 +19,11 @@ use Rattle.model.specs.Lookup.{lastKind, ascends, placeFrom, place, tablesAgree
 use Rattle.model.specs.declared.AnalysisKind.{AnalysisKind}
 use Rattle.model.specs.declared.AnalysisKind.the-variants.{Constant}
 use Rattle.model.specs.declared.SlotFact.the-variants.{Cell}
-use Rattle.finality.proofs.Invariant.{none-some}
 use Rattle.finality.proofs.Cells.{Sized, length-present, present-at, length-cells, cells-part}
 use Rattle.lookup.specs.Run.{trackedFact, runFact, runReached}
 use Rattle.lookup.proofs.Named.{Named, AllNamed}
 use Rattle.lookup.proofs.Answers.{place-within}
+use Rattle.model.proofs.Facts.{row-below}
 
 -- the fact at a place is the slot's
 fact-at : (i : ℕ) (slots : List ℕ) (row : Row) (slot j : ℕ) → length row ≡ length slots → placeFrom i slots slot ≡ some (i + j)
@@ -47,11 +47,6 @@ unfolding kind
 named-at last [] j k = omega arith
 named-at last (f ∷ fs) zero k = k .0
 named-at last (f ∷ fs) (suc j) k = named-at last fs j (k .1)
-
-row-below : (rows : List (Option Row)) (p : ℕ) (r : Row) → rowAt rows p ≡ some r → p < length rows
-row-below [] p r e = absurd (none-some r e)
-row-below (o ∷ os) zero r e = omega arith
-row-below (o ∷ os) (suc p) r e = suc-le-suc (row-below os p r e)
 
 module _ (slots : List ℕ) (rows : List (Option Row)) (order : ascends slots ≡ true) (sized : Sized (length slots) rows) where
   agree : tablesAgree slots (presentBytes rows) (cells kind (length slots) rows) (cells value (length slots) rows) ≡ true

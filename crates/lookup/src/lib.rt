@@ -9,7 +9,7 @@ use cells::present_at;
 use model::AnalysisKind;
 use model::Reachability;
 use model::SlotFact;
-use tables::find;
+use search::find;
 use tables::tables_agree;
 
 mod shown;
@@ -40,7 +40,7 @@ pub fn fact_for_slot(
     if !tables_agree(slots, present, kinds, values) {
         return SlotFact::Damaged;
     }
-    let at = find(slots, slot);
+    let at = find(slots, slot as usize);
     let last = last_kind(which);
     let s = slots.len();
     if named(last, s, present, kinds, at, pc) {
@@ -139,7 +139,7 @@ pub fn fixed_fact(
     if !tables_agree(slots, present, kinds, values) {
         return SlotFact::Damaged;
     }
-    let at = find(slots, slot);
+    let at = find(slots, slot as usize);
     let s = slots.len();
     if all_named(s, present, kinds, at) {
         return shown::fixed_at(s, present, kinds, values, at);

@@ -1,5 +1,6 @@
 -- Laws about the definitions, for whoever proves with them
 pub mod Equality
+pub mod Tests
 pub mod Facts
 pub mod Metered
 pub mod Loops

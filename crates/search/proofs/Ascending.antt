@@ -1,7 +1,7 @@
 -- Strictly ascending slots: a search that halves, and the fact of a slot that it finds.
 -- Assumes nothing.
 use mathlib.Core.Path.{_≡_, refl, sym}
-use mathlib.Core.Bool.{Bool, true, false, cond, _&&_}
+use mathlib.Core.Bool.{Bool, true, false, cond}
 use mathlib.Core.List.{List, [], _∷_}
 use mathlib.Core.Logic.{_⊎_, inl, inr}
 use Prim.Native.Nat.{ℕ, zero, suc, _+_, _-_, _*_, _/_, _<_, _≤_}
@@ -15,14 +15,7 @@ use Rattle.model.specs.Fact.{unknown, Row}
 use Rattle.model.specs.Lookup.{ascends}
 use Rattle.model.specs.Transfer.{factFor}
 use Rattle.search.specs.Rows.{Bound}
-
-and-first : (a b : Bool) → (a && b) ≡ true → a ≡ true
-and-first true b h = refl
-and-first false b h = h
-
-and-second : (a b : Bool) → (a && b) ≡ true → b ≡ true
-and-second true b h = h
-and-second false b h = cc
+use Rattle.model.proofs.Tests.{both-left, both-right}
 
 -- each is above all before it
 pub ascends-lt : (xs : List ℕ) → ascends xs ≡ true → (i j : ℕ) → i < j → j < length xs → getD xs i 0 < getD xs j 0
@@ -30,10 +23,10 @@ unfolding ascends
 ascends-lt [] h i j l m = absurd (not-suc-le-zero m)
 ascends-lt (x ∷ []) h i j l m = omega arith
 ascends-lt (x ∷ y ∷ rest) h i zero l m = absurd (not-suc-le-zero l)
-ascends-lt (x ∷ y ∷ rest) h zero (suc zero) l m = ltb-true x y (and-first _ _ h)
+ascends-lt (x ∷ y ∷ rest) h zero (suc zero) l m = ltb-true x y (both-left _ _ h)
 ascends-lt (x ∷ y ∷ rest) h zero (suc (suc j)) l m =
-    omega (arith, ltb-true x y (and-first _ _ h), ascends-lt (y ∷ rest) (and-second (ltb x y) _ h) zero (suc j) (omega arith) (le-of-suc-le-suc m))
-ascends-lt (x ∷ y ∷ rest) h (suc i) (suc j) l m = ascends-lt (y ∷ rest) (and-second (ltb x y) _ h) i j (le-of-suc-le-suc l) (le-of-suc-le-suc m)
+    omega (arith, ltb-true x y (both-left _ _ h), ascends-lt (y ∷ rest) (both-right (ltb x y) _ h) zero (suc j) (omega arith) (le-of-suc-le-suc m))
+ascends-lt (x ∷ y ∷ rest) h (suc i) (suc j) l m = ascends-lt (y ∷ rest) (both-right (ltb x y) _ h) i j (le-of-suc-le-suc l) (le-of-suc-le-suc m)
 
 -- ---- a search that halves
 

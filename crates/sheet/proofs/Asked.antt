@@ -13,7 +13,7 @@ use Rattle.model.specs.Sheet.{limits, withinLimits, sheetLength, sumsMatch, kin
 use Rattle.model.specs.Sheet.{codeCount, rangeCount, layoutCount, slotKindCount, firstRange, rangesOf, layoutStart, layoutLength}
 use Rattle.sheet.specs.Measured.{Measured, Accepted}
 use Rattle.sheet.specs.declared.Sizes.{Sizes}
-use Rattle.sheet.proofs.Both.{both-left, both-right}
+use Rattle.model.proofs.Tests.{both-left, both-right}
 use Rattle.sheet.proofs.Counted.{counted}
 use Rattle.sheet.proofs.Adding.{sum-part}
 

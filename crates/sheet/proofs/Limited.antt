@@ -14,7 +14,7 @@ use Rattle.model.specs.Sheet.{codeCount, rangeCount, constantCount, paramCount,
 use Rattle.sheet.specs.Sizes.{sizesOf}
 use Rattle.sheet.specs.Measured.{Measured}
 use Rattle.sheet.specs.declared.Sizes.{Sizes}
-use Rattle.sheet.proofs.Both.{both-left, both-right}
+use Rattle.model.proofs.Tests.{both-left, both-right}
 
 -- every size is at most its limit
 pub limit-at : (sheet : List ℕ) (j : ℕ) (ls : List ℕ) → withinLimits sheet j ls ≡ true → (i : ℕ) → i < length ls → size sheet (j + i) ≤ getD ls i 0

@@ -22,6 +22,7 @@ use Rattle.model.specs.declared.AnalysisKind.{AnalysisKind}
 use Rattle.model.specs.declared.AnalysisKind.the-variants.{Constant, IndexCheck, Container}
 use Rattle.finality.proofs.Lawful.{demand, unknown-length}
 use Rattle.stages.specs.Parts.{entering, behindRoom}
+use Rattle.model.proofs.Tests.{or-true}
 
 module _ (which : AnalysisKind) (sheet : List ℕ) (enough : ℕ → Bool) (lengthFact : ℕ → Fact) (budget : VerifierResources) where
   pub closure-refused : (refusal : Refusal) (left : VerifierResources) → trackedSlots which sheet budget ≡ stop refusal left → stage which sheet enough lengthFact budget ≡ stop refusal left
@@ -83,10 +84,6 @@ module _ (which : AnalysisKind) (sheet slots : List ℕ) (lengthFact : ℕ → F
       empty : (codeCount sheet ≡ 0) ⊎ (length slots ≡ 0) → eqb (codeCount sheet) 0 || eqb (length slots) 0 ≡ true
       empty (inl e) = rw e
       empty (inr e) = rw e (or-true (eqb (codeCount sheet) 0))
-        where
-          or-true : (b : Bool) → b || true ≡ true
-          or-true true = refl
-          or-true false = refl
 
       go : (w : AnalysisKind) → (codeCount sheet ≡ 0) ⊎ (length slots ≡ 0) → firstRow w sheet slots budget ≡ ok (unknownRow slots) budget
       go Constant k = unfold firstRow give in refl

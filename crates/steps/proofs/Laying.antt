@@ -19,10 +19,10 @@ use Rattle.model.specs.declared.InstructionSuccessors.{InstructionSuccessors}
 use Rattle.finality.proofs.Joins.{length-joinRow}
 use Rattle.finality.proofs.Cells.{length-present, stacked-push, present-at, present-set, cells-part, cells-set}
 use Rattle.finality.proofs.Invariant.{stored}
-use Rattle.finality.proofs.Memory.{facts-back}
 use Rattle.join.specs.Rows.{Encoded, JoinedRow}
 use Rattle.sheet.specs.declared.Sizes.{Sizes}
 use Rattle.steps.specs.Laid.{Sized, RowsLaid, RowLaid, Visiting, Visit, StateLaid, successorAt, Offering, Offer}
+use Rattle.model.proofs.Facts.{facts-back}
 
 -- the row of q ends within the table
 pub row-end : {n q : ℕ} (s : ℕ) → q < n → q * s + s ≤ n * s

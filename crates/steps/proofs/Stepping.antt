@@ -18,7 +18,6 @@ use Rattle.model.specs.Analyses.{analysis}
 use Rattle.model.specs.declared.AnalysisKind.{AnalysisKind}
 use Rattle.model.specs.declared.AnalysisKind.the-variants.{Constant, IndexCheck, Container}
 use Rattle.finality.proofs.Lawful.{lawful}
-use Rattle.finality.proofs.Memory.{facts-back}
 use Rattle.memory.specs.Front.{Holds}
 use Rattle.sheet.specs.Measured.{Accepted}
 use Rattle.sheet.specs.declared.Sizes.{Sizes}
@@ -27,6 +26,7 @@ use Rattle.search.specs.Rows.{Lies, Tracked}
 use Rattle.steps.specs.Laid.{RowsLaid, RowLaid, Following, Follow}
 use Rattle.steps.specs.Stepped.{ranAnalysis, Stepping, Step, Copied}
 use Rattle.steps.proofs.Laying.{row-end, mid-row, rows-are}
+use Rattle.model.proofs.Facts.{facts-back}
 
 -- the length's fact of one instruction is all that its transfer reads
 one-fact : (which : AnalysisKind) (sheet slots lengthKinds lengthValues : List ℕ) (p : ℕ) (x : Row)

@@ -10,7 +10,7 @@ use lib.Dec.{eqb}
 use lib.ListN.{length}
 use borrow.Author.Tests.{eqb-true, eqb-false, eq-eqb, ne-eqb}
 use Rattle.model.specs.Lookup.{ascends, tablesAgree}
-use Rattle.tables.proofs.Ascending.{and-first, and-second}
+use Rattle.model.proofs.Tests.{both-left, both-right}
 
 -- ---- whether len is n × s
 
@@ -55,8 +55,8 @@ module _ (slots present kinds values : List ℕ) where
   pub agreed : tablesAgree slots present kinds values ≡ true → Agreed
   unfolding tablesAgree
   agreed h =
-      let both = and-first (ascends slots && eqb (length kinds) (length present * length slots)) _ h in record {
-        ordered = and-first (ascends slots) _ both;
-        kinds-length = eqb-true _ _ (and-second (ascends slots) _ both);
-        values-length = eqb-true _ _ (and-second (ascends slots && eqb (length kinds) (length present * length slots)) _ h);
+      let both = both-left (ascends slots && eqb (length kinds) (length present * length slots)) _ h in record {
+        ordered = both-left (ascends slots) _ both;
+        kinds-length = eqb-true _ _ (both-right (ascends slots) _ both);
+        values-length = eqb-true _ _ (both-right (ascends slots && eqb (length kinds) (length present * length slots)) _ h);
       }

@@ -2,7 +2,7 @@
 -- Assumes nothing.
 use mathlib.Core.Path.{_≡_, refl, ap, _∙_}
 use mathlib.Core.Logic.{_≢_}
-use mathlib.Core.Bool.{Bool, true, false, _&&_}
+use mathlib.Core.Bool.{Bool, true, false}
 use mathlib.Core.List.{List}
 use Prim.Native.Nat.{ℕ, _+_, _*_, _≤_, _<_}
 use native.Mathlib.Omega.{arith}
@@ -27,10 +27,7 @@ use Rattle.rows.specs.Slots.{names, lastRange, Names}
 use Rattle.rows.specs.declared.Written.{Written}
 use Rattle.rows.specs.declared.Written.the-variants.{Span, Ranges}
 use Rattle.transfer.specs.Analysis.{slotWritten}
-
-and-true : (t : Bool) → (t && true) ≡ t
-and-true true = refl
-and-true false = refl
+use Rattle.model.proofs.Tests.{and-true}
 
 -- 65,536 slots from a on are all from a up
 from-up : (slot a : ℕ) → slot < 65536 → inRange slot a 65536 ≡ leb a slot

@@ -3,7 +3,7 @@
 use mathlib.Core.Path.{_≡_, refl, sym, ap, ap₂, _∙_}
 use mathlib.Core.List.{List, [], _∷_, _++_, append-nil, List·Memᴰ as Member, List·Memᴰ·head as head, List·Memᴰ·tail as tail}
 use mathlib.Core.Option.{Option, none, some}
-use Prim.Native.Nat.{ℕ, zero, suc, _+_, _*_, _-_, _≤_, _<_, suc-le-suc}
+use Prim.Native.Nat.{ℕ, zero, suc, _+_, _*_, _-_, _≤_, _<_}
 use native.Mathlib.Nat.{zero-mul}
 use native.Mathlib.Omega.{arith}
 use lib.ListN.{length, getD, set, replicate, length-replicate, replicate-append-replicate}
@@ -21,13 +21,9 @@ use Rattle.finality.proofs.Fuel.{run-is}
 use Rattle.steps.specs.Laid.{RowsLaid, StateLaid}
 use Rattle.steps.proofs.Offers.{visits-count, visits-left}
 use Rattle.worklist.specs.Turn.{Running}
+use Rattle.model.proofs.Facts.{row-below}
 
 -- ---- lists
-
-present-below : (rows : List (Option Row)) (p : ℕ) (r : Row) → rowAt rows p ≡ some r → p < length rows
-present-below [] p r e = absurd (none-some r e)
-present-below (o ∷ os) zero r e = omega arith
-present-below (o ∷ os) (suc p) r e = suc-le-suc (present-below os p r e)
 
 -- the entry added last
 top-of : (room : ℕ) (l list : List ℕ) (top : ℕ) → list ≡ stacked room l → top ≡ length l → 0 < top
@@ -43,14 +39,14 @@ empty (x ∷ l) h = absurd (omega arith)
 
 -- ---- tables without rows
 
-no-cells : (f : Fact → ℕ) (s m : ℕ) → cells f s (replicate m none) ≡ replicate (m * s) 0
+pub no-cells : (f : Fact → ℕ) (s m : ℕ) → cells f s (replicate m none) ≡ replicate (m * s) 0
 unfolding cells rowCells
 no-cells f s zero = rw (zero-mul s)
 no-cells f s (suc m) =
     let z : s + m * s ≡ suc m * s = omega arith in
     ap (λ (l : List ℕ). replicate s 0 ++ l) (no-cells f s m) ∙ replicate-append-replicate {A = ℕ} s (m * s) 0 ∙ ap (λ (k : ℕ). replicate k 0) z
 
-no-present : (m : ℕ) → presentBytes (replicate m none) ≡ replicate m 0
+pub no-present : (m : ℕ) → presentBytes (replicate m none) ≡ replicate m 0
 unfolding presentBytes presentByte
 no-present zero = refl
 no-present (suc m) = ap (λ (l : List ℕ). 0 ∷ l) (no-present m)
@@ -102,7 +98,7 @@ module _ (a : Analysis) (law : Lawful a) where
       pub entry-below : 0 < top → getD list (top - 1) 0 < n
       entry-below h =
           let x : Present (r .st .rows) (getD list (top - 1) 0) = entry-present h in
-          let y : getD list (top - 1) 0 < length (r .st .rows) = present-below (r .st .rows) (getD list (top - 1) 0) (x .0) (x .1) in
+          let y : getD list (top - 1) 0 < length (r .st .rows) = row-below (r .st .rows) (getD list (top - 1) 0) (x .0) (x .1) in
           omega (arith, good (r .st) (r .visited) .size)
 
       -- a refused charge ends the run

@@ -5,7 +5,7 @@ use Prim.Native.Nat.{_-_, _≤_}
 use lib.ListN.{length}
 use borrow.Author.Tests.{not-true, not-false}
 use Rattle.cells.proofs.Rows.{rows-none, rows-more, rows-refused}
-use Rattle.tables.specs.Place.{placed}
+use Rattle.search.specs.Place.{placed}
 use Rattle.cells.specs.Inside.{rowsNamed}
 use native.Mathlib.Omega.{arith}
 use denote.Ref.{now}

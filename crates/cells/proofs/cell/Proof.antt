@@ -1,6 +1,6 @@
 -- `cells::cell` meets its contract. Assumes nothing.
 use Rattle.cells.proofs.Rows.{cell-inside, no-row, no-slot, the-cell}
-use Rattle.tables.specs.Place.{placed}
+use Rattle.search.specs.Place.{placed}
 use borrow.Author.Needs.{needs}
 use native.Mathlib.Omega.{arith}
 use denote.Ref.{now}

@@ -8,9 +8,9 @@ use borrow.Author.Needs.{needs}
 use lib.ListN.{length, replicate}
 use Rattle.model.specs.Closure.{seeded}
 use Rattle.finality.proofs.Marks.{free}
-use Rattle.finality.proofs.Lengths.{zeros-length}
+use Rattle.finality.proofs.Lengths.{zeros-length, zeros-same}
 use Rattle.marks.proofs.Marking.{some-lain, goes-long}
-use Rattle.closure.proofs.Expanding.{Expanding, blank-lies, lies-room, expanding-begun, expanding-standing, expanding-less, expanding-on, expanding-refused, expanding-done, expanding-empty, refused-end, done-end, zeros-same}
+use Rattle.closure.proofs.Expanding.{Expanding, blank-lies, lies-room, expanding-begun, expanding-standing, expanding-less, expanding-on, expanding-refused, expanding-done, expanding-empty, refused-end, done-end}
 use Rattle.closure.proofs.expand.expand.Statement.{statement}
 use Rattle.closure.proofs.expand.expand.Tie as tie
 

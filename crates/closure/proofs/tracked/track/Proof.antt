@@ -4,11 +4,11 @@ use mathlib.Core.Path.{_∙_}
 use native.Mathlib.Omega.{arith}
 use Rattle.sheet.proofs.Counted.{counted}
 use Rattle.sheet.proofs.Limited.{limited}
-use Rattle.closure.proofs.Expanding.{zeros-same}
 use Rattle.closure.proofs.Tracking.{scratch-refused, refused-closed, loop-clear, done-closed}
 use borrow.Author.Needs.{needs}
 use Rattle.closure.proofs.tracked.track.Statement.{statement}
 use Rattle.closure.proofs.tracked.track.Tie as tie
+use Rattle.finality.proofs.Lengths.{zeros-same}
 
 charge-scratch-requires : tie.Need-charge-scratch-requires
 charge-scratch-requires c κs = limited (c .before .before .before .before .pre .0) .local-slots

@@ -1,2 +1,0 @@
--- What a place stands for.
-pub mod Place
