@@ -1,6 +1,5 @@
 // The defined run, from its first row to its end, with what is cleared behind it. One loop for the three analyses.
 mod ending;
-mod turns;
 mod whole;
 
 pub use whole::propagate;

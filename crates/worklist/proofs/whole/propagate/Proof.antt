@@ -8,7 +8,7 @@ use Rattle.worklist.proofs.whole.propagate.Tie as tie
 use Rattle.worklist.proofs.whole.propagate.Reads as reads
 use Rattle.worklist.proofs.whole.propagate.Lts as lts
 use Rattle.worklist.proofs.ending.finish.Reads as finish-reads
-use Rattle.worklist.proofs.turns.run_list.Reads as run-list-reads
+use Rattle.worklist.proofs.whole.run_list.Reads as run-list-reads
 use Rattle.steps.proofs.offer.Reads as offer-reads
 
 offer-requires : tie.Need-offer-requires

@@ -9,10 +9,10 @@ use mir.Val.{Fits}
 use Rattle.model.specs.Sheet.{codeCount}
 use Rattle.worklist.specs.Turn.{firstOf, Turn, Ran}
 use Rattle.worklist.proofs.Loop.{stepping, stepped, ends-refused, ends-empty}
-use Rattle.worklist.proofs.turns.run_list.Statement.{statement}
-use Rattle.worklist.proofs.turns.run_list.Tie as tie
-use Rattle.worklist.proofs.turns.run_list.Reads as reads
-use Rattle.worklist.proofs.turns.run_list.Lts as lts
+use Rattle.worklist.proofs.whole.run_list.Statement.{statement}
+use Rattle.worklist.proofs.whole.run_list.Tie as tie
+use Rattle.worklist.proofs.whole.run_list.Reads as reads
+use Rattle.worklist.proofs.whole.run_list.Lts as lts
 use Rattle.steps.proofs.step.Reads as step-reads
 
 -- an entry of 16 bits fits in 64
