@@ -5,46 +5,46 @@ use Rattle.replay.proofs.call.replay_call.Statement.{statement}
 use Rattle.replay.proofs.call.replay_call.Tie as tie
 
 sheet-of-requires : tie.Need-sheet-of-requires
-sheet-of-requires c κs = search needs
+sheet-of-requires c κs = tt
 
 analyze-requires : tie.Need-analyze-requires
-analyze-requires c κs = search needs
+analyze-requires c κs = tt
 
 expected-requires : tie.Need-expected-requires
-expected-requires c κs = search needs
+expected-requires c κs = tt
 
 table-at-requires : tie.Need-table-at-requires
-table-at-requires c κs = search needs
+table-at-requires c κs = tt
 
 end-of-requires : tie.Need-end-of-requires
-end-of-requires c κs = search needs
+end-of-requires c κs = tt
 
 table-at-requires-2 : tie.Need-table-at-requires-2
-table-at-requires-2 c κs = search needs
+table-at-requires-2 c κs = tt
 
 end-of-requires-2 : tie.Need-end-of-requires-2
-end-of-requires-2 c κs = search needs
+end-of-requires-2 c κs = tt
 
 table-at-requires-3 : tie.Need-table-at-requires-3
-table-at-requires-3 c κs = search needs
+table-at-requires-3 c κs = tt
 
 numbers-of-requires : tie.Need-numbers-of-requires
-numbers-of-requires c κs = search needs
+numbers-of-requires c κs = tt
 
 wrong-numbers-requires : tie.Need-wrong-numbers-requires
-wrong-numbers-requires c κs = search needs
+wrong-numbers-requires c κs = tt
 
 wrong-table-requires : tie.Need-wrong-table-requires
-wrong-table-requires c κs = search needs
+wrong-table-requires c κs = tt
 
 wrong-table-requires-2 : tie.Need-wrong-table-requires-2
-wrong-table-requires-2 c κs = search needs
+wrong-table-requires-2 c κs = tt
 
 wrong-table-requires-3 : tie.Need-wrong-table-requires-3
-wrong-table-requires-3 c κs = search needs
+wrong-table-requires-3 c κs = tt
 
 wrong-scratch-requires : tie.Need-wrong-scratch-requires
-wrong-scratch-requires c κs = search needs
+wrong-scratch-requires c κs = tt
 
 same-length : tie.Need-same-length
 same-length c =
@@ -190,7 +190,7 @@ same-length-17 c =
     .1 .1 .1 .1 .1 .1 .0
 
 returns : tie.Need-returns
-returns c = search needs
+returns c = tt
 
 pub replay-call-spec : {M : Type 1} → statement M
 replay-call-spec =
