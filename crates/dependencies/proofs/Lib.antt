@@ -2,3 +2,5 @@
 pub mod Rows
 -- What the instructions' charges are
 pub mod Charging
+-- The edges to one slot
+pub mod Into

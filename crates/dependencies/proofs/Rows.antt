@@ -11,10 +11,10 @@ use lib.Dec.{ltb, eqb}
 use lib.ListN.{length, length-append}
 use borrow.Author.Tests.{lt-ltb, le-ltb, ltb-true, ltb-false, ne-eqb}
 use Rattle.model.specs.Count.{collect}
-use Rattle.model.specs.Dependencies.{copyWork, edgeIf, edge, instructionEdges, edgesBy, depends, Depends, copyEdge, copyNEdges, foldEdges, iterEdge, noEdges, dependencyBit}
+use Rattle.model.specs.Dependencies.{copyDependencies, copyWork, edgeIf, edge, instructionEdges, edgesBy, depends, Depends, copyEdge, copyNEdges, foldEdges, iterEdge, noEdges, dependencyBit}
 use Rattle.model.specs.Opcode.{select}
 use Rattle.model.specs.declared.Instruction.{Instruction}
-use Rattle.dependencies.specs.Rows.{row, rowIf, rows}
+use Rattle.dependencies.specs.Rows.{row, rowIf, rows, dependenceBy, dependence}
 use Rattle.dependencies.specs.declared.Dependence.{Dependence}
 use Rattle.model.proofs.Tests.{and-false}
 
@@ -24,37 +24,18 @@ row-one : (l a b kinds : ℕ) → row l a b kinds 1 ≡ edge l a b kinds
 unfolding row collect
 row-one l a b kinds = rw (add-zero a, add-zero b)
 
-abbrev by : ℕ → Bool → ℕ → Dependence
-by span fold kinds = record { span = span; fold = fold; kinds = kinds }
+by-rows : (l : ℕ) (inst : Instruction) (rule : Depends) → rows (dependenceBy rule inst) l inst ≡ edgesBy rule l inst
+unfolding dependenceBy edgesBy rows rowIf row collect dependencyBit
+by-rows l inst copyEdge = append-nil (row l (inst .a) (inst .b) copyDependencies 1) ∙ row-one l (inst .a) (inst .b) copyDependencies
+by-rows l inst copyNEdges = append-nil (row l (inst .a) (inst .b) copyDependencies (inst .c))
+by-rows l inst foldEdges = rw (row-one l (inst .a) (inst .b) 1, row-one l (inst .a) (inst .c) 1)
+by-rows l inst iterEdge = append-nil (row l (inst .a) (inst .b) 4 1) ∙ row-one l (inst .a) (inst .b) 4
+by-rows l inst noEdges = refl
 
-module _ (l : ℕ) (inst : Instruction) where
-  one-row : (span kinds : ℕ) → rows (by span false kinds) l inst ≡ row l (inst .a) (inst .b) kinds span
-  unfolding rows rowIf
-  one-row span kinds = append-nil (row l (inst .a) (inst .b) kinds span)
-
-  rule : (r : Dependence) {op : Depends} → depends (inst .op) ≡ op → rows r l inst ≡ edgesBy op l inst → rows r l inst ≡ instructionEdges l inst
-  unfolding instructionEdges
-  rule r e h = h ∙ ap (λ (d : Depends). edgesBy d l inst) (sym e)
-
-  pub copy-rows : depends (inst .op) ≡ copyEdge → rows (by 1 false 7) l inst ≡ instructionEdges l inst
-  unfolding edgesBy
-  copy-rows e = rule (by 1 false 7) e (one-row 1 7 ∙ row-one l (inst .a) (inst .b) 7)
-
-  pub copy-n-rows : depends (inst .op) ≡ copyNEdges → rows (by (inst .c) false 7) l inst ≡ instructionEdges l inst
-  unfolding edgesBy row
-  copy-n-rows e = rule (by (inst .c) false 7) e (one-row (inst .c) 7)
-
-  pub fold-rows : depends (inst .op) ≡ foldEdges → rows (by 1 true 1) l inst ≡ instructionEdges l inst
-  unfolding edgesBy rows rowIf dependencyBit
-  fold-rows e = rule (by 1 true 1) e (rw (row-one l (inst .a) (inst .b) 1, row-one l (inst .a) (inst .c) 1))
-
-  pub iter-rows : depends (inst .op) ≡ iterEdge → rows (by 1 false 4) l inst ≡ instructionEdges l inst
-  unfolding edgesBy dependencyBit
-  iter-rows e = rule (by 1 false 4) e (one-row 1 4 ∙ row-one l (inst .a) (inst .b) 4)
-
-  pub no-rows : depends (inst .op) ≡ noEdges → rows (by 0 false 0) l inst ≡ instructionEdges l inst
-  unfolding edgesBy row collect
-  no-rows e = rule (by 0 false 0) e (one-row 0 0)
+-- the edges of an instruction are the rows of its dependence
+pub rows-are : {r : Dependence} (inst : Instruction) → r ≡ dependence inst → (l : ℕ) → rows r l inst ≡ instructionEdges l inst
+unfolding instructionEdges
+rows-are inst e l = ap (λ (d : Dependence). rows d l inst) e ∙ by-rows l inst (depends (inst .op))
 
 -- ---- how many edges a row has
 

@@ -3,7 +3,7 @@ ghost use mathlib.Core.Path.{_≡_};
 ghost use Prim.Native.Nat.{ℕ, _+_, _-_, _≤_, min};
 ghost use lib.ListN.{length};
 ghost use Rattle.model.specs.Dependencies.{depends, copyWork, instructionEdges};
-ghost use Rattle.dependencies.specs.Rows.{rows};
+ghost use Rattle.dependencies.specs.Rows.{dependence};
 use crate::Dependence;
 use model::Instruction;
 
@@ -29,7 +29,7 @@ const COPY_DEPENDENCIES: u8 = CONSTANT | INDEX_CHECK | CONTAINER;
 
 // How an instruction's slots depend on others. "CopyN's count is c."
 pub fn dependence_of(inst: Instruction) -> Dependence
-    ensures { λ r. ⌜ ((l : ℕ) → rows r l inst ≡ instructionEdges l inst) ⌝ }
+    ensures { λ r. ⌜ r ≡ dependence inst ⌝ }
 {
     let op = inst.op;
     if op == COPY {

@@ -18,7 +18,7 @@ use Rattle.model.proofs.Facts.{facts-back, row-below}
 -- ---- tables with zeros behind them
 
 -- past the end a table of bytes reads 0 all the same
-zeros-read : (k p : ℕ) → _≡_ {A = ℕ} (getD (replicate k 0) p 0) 0
+pub zeros-read : (k p : ℕ) → _≡_ {A = ℕ} (getD (replicate k 0) p 0) 0
 zeros-read zero p = refl
 zeros-read (suc k) zero = refl
 zeros-read (suc k) (suc p) = zeros-read k p

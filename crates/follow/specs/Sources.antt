@@ -3,12 +3,10 @@
 use mathlib.Core.Bool.{Bool, true, false}
 use mathlib.Core.List.{List, [], _∷_}
 use mathlib.Core.Path.{_≡_}
-use mathlib.Core.Logic.{_⊎_}
-use Prim.Native.Nat.{ℕ, _+_, _≤_, _<_}
+use Prim.Native.Nat.{ℕ, _+_}
 use lib.ListN.{length}
-use Rattle.model.specs.Dependencies.{FactDependency, instructionEdges, edgesInto}
+use Rattle.model.specs.Dependencies.{FactDependency}
 use Rattle.model.specs.Closure.{follow}
-use Rattle.model.specs.declared.Instruction.{Instruction}
 use Rattle.marks.specs.Marks.{Goes, slotsIn}
 use Rattle.follow.specs.declared.SlotEdges.{SlotEdges}
 use Rattle.follow.specs.declared.Followed.{Followed}
@@ -26,10 +24,6 @@ edgesIn d e = edgesFrom d (e .kinds) (slotsIn (e .sources))
 unfoldable pub onlyIf : Bool → ℕ → List ℕ
 onlyIf true slot = slot ∷ []
 onlyIf false slot = []
-
--- no edge leads to a slot below a or from a + count up
-pub record Reach (inst : Instruction) (count : ℕ) : Type 0 where
-  pub none : (l d : ℕ) → (d < inst .a) ⊎ (inst .a + count ≤ d) → edgesInto d (instructionEdges l inst) ≡ []
 
 -- The edges are counted, all of them, and those of the bit are followed.
 pub record Follows (bit : ℕ) (es : List FactDependency) (marks stack : List ℕ) (from : Followed) (marks′ stack′ : List ℕ) (to : Followed) : Type 0 where

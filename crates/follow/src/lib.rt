@@ -1,6 +1,6 @@
-// The edges to one slot, counted and followed in one pass over the code.
+// The edges to one slot, counted and followed in one pass over the instructions that may have them.
 ghost use mathlib.Core.Path.{_≡_};
-ghost use Prim.Native.Nat.{_+_, _<_, _≤_};
+ghost use Prim.Native.Nat.{_+_, _*_, _<_, _≤_};
 ghost use lib.ListN.{length};
 ghost use Rattle.model.specs.Dependencies.{dependencyBit, instructionEdges, edgesInto, edgesTo};
 ghost use Rattle.sheet.specs.Measured.{Measured};
@@ -8,13 +8,15 @@ ghost use mathlib.Core.Bool.{_&&_};
 ghost use mathlib.Core.List.{_++_};
 ghost use lib.Dec.{ltb};
 ghost use Rattle.marks.specs.Marks.{Lain, Holding};
-ghost use Rattle.follow.specs.Sources.{edgesIn, onlyIf, Reach, Follows};
+ghost use Rattle.model.specs.Count.{collect};
+ghost use Rattle.graph.specs.Chain.{edgesAt, Chained};
+ghost use Rattle.follow.specs.Sources.{edgesIn, onlyIf, Follows};
 use code::instruction_at;
 use dependencies::CONSTANT;
 use dependencies::CONTAINER;
-use dependencies::COPY_N;
 use dependencies::INDEX_CHECK;
 use dependencies::dependence_of;
+use graph::bucket_of;
 use marks::Candidates;
 use marks::mark_slots;
 use marks::none;
@@ -88,17 +90,6 @@ fn edges_to(inst: Instruction, l: usize, d: usize) -> SlotEdges
     SlotEdges { sources, kinds }
 }
 
-// From how many slots, beginning with a, an instruction's edges lead on at most.
-fn reach(inst: Instruction) -> usize
-    ensures { λ r. ⌜ (r ≤ 65535) × Reach inst r ⌝ }
-{
-    let op = inst.op;
-    if op == COPY_N {
-        return inst.c as usize;
-    }
-    1
-}
-
 // One instruction's edges to d: every one is counted, and those of this analysis's bit are followed.
 fn follow_instruction(
     inst: Instruction,
@@ -112,11 +103,6 @@ fn follow_instruction(
     requires { ⌜ (d < l) × (l ≤ 65535) × (from .count < 4294967296) × Lain (now marks) (now stack) (from .top) ⌝ }
     ensures { λ r. ⌜ (r .count ≤ from .count + 255) × Follows bit (edgesInto d (instructionEdges l inst)) (now (marks .entry)) (now (stack .entry)) from (now (marks .exit)) (now (stack .exit)) r ⌝ }
 {
-    let a = inst.a as usize;
-    // most instructions are passed over by this test alone: below a the difference wraps and is larger than any reach
-    if reach(inst) <= std::num::wrapping_sub_usize(d, a) {
-        return from;
-    }
     let edges = edges_to(inst, l, d);
     let sources = edges.sources;
     let count = from.count + sources.len as u64;
@@ -128,27 +114,58 @@ fn follow_instruction(
     Followed { top: next, count }
 }
 
-// All edges to d, in code order: how many there are, and the stack's new top.
-pub fn follow_edges(
-    which: AnalysisKind,
+// The edges to d of the instructions below end, in code order.
+fn follow_code(
+    bit: u8,
     sheet: &[u8],
     sizes: Sizes,
+    end: usize,
     d: usize,
     marks: &mut [u8],
     stack: &mut [u16],
     top: usize,
 ) -> Followed
-    requires { ⌜ Measured (now sheet) sizes × (d < sizes .«local_slots») × Lain (now marks) (now stack) top ⌝ }
-    ensures { λ r. ⌜ Follows (dependencyBit which) (edgesTo (now (sheet .entry)) d) (now (marks .entry)) (now (stack .entry)) (record { top = top; count = 0 }) (now (marks .exit)) (now (stack .exit)) r ⌝ }
+    requires { ⌜ Measured (now sheet) sizes × (end ≤ sizes .«code_count») × (d < sizes .«local_slots») × Lain (now marks) (now stack) top ⌝ }
+    ensures { λ r. ⌜ (r .count ≤ end * 255) × Follows bit (collect (edgesAt (now (sheet .entry)) d) end) (now (marks .entry)) (now (stack .entry)) (record { top = top; count = 0 }) (now (marks .exit)) (now (stack .exit)) r ⌝ }
 {
-    let n = sizes.code_count;
     let l = sizes.local_slots;
-    let bit = dependency_bit(which);
     let mut followed = Followed { top, count: 0 };
     let mut pc = 0;
-    while pc < n {
+    while pc < end {
         followed = follow_instruction(instruction_at(sheet, pc), bit, l, d, marks, stack, followed);
         pc += 1;
+    }
+    followed
+}
+
+// All edges to d, in code order: how many there are, and the stack's new top. The instructions from `from` on that have any are in the
+// chain of d's bucket; those below it are read one after the other.
+pub fn follow_edges(
+    which: AnalysisKind,
+    sheet: &[u8],
+    sizes: Sizes,
+    from: usize,
+    heads: &[u16],
+    nexts: &[u16],
+    pcs: &[u16],
+    d: usize,
+    marks: &mut [u8],
+    stack: &mut [u16],
+    top: usize,
+) -> Followed
+    requires { ⌜ Measured (now sheet) sizes × Chained (now sheet) (now heads) (now nexts) (now pcs) from × (d < sizes .«local_slots») × Lain (now marks) (now stack) top ⌝ }
+    ensures { λ r. ⌜ Follows (dependencyBit which) (edgesTo (now (sheet .entry)) d) (now (marks .entry)) (now (stack .entry)) (record { top = top; count = 0 }) (now (marks .exit)) (now (stack .exit)) r ⌝ }
+{
+    let l = sizes.local_slots;
+    let bit = dependency_bit(which);
+    let k = bucket_of(l, d);
+    let mut followed = follow_code(bit, sheet, sizes, from, d, marks, stack, top);
+    let mut link = heads[k] as usize;
+    while 0 < link {
+        let i = link - 1;
+        let pc = pcs[i] as usize;
+        followed = follow_instruction(instruction_at(sheet, pc), bit, l, d, marks, stack, followed);
+        link = nexts[i] as usize;
     }
     followed
 }

@@ -1,70 +1,107 @@
 -- `follow::follow_edges` meets its contract: the edges of the instructions passed were counted and followed.
 -- Assumes nothing.
-use Prim.Native.Nat.{_*_, _-_, _≤_}
+use mathlib.Core.Path.{_∙_}
+use Prim.Native.Nat.{_-_}
 use native.Mathlib.Omega.{arith}
 use borrow.Author.Needs.{needs}
-use Rattle.model.specs.Count.{collect}
 use Rattle.sheet.proofs.Counted.{counted}
 use Rattle.sheet.proofs.Limited.{limited}
 use Rattle.sheet.proofs.Inside.{code-inside}
-use Rattle.follow.specs.Sources.{Follows}
 use Rattle.marks.proofs.Marking.{lain-on, goes-wide, goes-long}
-use Rattle.follow.proofs.Following.{edgesAt, follows-none, follows-more, follows-all}
+use Rattle.follow.proofs.Following.{Walked, walked-none, walked-next, walked-more, walked-done, chain-of}
 use Rattle.follow.proofs.follow_edges.Statement.{statement}
 use Rattle.follow.proofs.follow_edges.Tie as tie
 
 abbrev Inv-loop : tie.InvT-loop
-Inv-loop sheet d marks₀ stack₀ top n l bit followed₀ pc₀ marks stack followed pc =
-    (pc ≤ n) × (followed .count ≤ pc * 255) × Follows bit (collect (edgesAt sheet d) pc) marks₀ stack₀ followed₀ marks stack followed
+Inv-loop sheet from heads nexts pcs d marks₀ stack₀ top l bit k followed₀ link₀ marks stack followed link = Walked sheet d nexts pcs from bit marks₀ stack₀ followed₀ marks stack followed link
 
 abbrev μ-loop : tie.MeasureT-loop
-μ-loop sheet d marks₀ stack₀ top n l bit followed₀ pc₀ marks stack followed pc = n - pc
+μ-loop sheet from heads nexts pcs d marks₀ stack₀ top l bit k followed₀ link₀ marks stack followed link = link
 
 dependency-bit-requires : tie.Need-dependency-bit-requires Inv-loop μ-loop
 dependency-bit-requires c κs = search needs
 
+bucket-of-requires : tie.Need-bucket-of-requires Inv-loop μ-loop
+bucket-of-requires c κs = (c .before .before .before .before .before .before .before .pre .2, limited (c .before .before .before .before .before .before .before .pre .0) .local-slots)
+
+follow-code-requires : tie.Need-follow-code-requires Inv-loop μ-loop
+follow-code-requires c κs =
+    let asked = c .before .before .before .before .before .before .before .before .before .before .pre in
+    (asked .0, omega (arith, asked .1 .inside, counted (asked .0 .are) .code-count), asked .2, asked .3)
+
+mul-link : tie.Need-mul-link Inv-loop μ-loop
+mul-link c = omega (arith, c .before .before .before .before .before .before .before .bucket-of .ensures .1)
+
+shared-slice-read-link : tie.Need-shared-slice-read-link Inv-loop μ-loop
+shared-slice-read-link c = omega (arith, c .before .before .before .before .before .before .before .before .before .before .before .before .before .before .before .before .pre .1 .wide, c .before .before .before .before .before .before .before .before .bucket-of .ensures .1)
+
+cast-link : tie.Need-cast-link Inv-loop μ-loop
+cast-link c = omega (arith, c .shared-slice-known5 .given (c .before .before .before .before .before .before .before .before .bucket-of .result))
+
 loop-holds : tie.Need-loop-holds Inv-loop μ-loop
-loop-holds c = (omega arith, omega arith, follows-none _ _ _ _ _ _)
+loop-holds c =
+    let asked = c .before .before .before .before .before .before .before .before .before .before .before .before .before .before .before .before .pre in
+    walked-none _ _ (asked .1 .inside) (chain-of (asked .1) _ (counted (asked .0 .are) .local-slots) (asked .2) (c .before .before .before .before .before .before .before .before .bucket-of .ensures .0))
+    (c .before .before .before .before .before .follow-code .ensures .0)
+
+sub-i : tie.Need-sub-i Inv-loop μ-loop
+sub-i c = omega (arith, c .loop-test .taken)
+
+mul-pc : tie.Need-mul-pc Inv-loop μ-loop
+mul-pc c = omega (arith, c .before .before .before .before .before .before .before .before .before .before .before .before .before .before .before .before .before .before .pre .1 .few, walked-next _ _ (c .before .loop .inv) (c .loop-test .taken) .in-nexts, c .before .before .before .before .before .before .before .before .before .before .before .before .before .before .before .before .before .before .pre .1 .paired)
+
+shared-slice-read-pc : tie.Need-shared-slice-read-pc Inv-loop μ-loop
+shared-slice-read-pc c = omega (arith, walked-next _ _ (c .before .before .loop .inv) (c .before .loop-test .taken) .in-nexts, c .before .before .before .before .before .before .before .before .before .before .before .before .before .before .before .before .before .before .before .pre .1 .paired)
+
+cast-pc : tie.Need-cast-pc Inv-loop μ-loop
+cast-pc c = omega (arith, c .shared-slice-known6 .given (c .before .before .loop .link - 1))
 
 instruction-at-requires : tie.Need-instruction-at-requires Inv-loop μ-loop
-instruction-at-requires c κs = code-inside (c .before .before .before .before .before .before .pre .0) _ (c .loop-test .taken)
+instruction-at-requires c κs =
+    code-inside (c .before .before .before .before .before .before .before .before .before .before .before .before .before .before .before .before .before .before .before .pre .0) _
+    (omega (arith, walked-next _ _ (c .before .before .loop .inv) (c .before .loop-test .taken) .code, counted (c .before .before .before .before .before .before .before .before .before .before .before .before .before .before .before .before .before .before .before .pre .0 .are) .code-count))
 
 follow-instruction-requires : tie.Need-follow-instruction-requires Inv-loop μ-loop
 follow-instruction-requires c κs =
-    let in-loop = c .before .before .before in
-    let at-loop = in-loop .before in
-    let start = at-loop .before .before .before .before .before in
-    let l = limited (start .pre .0) in (start .pre .1, l .local-slots, omega (arith, at-loop .loop .inv .0, at-loop .loop .inv .1, in-loop .loop-test .taken, l .code-count), lain-on (at-loop .loop .inv .2 .goes) (start .pre .2))
+    let asked = c .before .before .before .before .before .before .before .before .before .before .before .before .before .before .before .before .before .before .before .before .before .before .pre in
+    let w = c .before .before .before .before .before .loop .inv in
+    let l = limited (asked .0) in (
+      asked .2,
+      l .local-slots,
+      omega (arith, w .small, w .inside, l .code-count, counted (asked .0 .are) .code-count),
+      lain-on (w .follows .goes) (lain-on (c .before .before .before .before .before .before .before .before .before .before .before .follow-code .ensures .1 .goes) (asked .3)),
+    )
 
-add-pc : tie.Need-add-pc Inv-loop μ-loop
-add-pc c = omega (arith, c .before .before .before .before .before .before .before .before .loop-test .taken)
+mul-link-2 : tie.Need-mul-link-2 Inv-loop μ-loop
+mul-link-2 c = omega (arith, c .before .before .before .before .before .before .before .before .before .before .before .before .before .before .before .before .before .before .before .before .before .before .before .before .before .before .before .pre .1 .few, walked-next _ _ (c .before .before .before .before .before .before .before .before .before .before .loop .inv) (c .before .before .before .before .before .before .before .before .before .loop-test .taken) .in-nexts)
+
+shared-slice-read-link-2 : tie.Need-shared-slice-read-link-2 Inv-loop μ-loop
+shared-slice-read-link-2 c = omega (arith, walked-next _ _ (c .before .before .before .before .before .before .before .before .before .before .before .loop .inv) (c .before .before .before .before .before .before .before .before .before .before .loop-test .taken) .in-nexts)
+
+cast-link-2 : tie.Need-cast-link-2 Inv-loop μ-loop
+cast-link-2 c = omega (arith, c .shared-slice-known7 .given (c .before .before .before .before .before .before .before .before .before .before .before .loop .link - 1))
 
 loop-less : tie.Need-loop-less Inv-loop μ-loop
-loop-less c = omega (arith, c .before .before .before .before .before .before .before .before .loop-test .taken)
+loop-less c = walked-next _ _ (c .before .before .before .before .before .before .before .before .before .before .before .loop .inv) (c .before .before .before .before .before .before .before .before .before .before .loop-test .taken) .back
 
 loop-again : tie.Need-loop-again Inv-loop μ-loop
 loop-again c =
-    let follow-instruction = c .before .before .before .before in
-    let instruction-at = follow-instruction .before .before .before in
-    let in-loop = instruction-at .before in
-    let at-loop = in-loop .before in
-    let start = at-loop .before .before .before .before .before in (
-      omega (arith, in-loop .loop-test .taken),
-      omega (arith, at-loop .loop .inv .1, follow-instruction .follow-instruction .ensures .0),
-      follows-more _ _ _ _ _ _ (at-loop .loop .inv .2) (instruction-at .instruction-at .ensures) (counted (start .pre .0 .are) .local-slots)
-          (follow-instruction .follow-instruction .ensures .1),
-    )
+    let followed = c .before .before .before .before .before .follow-instruction .ensures in
+    walked-more _ _ (c .before .before .before .before .before .before .before .before .before .before .before .loop .inv) (c .before .before .before .before .before .before .before .before .before .before .loop-test .taken) (c .before .before .before .before .before .before .before .before .instruction-at .ensures) (counted (c .before .before .before .before .before .before .before .before .before .before .before .before .before .before .before .before .before .before .before .before .before .before .before .before .before .before .before .before .pre .0 .are) .local-slots)
+    (followed .0) (followed .1)
 
 same-length : tie.Need-same-length Inv-loop μ-loop
-same-length c = goes-wide (c .before .loop .inv .2 .goes) (c .before .before .before .before .before .before .pre .2)
+same-length c =
+    let code = c .before .before .before .before .before .before .before .follow-code .ensures .1 .goes in
+    goes-wide (c .before .loop .inv .follows .goes) (lain-on code (c .before .before .before .before .before .before .before .before .before .before .before .before .before .before .before .before .before .before .pre .3)) ∙ goes-wide code (c .before .before .before .before .before .before .before .before .before .before .before .before .before .before .before .before .before .before .pre .3)
 
 same-length-2 : tie.Need-same-length-2 Inv-loop μ-loop
-same-length-2 c = goes-long (c .before .loop .inv .2 .goes) (c .before .before .before .before .before .before .pre .2)
+same-length-2 c =
+    let code = c .before .before .before .before .before .before .before .follow-code .ensures .1 .goes in
+    goes-long (c .before .loop .inv .follows .goes) (lain-on code (c .before .before .before .before .before .before .before .before .before .before .before .before .before .before .before .before .before .before .pre .3)) ∙ goes-long code (c .before .before .before .before .before .before .before .before .before .before .before .before .before .before .before .before .before .before .pre .3)
 
 returns : tie.Need-returns Inv-loop μ-loop
-returns c =
-    follows-all _ _ _ _ _ _ (c .before .before .dependency-bit .ensures) (c .before .loop .inv .0) (c .loop-test .left)
-    (counted (c .before .before .before .before .before .before .pre .0 .are) .code-count) (c .before .loop .inv .2)
+returns c = walked-done _ _ (c .before .loop .inv) (c .loop-test .left) (c .before .before .before .before .before .before .before .before .before .before .before .dependency-bit .ensures) (c .before .before .before .before .before .before .before .follow-code .ensures .1)
 
 pub follow-edges-spec : {M : Type 1} → statement M
 follow-edges-spec =
@@ -73,10 +110,21 @@ follow-edges-spec =
     Inv-loop
     μ-loop
     dependency-bit-requires
+    bucket-of-requires
+    follow-code-requires
+    mul-link
+    shared-slice-read-link
+    cast-link
     loop-holds
+    sub-i
+    mul-pc
+    shared-slice-read-pc
+    cast-pc
     instruction-at-requires
     follow-instruction-requires
-    add-pc
+    mul-link-2
+    shared-slice-read-link-2
+    cast-link-2
     loop-less
     loop-again
     same-length

@@ -1,151 +1,81 @@
--- `closure::expand::expand` meets its contract: from the state that lies in marks and stack the closure goes on with what is left.
+-- `closure::expand::expand` meets its contract: the chains are those of the graph.
 -- Assumes nothing.
-use mathlib.Core.Path.{ap, _∙_}
-use Rattle.model.specs.Call.{zeros}
-use Prim.Native.Nat.{ℕ, _+_}
+use mathlib.Core.Path.{refl}
 use native.Mathlib.Omega.{arith}
 use borrow.Author.Needs.{needs}
-use lib.ListN.{length, replicate}
-use Rattle.model.specs.Closure.{seeded}
-use Rattle.finality.proofs.Marks.{free}
-use Rattle.finality.proofs.Lengths.{zeros-length, zeros-same}
-use Rattle.marks.proofs.Marking.{some-lain, goes-long}
-use Rattle.closure.proofs.Expanding.{Expanding, blank-lies, lies-room, expanding-begun, expanding-standing, expanding-less, expanding-on, expanding-refused, expanding-done, expanding-empty, refused-end, done-end}
+use Rattle.sheet.proofs.Counted.{counted}
+use Rattle.sheet.proofs.Limited.{limited}
+use Rattle.graph.proofs.Chains.{graph-chained}
 use Rattle.closure.proofs.expand.expand.Statement.{statement}
 use Rattle.closure.proofs.expand.expand.Tie as tie
 
-abbrev Inv-loop : tie.InvT-loop
-Inv-loop which sheet sizes marks₀ stack₀ top₀ left₀ marks stack top left = Expanding which sheet left₀ (length stack₀) marks stack top left
+expand-short-requires : tie.Need-expand-short-requires
+expand-short-requires c κs = search needs
 
-abbrev μ-loop : tie.MeasureT-loop
-μ-loop which sheet sizes marks₀ stack₀ top₀ left₀ marks stack top left = free marks + top
+same-length : tie.Need-same-length
+same-length c = search needs
 
-seed-slots-requires : tie.Need-seed-slots-requires Inv-loop μ-loop
-seed-slots-requires c κs =
-    let start = c .before .before .before .before .before in
-    (start .pre .0, some-lain (blank-lies (start .pre .0) (start .pre .1)))
-
-loop-holds : tie.Need-loop-holds Inv-loop μ-loop
-unfolding seeded
-loop-holds c =
-    let seed-slots = c .before .before .before .before in
-    let start = seed-slots .before .before .before .before .before .before in
-    expanding-begun _ _ (lies-room (seed-slots .seed-slots .ensures .on (blank-lies (start .pre .0) (start .pre .1))))
-
-take-slot-requires : tie.Need-take-slot-requires Inv-loop μ-loop
-take-slot-requires c κs =
-    let in-loop = c .before .before in
-    let at-loop = in-loop .before in
-    let start = at-loop .before .before .before .before .before .before .before .before .before .before .before in
-    (start .pre .0, in-loop .loop-test .taken, expanding-standing _ _ (at-loop .loop .inv))
-
-charge-work-requires : tie.Need-charge-work-requires Inv-loop μ-loop
-charge-work-requires c κs = search needs
-
-enum-known-charge : tie.Need-enum-known-charge Inv-loop μ-loop
-enum-known-charge c = search needs
-
-enum-told : tie.Need-enum-told Inv-loop μ-loop
-enum-told c = search needs
-
-clear-u8-requires : tie.Need-clear-u8-requires Inv-loop μ-loop
-clear-u8-requires c κs = search needs
-
-clear-u16-requires : tie.Need-clear-u16-requires Inv-loop μ-loop
-clear-u16-requires c κs = search needs
-
-metered-requires : tie.Need-metered-requires Inv-loop μ-loop
-metered-requires c κs = search needs
-
-same-length : tie.Need-same-length Inv-loop μ-loop
-same-length c =
-    let clear-u8 = c .before .before .before .before .before .before .before in
-    let take-slot = clear-u8 .before .before .before .before .before .before .before .before .before in
-    let at-loop = take-slot .before .before .before .before in
-    let start = at-loop .before .before .before .before .before .before .before .before .before .before .before in
-    ap length (clear-u8 .clear-u8 .ensures) ∙ zeros-length _ ∙ omega
-    (arith, take-slot .take-slot .ensures .lies (at-loop .loop .inv .lies) .wide, start .pre .1 .wide)
-
-same-length-2 : tie.Need-same-length-2 Inv-loop μ-loop
+same-length-2 : tie.Need-same-length-2
 same-length-2 c = search needs
 
-returns : tie.Need-returns Inv-loop μ-loop
-returns c =
-    let clear-u16 = c .before .before .before in
-    let clear-u8 = clear-u16 .before .before .before .before in
-    let enum-told = clear-u8 .before .before in
-    let charge-work = enum-told .before .before in
-    let take-slot = charge-work .before .before .before .before .before in
-    let in-loop = take-slot .before .before .before in
-    let at-loop = in-loop .before in
-    let seed-slots = at-loop .before .before .before .before .before in
-    let start = seed-slots .before .before .before .before .before .before in
-    let after = take-slot .take-slot .ensures .lies (at-loop .loop .inv .lies) in
-    let is-refused = enum-told .enum-told .given .1 in
-    let stopped = expanding-refused _ _ (at-loop .loop .inv) (in-loop .loop-test .taken) (take-slot .take-slot .ensures) (charge-work .charge-work .ensures) is-refused in (
-      refused-end (c .metered .result) _ _ stopped (c .metered .ensures 0) is-refused (clear-u8 .clear-u8 .ensures)
-          (omega (arith, after .wide, start .pre .1 .wide)),
-      clear-u16 .clear-u16 .ensures
-          ∙ zeros-same _ _ (after .long ∙ goes-long (seed-slots .seed-slots .ensures) (some-lain (blank-lies (start .pre .0) (start .pre .1)))),
+returns : tie.Need-returns
+returns c = search needs
+
+slice-aggregate-build : tie.Need-slice-aggregate-build
+slice-aggregate-build c = search needs
+
+slice-aggregate-build-2 : tie.Need-slice-aggregate-build-2
+slice-aggregate-build-2 c = search needs
+
+slice-aggregate-build-3 : tie.Need-slice-aggregate-build-3
+slice-aggregate-build-3 c = search needs
+
+build-requires : tie.Need-build-requires
+build-requires c κs = (c .before .before .before .before .before .before .before .before .pre .0, refl, refl, omega arith)
+
+slice-aggregate-expand-along : tie.Need-slice-aggregate-expand-along
+slice-aggregate-expand-along c = search needs
+
+slice-aggregate-expand-along-2 : tie.Need-slice-aggregate-expand-along-2
+slice-aggregate-expand-along-2 c = search needs
+
+slice-aggregate-expand-along-3 : tie.Need-slice-aggregate-expand-along-3
+slice-aggregate-expand-along-3 c = search needs
+
+expand-along-requires : tie.Need-expand-along-requires
+expand-along-requires c κs =
+    let asked = c .before .before .before .before .before .before .before .before .before .before .before .before .before .before .before .before .before .pre in (
+      asked .0,
+      asked .1,
+      graph-chained (c .before .before .before .before .before .before .before .before .before .before .before .before .before .before .before .before .before .args .sheet .now) (omega (arith, counted (asked .0 .are) .local-slots, limited (asked .0) .local-slots)) _ _ _ refl refl (omega arith)
+          (c .before .before .before .before .before .before .before .before .build .ensures),
     )
 
-loop-less : tie.Need-loop-less Inv-loop μ-loop
-loop-less c =
-    let take-slot = c .before .before .before .before .before .before .before .before in
-    let in-loop = take-slot .before .before .before in
-    let at-loop = in-loop .before in
-    expanding-less _ _ (at-loop .loop .inv) (in-loop .loop-test .taken) (take-slot .take-slot .ensures)
+same-length-3 : tie.Need-same-length-3
+same-length-3 c = search needs
 
-loop-again : tie.Need-loop-again Inv-loop μ-loop
-loop-again c =
-    let charge-work = c .before .before .before in
-    let take-slot = charge-work .before .before .before .before .before in
-    let in-loop = take-slot .before .before .before in
-    let at-loop = in-loop .before in
-    expanding-on _ _ (at-loop .loop .inv) (in-loop .loop-test .taken) (take-slot .take-slot .ensures) (charge-work .charge-work .ensures)
-    (c .before .charge .given .1)
+same-length-4 : tie.Need-same-length-4
+same-length-4 c = search needs
 
-same-length-3 : tie.Need-same-length-3 Inv-loop μ-loop
-same-length-3 c =
-    omega (arith, c .before .loop .inv .lies .wide, c .before .before .before .before .before .before .before .before .before .before .before .before .pre .1 .wide)
-
-same-length-4 : tie.Need-same-length-4 Inv-loop μ-loop
-same-length-4 c =
-    let seed-slots = c .before .before .before .before .before .before in
-    let start = seed-slots .before .before .before .before .before .before in
-    c .before .loop .inv .lies .long ∙ goes-long (seed-slots .seed-slots .ensures) (some-lain (blank-lies (start .pre .0) (start .pre .1)))
-
-returns-2 : tie.Need-returns-2 Inv-loop μ-loop
-unfolding zeros
-returns-2 c =
-    let seed-slots = c .before .before .before .before .before .before in
-    let start = seed-slots .before .before .before .before .before .before in
-    let ended = c .before .loop .inv in (
-      done-end _ (expanding-done _ _ ended (c .loop-test .left)) (ended .lies .marks-are),
-      expanding-empty _ _ ended (c .loop-test .left)
-          ∙ ap (λ (k : ℕ). replicate k 0) (goes-long (seed-slots .seed-slots .ensures) (some-lain (blank-lies (start .pre .0) (start .pre .1)))),
-    )
+returns-2 : tie.Need-returns-2
+returns-2 c = search needs
 
 pub expand-spec : {M : Type 1} → statement M
 expand-spec =
     tie.close
     (tie.spec
-    Inv-loop
-    μ-loop
-    seed-slots-requires
-    loop-holds
-    take-slot-requires
-    charge-work-requires
-    enum-known-charge
-    enum-told
-    clear-u8-requires
-    clear-u16-requires
-    metered-requires
+    expand-short-requires
     same-length
     same-length-2
     returns
-    loop-less
-    loop-again
+    slice-aggregate-build
+    slice-aggregate-build-2
+    slice-aggregate-build-3
+    build-requires
+    slice-aggregate-expand-along
+    slice-aggregate-expand-along-2
+    slice-aggregate-expand-along-3
+    expand-along-requires
     same-length-3
     same-length-4
     returns-2)

@@ -1,0 +1,108 @@
+-- `graph::links::build` meets its contract.
+-- Assumes nothing.
+use mathlib.Core.Path.{_∙_}
+use native.Mathlib.Omega.{arith}
+use borrow.Author.Needs.{needs}
+use Rattle.sheet.proofs.Counted.{counted}
+use Rattle.sheet.proofs.Limited.{limited}
+use Rattle.sheet.proofs.Inside.{code-inside}
+use Rattle.graph.proofs.Ordering.{buckets-at}
+use Rattle.graph.proofs.Linking.{Building, building-none, building-more, building-full, building-done}
+use Rattle.graph.proofs.links.build.Statement.{statement}
+use Rattle.graph.proofs.links.build.Tie as tie
+
+abbrev Inv-loop : tie.InvT-loop
+Inv-loop sheet sizes heads₀ nexts₀ pcs₀ used₀ pc₀ heads nexts pcs used pc = Building sheet (sizes .«code_count») heads₀ nexts₀ pcs₀ heads nexts pcs used pc
+
+abbrev μ-loop : tie.MeasureT-loop
+μ-loop sheet sizes heads₀ nexts₀ pcs₀ used₀ pc₀ heads nexts pcs used pc = pc
+
+clear-u16-requires : tie.Need-clear-u16-requires Inv-loop μ-loop
+clear-u16-requires c κs = search needs
+
+loop-holds : tie.Need-loop-holds Inv-loop μ-loop
+loop-holds c = building-none _ _ _ _ _
+
+sub-at : tie.Need-sub-at Inv-loop μ-loop
+sub-at c = omega arith
+
+instruction-at-requires : tie.Need-instruction-at-requires Inv-loop μ-loop
+instruction-at-requires c κs = code-inside (c .before .before .before .before .before .before .before .before .before .before .pre .0) _ (omega (arith, c .before .loop .inv .inside))
+
+buckets-of-requires : tie.Need-buckets-of-requires Inv-loop μ-loop
+buckets-of-requires c κs = limited (c .before .before .before .before .before .before .before .before .before .before .before .pre .0) .local-slots
+
+sub-if1 : tie.Need-sub-if1 Inv-loop μ-loop
+sub-if1 c = omega arith
+
+same-length : tie.Need-same-length Inv-loop μ-loop
+same-length c = c .before .before .before .before .before .loop .inv .heads-long ∙ c .before .before .before .before .before .before .before .heads .given
+
+same-length-2 : tie.Need-same-length-2 Inv-loop μ-loop
+same-length-2 c = c .before .before .before .before .before .loop .inv .nexts-long
+
+same-length-3 : tie.Need-same-length-3 Inv-loop μ-loop
+same-length-3 c = c .before .before .before .before .before .loop .inv .pcs-long
+
+returns : tie.Need-returns Inv-loop μ-loop
+returns c =
+    building-full _ (c .before .before .before .before .before .loop .inv) (c .before .before .before .before .loop-test .taken)
+    (buckets-at _ _ (c .before .before .buckets-of .ensures .0) (c .before .before .before .instruction-at .ensures) (counted (c .before .before .before .before .before .before .before .before .before .before .before .before .before .before .pre .0 .are) .local-slots))
+    _ (c .if1 .taken) (counted (c .before .before .before .before .before .before .before .before .before .before .before .before .before .before .pre .0 .are) .code-count) (c .before .before .before .before .before .before .before .before .clear-u16 .ensures)
+
+link-each-requires : tie.Need-link-each-requires Inv-loop μ-loop
+link-each-requires c κs =
+    let b = c .before .before .before .before .before .before .before .before .loop .inv in
+    let asked = c .before .before .before .before .before .before .before .before .before .before .before .before .before .before .before .before .before .pre in (
+      omega (arith, c .before .before .before .before .before .buckets-of .ensures .1, b .heads-long, c .before .before .before .before .before .before .before .before .before .before .heads .given, asked .1),
+      omega (arith, b .room, c .before .before .before .if1 .left),
+      omega (arith, b .pcs-long, b .nexts-long, asked .2),
+      omega (arith, b .nexts-long, asked .3),
+      omega (arith, b .inside, limited (asked .0) .code-count),
+    )
+
+loop-less : tie.Need-loop-less Inv-loop μ-loop
+loop-less c = omega arith
+
+loop-again : tie.Need-loop-again Inv-loop μ-loop
+loop-again c =
+    building-more _ (c .before .before .before .before .before .before .before .before .before .before .before .before .before .before .before .loop .inv) (c .before .before .before .before .before .before .before .before .before .before .before .before .before .before .loop-test .taken)
+    (buckets-at _ _ (c .before .before .before .before .before .before .before .before .before .before .before .before .buckets-of .ensures .0) (c .before .before .before .before .before .before .before .before .before .before .before .before .before .instruction-at .ensures) (counted (c .before .before .before .before .before .before .before .before .before .before .before .before .before .before .before .before .before .before .before .before .before .before .before .before .pre .0 .are) .local-slots))
+    (c .before .before .before .before .before .before .before .before .before .before .if1 .left) (c .before .before .before .before .before .heads2 .given) (c .before .before .before .nexts .given) (c .before .pcs .given) (c .before .before .before .before .before .before .link-each .ensures)
+
+same-length-4 : tie.Need-same-length-4 Inv-loop μ-loop
+same-length-4 c = c .before .loop .inv .heads-long ∙ c .before .before .before .heads .given
+
+same-length-5 : tie.Need-same-length-5 Inv-loop μ-loop
+same-length-5 c = c .before .loop .inv .nexts-long
+
+same-length-6 : tie.Need-same-length-6 Inv-loop μ-loop
+same-length-6 c = c .before .loop .inv .pcs-long
+
+returns-2 : tie.Need-returns-2 Inv-loop μ-loop
+returns-2 c =
+    building-done _ (c .before .loop .inv) _ (c .loop-test .left) (counted (c .before .before .before .before .before .before .before .before .before .before .pre .0 .are) .code-count) (c .before .before .before .before .clear-u16 .ensures)
+
+pub build-spec : {M : Type 1} → statement M
+build-spec =
+    tie.close
+    (tie.spec
+    Inv-loop
+    μ-loop
+    clear-u16-requires
+    loop-holds
+    sub-at
+    instruction-at-requires
+    buckets-of-requires
+    sub-if1
+    same-length
+    same-length-2
+    same-length-3
+    returns
+    link-each-requires
+    loop-less
+    loop-again
+    same-length-4
+    same-length-5
+    same-length-6
+    returns-2)

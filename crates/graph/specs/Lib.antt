@@ -1,0 +1,3 @@
+-- The edges found by their destination: what the tables of chains hold, and what a chain tells.
+pub mod Links
+pub mod Chain
