@@ -89,18 +89,6 @@ module _ {xs : List ℕ} {slot base size : ℕ} (b : Halved xs slot base size) (
 pub bound-none : (xs : List ℕ) (slot : ℕ) → length xs ≡ 0 → Bound xs slot 0
 bound-none xs slot e = record { within = omega arith; below = λ k m. omega arith; above = λ k m u. omega arith }
 
--- the last lies below the given slot, so all do
-pub bound-all : (xs : List ℕ) (slot : ℕ) → ascends xs ≡ true → 1 ≤ length xs → getD xs (length xs - 1) 0 < slot → Bound xs slot (length xs)
-bound-all xs slot h some l = record {
-  within = omega arith;
-  below = λ k m. let u : k ≤ length xs - 1 = omega arith in go k (eq-or-lt-of-le u);
-  above = λ k m u. omega arith;
-}
-  where
-    go : (k : ℕ) → (k ≡ length xs - 1) ⊎ (k < length xs - 1) → getD xs k 0 < slot
-    go k (inl q) = rw q l
-    go k (inr q) = omega (arith, ascends-lt xs h k (length xs - 1) q (omega arith))
-
 -- a product with 0 or 1 chooses the half
 pub times-le : (half : ℕ) (t : Bool) → half * boolByte t ≤ half
 times-le half true = omega arith

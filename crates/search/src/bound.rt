@@ -33,16 +33,11 @@ pub fn lower_bound(slots: &[u16], slot: usize) -> usize
     requires { ⌜ ascends (now slots) ≡ true ⌝ }
     ensures { λ r. ⌜ Bound (now (slots .entry)) slot r ⌝ }
 {
-    let len = slots.len();
-    if len == 0 {
+    if slots.len() == 0 {
         return 0;
     }
-    // most ranges that a call writes lie beyond what is tracked
-    if wide(slots[len - 1]) < slot {
-        return len;
-    }
     let mut base = 0;
-    let mut size = len;
+    let mut size = slots.len();
     while 1 < size {
         let half = size / 2;
         let mid = base + half;

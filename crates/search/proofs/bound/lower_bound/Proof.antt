@@ -2,21 +2,24 @@
 use Prim.Native.Nat.{_-_}
 use native.Mathlib.Omega.{arith}
 use borrow.Author.Needs.{needs}
-use Rattle.search.proofs.Ascending.{Halved, whole, halved, bound-above, bound-at, bound-none, bound-all}
+use Rattle.search.proofs.Ascending.{Halved, whole, halved, bound-above, bound-at, bound-none}
 use Rattle.search.proofs.bound.lower_bound.Statement.{statement}
 use Rattle.search.proofs.bound.lower_bound.Tie as tie
 
 abbrev Inv-loop : tie.InvT-loop
-Inv-loop slots slot len base₀ size₀ base size = Halved slots slot base size
+Inv-loop slots slot base₀ size₀ base size = Halved slots slot base size
 
 abbrev μ-loop : tie.MeasureT-loop
-μ-loop slots slot len base₀ size₀ base size = size
+μ-loop slots slot base₀ size₀ base size = size
 
 returns : tie.Need-returns Inv-loop μ-loop
 returns c = bound-none _ _ (c .if1 .taken)
 
-sub-wide : tie.Need-sub-wide Inv-loop μ-loop
-sub-wide c = omega arith
+loop-holds : tie.Need-loop-holds Inv-loop μ-loop
+loop-holds c = whole _ _ (omega arith)
+
+add-mid : tie.Need-add-mid Inv-loop μ-loop
+add-mid c = omega arith
 
 mul-wide : tie.Need-mul-wide Inv-loop μ-loop
 mul-wide c = omega arith
@@ -26,24 +29,6 @@ shared-slice-read-wide c = omega arith
 
 wide-requires : tie.Need-wide-requires Inv-loop μ-loop
 wide-requires c κs = search needs
-
-returns-2 : tie.Need-returns-2 Inv-loop μ-loop
-returns-2 c = bound-all _ _ (c .before .before .before .before .before .pre) (omega arith) (omega arith)
-
-loop-holds : tie.Need-loop-holds Inv-loop μ-loop
-loop-holds c = whole _ _ (omega arith)
-
-add-mid : tie.Need-add-mid Inv-loop μ-loop
-add-mid c = omega arith
-
-mul-wide-2 : tie.Need-mul-wide-2 Inv-loop μ-loop
-mul-wide-2 c = omega arith
-
-shared-slice-read-wide-2 : tie.Need-shared-slice-read-wide-2 Inv-loop μ-loop
-shared-slice-read-wide-2 c = omega arith
-
-wide-requires-2 : tie.Need-wide-requires-2 Inv-loop μ-loop
-wide-requires-2 c κs = search needs
 
 half-of-requires : tie.Need-half-of-requires Inv-loop μ-loop
 half-of-requires c κs = omega arith
@@ -55,25 +40,25 @@ loop-less : tie.Need-loop-less Inv-loop μ-loop
 loop-less c = omega arith
 
 loop-again : tie.Need-loop-again Inv-loop μ-loop
-loop-again c = halved (c .before .before .before .before .loop .inv) (c .before .before .before .before .before .before .before .before .before .before .pre) (c .before .before .before .loop-test .taken) (c .before .wide2 .ensures .0) (c .half-of .ensures)
+loop-again c = halved (c .before .before .before .before .loop .inv) (c .before .before .before .before .before .before .before .pre) (c .before .before .before .loop-test .taken) (c .before .wide .ensures .0) (c .half-of .ensures)
 
-mul-wide-3 : tie.Need-mul-wide-3 Inv-loop μ-loop
-mul-wide-3 c = omega arith
+mul-wide-2 : tie.Need-mul-wide-2 Inv-loop μ-loop
+mul-wide-2 c = omega arith
 
-shared-slice-read-wide-3 : tie.Need-shared-slice-read-wide-3 Inv-loop μ-loop
-shared-slice-read-wide-3 c = omega arith
+shared-slice-read-wide-2 : tie.Need-shared-slice-read-wide-2 Inv-loop μ-loop
+shared-slice-read-wide-2 c = omega arith
 
-wide-requires-3 : tie.Need-wide-requires-3 Inv-loop μ-loop
-wide-requires-3 c κs = search needs
+wide-requires-2 : tie.Need-wide-requires-2 Inv-loop μ-loop
+wide-requires-2 c κs = search needs
 
 add-result : tie.Need-add-result Inv-loop μ-loop
 add-result c = omega arith
 
-returns-3 : tie.Need-returns-3 Inv-loop μ-loop
-returns-3 c = bound-above (c .before .before .before .before .loop .inv) (c .before .before .before .before .before .before .before .before .before .before .pre) (omega arith) (omega arith)
+returns-2 : tie.Need-returns-2 Inv-loop μ-loop
+returns-2 c = bound-above (c .before .before .before .before .loop .inv) (c .before .before .before .before .before .before .before .pre) (omega arith) (omega arith)
 
-returns-4 : tie.Need-returns-4 Inv-loop μ-loop
-returns-4 c = bound-at (c .before .before .before .before .loop .inv) (c .before .before .before .before .before .before .before .before .before .before .pre) (omega arith) (omega arith)
+returns-3 : tie.Need-returns-3 Inv-loop μ-loop
+returns-3 c = bound-at (c .before .before .before .before .loop .inv) (c .before .before .before .before .before .before .before .pre) (omega arith) (omega arith)
 
 pub lower-bound-spec : {M : Type 1} → statement M
 lower-bound-spec =
@@ -82,23 +67,18 @@ lower-bound-spec =
     Inv-loop
     μ-loop
     returns
-    sub-wide
+    loop-holds
+    add-mid
     mul-wide
     shared-slice-read-wide
     wide-requires
-    returns-2
-    loop-holds
-    add-mid
-    mul-wide-2
-    shared-slice-read-wide-2
-    wide-requires-2
     half-of-requires
     sub-size
     loop-less
     loop-again
-    mul-wide-3
-    shared-slice-read-wide-3
-    wide-requires-3
+    mul-wide-2
+    shared-slice-read-wide-2
+    wide-requires-2
     add-result
-    returns-3
-    returns-4)
+    returns-2
+    returns-3)
