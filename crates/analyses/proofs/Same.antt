@@ -11,6 +11,7 @@ use Rattle.model.specs.Charges.{Spent, ok, stop, unfinished, Metered, continue,
 use Rattle.model.specs.Closure.{trackedSlots}
 use Rattle.model.specs.Fact.{Fact, Row}
 use Rattle.model.specs.Run.{RunEnd, run}
+use Rattle.model.specs.Transfer.{checkedFrom}
 use Rattle.model.specs.Analyses.{analysis, askRoom, chargeMatrix, firstRow, ranTo, propagate, stage}
 use Rattle.model.specs.declared.VerifierResources.{VerifierResources}
 use Rattle.model.specs.declared.AnalysisKind.{AnalysisKind}
@@ -58,6 +59,6 @@ module _ (sheet : List ℕ) (enough enough′ : ℕ → Bool) (room : (s : ℕ) 
       not-index e = let z : _≡_ {A = ℕ} 0 1 = cc in absurd (omega arith)
 
   -- the index analysis reads them at each IndexCheck
-  pub index-same : ((pc : ℕ) → pc < codeCount sheet → instruction sheet pc .op ≡ 121 → f pc ≡ g pc) → (budget : VerifierResources)
+  pub index-same : ((pc : ℕ) → pc < codeCount sheet → instruction sheet pc .op ≡ 121 → checkedFrom (f pc) ≡ checkedFrom (g pc)) → (budget : VerifierResources)
       → stage IndexCheck sheet enough f budget ≡ stage IndexCheck sheet enough′ g budget
   index-same h = stage-same IndexCheck sheet enough enough′ f g room (λ slots entry left. same-run IndexCheck sheet slots f g entry h left)

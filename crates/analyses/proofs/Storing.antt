@@ -10,6 +10,7 @@ use lib.ListN.{length, take}
 use Rattle.model.specs.Sheet.{codeCount, instruction}
 use Rattle.model.specs.Fact.{Row}
 use Rattle.model.specs.Analyses.{Analysed, lengthFacts}
+use Rattle.model.specs.Transfer.{checkedFrom}
 use mathlib.Core.Bool.{true, false≢true}
 use Rattle.model.specs.declared.Counts.{Counts}
 use Rattle.model.specs.declared.VerifierResources.{VerifierResources}
@@ -60,7 +61,7 @@ module _ {sheet : List ℕ} {a : Analysed} {given : Counts} {slots present kinds
       → ((rows : List (Option Row)) → Ended (take s slots) rows (take n present) (take (n * s) kinds) (take (n * s) values)
       → (lk′ ≡ lengthKinds sheet (take s slots) rows lk) × (lv′ ≡ lengthValues sheet (take s slots) rows lv))
       → ((constants : Analysed) → constants .slots ≡ take s slots → Ended (take s slots) (constants .rows) (take n present) (take (n * s) kinds) (take (n * s) values)
-      → (pc : ℕ) → pc < codeCount sheet → instruction sheet pc .op ≡ 121 → lengthTable lk′ lv′ pc ≡ lengthFacts sheet constants pc)
+      → (pc : ℕ) → pc < codeCount sheet → instruction sheet pc .op ≡ 121 → checkedFrom (lengthTable lk′ lv′ pc) ≡ checkedFrom (lengthFacts sheet constants pc))
       → Lengthened sheet a lk lv lk′ lv′
   lengthened {lk} {lv} stores reads = record {
     kinds-are = stores (a .rows) stored-ended .0 ∙ ap (λ (xs : List ℕ). lengthKinds sheet xs (a .rows) lk) slots-are;

@@ -10,6 +10,7 @@ use Rattle.model.specs.Sheet.{codeCount, instruction}
 use Rattle.model.specs.Charges.{Refusal, Spent, ok, stop, unfinished}
 use Rattle.model.specs.Fact.{Fact, unknown}
 use Rattle.model.specs.Analyses.{Analysed, lengthFacts, stage}
+use Rattle.model.specs.Transfer.{checkedFrom}
 use Rattle.model.specs.Call.{Table, roomFor, counts, tables, zeroTable, filledTable}
 use Rattle.model.specs.declared.VerifierResources.{VerifierResources}
 use Rattle.model.specs.declared.AnalysisKind.the-variants.{Constant, IndexCheck}
@@ -71,7 +72,7 @@ module _ (sheet : List ℕ) {sizes : Sizes} (accepted : Accepted sheet sizes) (b
       (e₁ : some (next a₁ c₁ w₁) ≡ nextOf b Constant (zeroTable C) w (stage Constant sheet (roomFor (codeCount sheet) C (w .rowKinds) (w .rowValues) (w .workList)) f₀))
       (read : (constant index container : Counts) (left : VerifierResources) → a₁ ≡ Analyzed constant index container left
       → (x : Analysed) → Stored sheet x constant (c₁ .slots) (c₁ .present) (c₁ .kinds) (c₁ .values)
-      → (pc : ℕ) → pc < codeCount sheet → instruction sheet pc .op ≡ 121 → f₁ pc ≡ lengthFacts sheet x pc)
+      → (pc : ℕ) → pc < codeCount sheet → instruction sheet pc .op ≡ 121 → checkedFrom (f₁ pc) ≡ checkedFrom (lengthFacts sheet x pc))
       (e₂ : some (next a₂ i₁ w₂) ≡ nextOf a₁ IndexCheck (zeroTable I) w₁ (stage IndexCheck sheet (roomFor (codeCount sheet) I (w₁ .rowKinds) (w₁ .rowValues) (w₁ .workList)) f₁)) where
     -- refused in the constant analysis or before
     after-constants : (refusal : Refusal) (left : VerifierResources) → values sheet constantsRoom indexRoom budget ≡ stop refusal left → a₁ ≡ refusedBy refusal left
@@ -87,7 +88,7 @@ module _ (sheet : List ℕ) {sizes : Sizes} (accepted : Accepted sheet sizes) (b
         c-zero : zeroTable c₁ ≡ zeroTable C
         c-zero = ap zeroTable c-is ∙ zero-same _ C (stage-lengths Constant sheet C (W .rowKinds) (W .rowValues) (W .workList) (λ pc. unknown) left x left₁ constants)
 
-        index-step : ((pc : ℕ) → pc < codeCount sheet → instruction sheet pc .op ≡ 121 → f₁ pc ≡ lengthFacts sheet x pc)
+        index-step : ((pc : ℕ) → pc < codeCount sheet → instruction sheet pc .op ≡ 121 → checkedFrom (f₁ pc) ≡ checkedFrom (lengthFacts sheet x pc))
             → Stepped IndexCheck (counts x) noCounts noCounts (stage IndexCheck sheet (roomFor (codeCount sheet) I (w₁ .rowKinds) (w₁ .rowValues) (w₁ .workList)) f₁ left₁) (zeroTable I) w₁ a₂ i₁ w₂
             → Goal a₂ c₁ i₁ w₂
         unfolding counted

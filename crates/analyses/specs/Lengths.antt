@@ -15,6 +15,7 @@ use Rattle.model.specs.Lookup.{ascends}
 use Rattle.model.specs.declared.Counts.{Counts}
 use Rattle.length_facts.specs.Lengths.{lengthKinds, lengthValues}
 use Rattle.model.specs.Tables.{lengthTable}
+use Rattle.model.specs.Transfer.{checkedFrom}
 
 -- the tables of an ended analysis in the first places of an output
 pub record Stored (sheet : List ℕ) (a : Analysed) (given : Counts) (slots present kinds values : List ℕ) : Type 0 where
@@ -32,8 +33,8 @@ pub record Stored (sheet : List ℕ) (a : Analysed) (given : Counts) (slots pres
   pub kinds-are : take (codeCount sheet * length (a .slots)) kinds ≡ cells kind (length (a .slots)) (a .rows)
   pub values-are : take (codeCount sheet * length (a .slots)) values ≡ cells value (length (a .slots)) (a .rows)
 
--- the length facts of its rows in the first n places, and at each IndexCheck the ended run's fact of b
+-- the length facts of its rows in the first n places, at each IndexCheck what it makes of the ended run's fact of b
 pub record Lengthened (sheet : List ℕ) (a : Analysed) (kinds values kinds′ values′ : List ℕ) : Type 0 where
   pub kinds-are : kinds′ ≡ lengthKinds sheet (a .slots) (a .rows) kinds
   pub values-are : values′ ≡ lengthValues sheet (a .slots) (a .rows) values
-  pub read : (pc : ℕ) → pc < codeCount sheet → instruction sheet pc .op ≡ 121 → lengthTable kinds′ values′ pc ≡ lengthFacts sheet a pc
+  pub read : (pc : ℕ) → pc < codeCount sheet → instruction sheet pc .op ≡ 121 → checkedFrom (lengthTable kinds′ values′ pc) ≡ checkedFrom (lengthFacts sheet a pc)

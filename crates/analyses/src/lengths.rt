@@ -24,7 +24,7 @@ pub fn store_lengths(
     kinds: &[u8],
     values: &[u64],
     length_kinds: &mut [u8],
-    length_values: &mut [u64],
+    length_values: &mut [u16],
 )
     requires { ⌜ Measured (now sheet) sizes × (sizes .«code_count» ≤ length (now «length_kinds»)) × (sizes .«code_count» ≤ length (now «length_values»)) ⌝ }
     requires { ⌜ ((constant index container : Counts) (left : VerifierResources) → before ≡ Analyzed constant index container left → (a : Analysed) × Stored (now sheet) a constant (now slots) (now present) (now kinds) (now values)) ⌝ }

@@ -25,7 +25,7 @@ pub fn analyze_next(
     firsts: &[u16],
     starts: &[u16],
     length_kinds: &[u8],
-    length_values: &[u64],
+    length_values: &[u16],
     slots: &mut [u16],
     present: &mut [u8],
     kinds: &mut [u8],

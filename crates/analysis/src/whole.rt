@@ -40,7 +40,7 @@ pub fn analyze_stage(
     firsts: &[u16],
     starts: &[u16],
     length_kinds: &[u8],
-    length_values: &[u64],
+    length_values: &[u16],
     resources: VerifierResources,
     slots: &mut [u16],
     present: &mut [u8],

@@ -24,7 +24,7 @@ pub fn run_stage(
     starts: &[u16],
     slots: &[u16],
     length_kinds: &[u8],
-    length_values: &[u64],
+    length_values: &[u16],
     resources: VerifierResources,
     present: &mut [u8],
     kinds: &mut [u8],

@@ -40,7 +40,7 @@ pub fn analyze_containers(
     let mut starts = [0u16; 1024];
     layout_starts(sheet, sizes, &mut starts);
     let length_kinds = [0u8; 4096];
-    let length_values = [0u64; 4096];
+    let length_values = [0u16; 4096];
     analyze_next(
         before,
         AnalysisKind::Container,

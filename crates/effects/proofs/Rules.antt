@@ -37,26 +37,6 @@ module _ (inst : Instruction) (slots : List ℕ) (row : Row) (slot : ℕ) where
   unfolding indexRule select indexFact
   no-index n3 n4 e = rw (ne-eqb (inst .op) 3 n3, ne-eqb (inst .op) 4 n4) (untargeted (eqb (inst .a) slot) e)
 
--- IndexCheck's fact by the kind of the length's cell
-pub checked-unknown : (k v : ℕ) → k ≡ 0 → unknown ≡ checkedFrom (factOf k v)
-unfolding factOf checkedFrom
-checked-unknown k v e = rw e
-
-pub checked-other : (k v : ℕ) → k ≢ 0 → k ≢ 2 → conflict ≡ checkedFrom (factOf k v)
-unfolding factOf checkedFrom
-checked-other zero v h l = absurd (h refl)
-checked-other (suc zero) v h l = refl
-checked-other (suc (suc zero)) v h l = absurd (l refl)
-checked-other (suc (suc (suc k))) v h l = refl
-
-pub checked-over : (k v : ℕ) → k ≡ 2 → 65535 < v → conflict ≡ checkedFrom (factOf k v)
-unfolding factOf checkedFrom
-checked-over k v e h = rw (e, lt-leb v 65535 h)
-
-pub checked-in : (k v : ℕ) → k ≡ 2 → v ≤ 65535 → known 0 v ≡ checkedFrom (factOf k v)
-unfolding factOf checkedFrom checked
-checked-in k v e h = rw (e, le-leb v 65535 h)
-
 -- ---- MapIterNext
 
 module _ (sheet : List ℕ) (pc : ℕ) (inst : Instruction) (is : inst ≡ instruction sheet pc) (slots : List ℕ) (row : Row) (slot : ℕ) where

@@ -2,11 +2,10 @@
 ghost use mathlib.Core.Path.{_≡_};
 ghost use Prim.Native.Nat.{ℕ};
 ghost use lib.Dec.{eqb};
-ghost use Rattle.model.specs.Tables.{factIn, cellOf, factsOf};
-ghost use Rattle.model.specs.Transfer.{checkedFrom, indexRule, indexFact};
+ghost use Rattle.model.specs.Tables.{cellOf, factsOf};
+ghost use Rattle.model.specs.Transfer.{indexRule, indexFact};
 ghost use Rattle.fact_cells.specs.Target.{targetCell};
 ghost use Rattle.search.specs.Rows.{Tracked};
-use fact_cells::conflict_cell;
 use fact_cells::unknown_cell;
 use model::FactCell;
 use model::Instruction;
@@ -15,25 +14,6 @@ use search::wide;
 
 // "Opcodes (decimal)"
 const COPY: u8 = 3;
-
-// IndexCheck's fact from the length's: 0 to 65,535 is Checked, any other number and Conflict are Conflict, Unknown is Unknown.
-pub fn checked_cell(length: FactCell) -> FactCell
-    ensures { λ r. ⌜ r ≡ cellOf (checkedFrom (factIn length)) ⌝ }
-{
-    if length.kind == 0 {
-        return unknown_cell();
-    }
-    if length.kind != 2 {
-        return conflict_cell();
-    }
-    if 65535 < length.value {
-        return conflict_cell();
-    }
-    FactCell {
-        kind: 2,
-        value: length.value,
-    }
-}
 
 // `index_check_fact_written_to_slot`: what a becomes, of an instruction that is no CopyN; any other slot that it writes becomes Unknown.
 pub fn index_check_fact_written_to_slot(

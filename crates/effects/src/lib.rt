@@ -4,7 +4,6 @@ mod index;
 
 pub use effects::effect_of;
 pub use effects::effect_on_slot;
-pub use index::checked_cell;
 use model::FactCell;
 
 // What the slots that an instruction writes become, as far as it can be found before any slot is asked: the slots of a range become one

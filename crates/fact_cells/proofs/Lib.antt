@@ -2,3 +2,4 @@
 pub mod Facts
 pub mod Target
 pub mod Notes
+pub mod Checks

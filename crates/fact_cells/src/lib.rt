@@ -1,8 +1,8 @@
-// Facts as cells: "Kind 0 Unknown .., value 0", Conflict, and the containers' known facts.
+// Facts as cells: "Kind 0 Unknown .., value 0", Conflict, the containers' known facts, and IndexCheck's fact from a length.
 ghost use mathlib.Core.Path.{_≡_};
 ghost use Rattle.model.specs.Fact.{unknown, conflict};
-ghost use Rattle.model.specs.Tables.{cellOf};
-ghost use Rattle.model.specs.Transfer.{mapFact, queueFact};
+ghost use Rattle.model.specs.Tables.{factIn, cellOf};
+ghost use Rattle.model.specs.Transfer.{checkedFrom, mapFact, queueFact};
 use model::FactCell;
 
 // "Kind 0 Unknown .., value 0"
@@ -36,5 +36,24 @@ pub fn queue_cell(elem_layout: u16) -> FactCell
     FactCell {
         kind: 4,
         value: elem_layout as u64 * 65536,
+    }
+}
+
+// IndexCheck's fact from the length's: 0 to 65,535 is Checked, any other number and Conflict are Conflict, Unknown is Unknown.
+pub fn checked_cell(length: FactCell) -> FactCell
+    ensures { λ r. ⌜ r ≡ cellOf (checkedFrom (factIn length)) ⌝ }
+{
+    if length.kind == 0 {
+        return unknown_cell();
+    }
+    if length.kind != 2 {
+        return conflict_cell();
+    }
+    if 65535 < length.value {
+        return conflict_cell();
+    }
+    FactCell {
+        kind: 2,
+        value: length.value,
     }
 }

@@ -1,4 +1,4 @@
--- The index run reads the length facts at each IndexCheck below n only, so it is the same by any two tables that agree there.
+-- The index run reads what an IndexCheck below n makes of its length fact, and nothing else of it: it is the same by any two tables that agree in this.
 -- Assumes nothing.
 use mathlib.Core.Path.{_≡_, refl, ap, _∙_}
 use mathlib.Core.Bool.{Bool, true, false, cond, _||_}
@@ -21,13 +21,13 @@ use Rattle.model.proofs.Facts.{row-below}
 
 -- ---- the transfer
 
-checked-same : (b : Bool) (inst : Instruction) (slots : List ℕ) (row : Row) {f g : Fact} → (b ≡ true → f ≡ g) → indexChecked b inst slots (checkedFrom f) row ≡ indexChecked b inst slots (checkedFrom g) row
+checked-same : (b : Bool) (inst : Instruction) (slots : List ℕ) (row : Row) {f g : Fact} → (b ≡ true → f ≡ g) → indexChecked b inst slots f row ≡ indexChecked b inst slots g row
 unfolding indexChecked
 checked-same true inst slots row h = rw (h refl)
 checked-same false inst slots row h = refl
 
 -- an IndexCheck alone reads its length fact
-pub same-transfer : (which : AnalysisKind) (sheet slots : List ℕ) (f g : ℕ → Fact) (pc : ℕ) (row : Row) → (instruction sheet pc .op ≡ 121 → f pc ≡ g pc)
+pub same-transfer : (which : AnalysisKind) (sheet slots : List ℕ) (f g : ℕ → Fact) (pc : ℕ) (row : Row) → (instruction sheet pc .op ≡ 121 → checkedFrom (f pc) ≡ checkedFrom (g pc))
     → transferRow which sheet slots f pc row ≡ transferRow which sheet slots g pc row
 unfolding transferRow indexTransfer
 same-transfer Constant sheet slots f g pc row h = refl
@@ -88,7 +88,7 @@ module _ (n s : ℕ) (successors : ℕ → List ℕ) (same : ℕ → ℕ → ℕ
         (loop-same (bound (by u)) _ (length-set (replicate n none) 0 (some entry) ∙ length-replicate n none))
 
 -- Two analyses whose length facts agree at each IndexCheck below n have the same run.
-pub same-run : (which : AnalysisKind) (sheet slots : List ℕ) (f g : ℕ → Fact) (entry : Row) → ((pc : ℕ) → pc < codeCount sheet → instruction sheet pc .op ≡ 121 → f pc ≡ g pc)
+pub same-run : (which : AnalysisKind) (sheet slots : List ℕ) (f g : ℕ → Fact) (entry : Row) → ((pc : ℕ) → pc < codeCount sheet → instruction sheet pc .op ≡ 121 → checkedFrom (f pc) ≡ checkedFrom (g pc))
     → (left : ℕ) → run (analysis which sheet slots f entry) left ≡ run (analysis which sheet slots g entry) left
 unfolding analysis
 same-run which sheet slots f g entry h left = run-same _ _ _ _ entry (transferRow which sheet slots f) (transferRow which sheet slots g) (λ p l r. same-transfer which sheet slots f g p r (h p l)) left

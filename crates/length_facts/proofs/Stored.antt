@@ -1,34 +1,51 @@
 -- The table of length facts: the loop that fills it, and what it reads as.
 -- Assumes nothing.
-use mathlib.Core.Path.{_≡_, refl, sym, _∙_}
+use mathlib.Core.Path.{_≡_, refl, sym, ap, _∙_}
+use mathlib.Core.Bool.{Bool, true, false}
 use mathlib.Core.List.{List}
 use mathlib.Core.Option.{Option}
 use Prim.Native.Nat.{ℕ, _+_, _≤_, _<_}
 use native.Mathlib.Omega.{arith}
+use lib.Dec.{eqb}
 use lib.ListN.{length, set, length-set}
 use borrow.Author.Tests.{eq-eqb, ne-eqb}
-use Rattle.model.specs.Fact.{unknown, kind, value, Row}
+use Rattle.model.specs.Fact.{Fact, unknown, kind, value, Row}
 use Rattle.model.specs.Sheet.{codeCount, instruction}
 use Rattle.model.specs.Run.{rowAt}
-use Rattle.model.specs.Tables.{cellOf, lengthTable}
+use Rattle.model.specs.Tables.{factIn, cellOf, lengthTable}
 use Rattle.model.specs.Analyses.{Analysed, rowFact, lengthFacts}
+use Rattle.model.specs.Transfer.{checkedFrom}
 use Rattle.model.specs.declared.FactCell.{FactCell}
 use Rattle.memory.proofs.Front.{getD-front}
 use Rattle.memory.proofs.Turned.{Turned, start, turn}
 use Rattle.length_facts.specs.Lengths.{Ended, lengthFactIf, lengthFact, lengthKinds, lengthValues}
 use Rattle.fact_cells.proofs.Facts.{kind-of, value-of}
+use Rattle.fact_cells.proofs.Checks.{checked-twice, checked-small}
 use Rattle.model.proofs.Facts.{fact-back}
 
 -- ---- one fact
 
+-- what an IndexCheck makes of the fact in a cell
+pub checked-of : {cell r : FactCell} (f : Fact) → cell ≡ cellOf f → r ≡ cellOf (checkedFrom (factIn cell)) → r ≡ cellOf (checkedFrom f)
+unfolding factIn cellOf
+checked-of f e k = k ∙ ap (λ (c : FactCell). cellOf (checkedFrom (factIn c))) e ∙ ap (λ (g : Fact). cellOf (checkedFrom g)) (fact-back f)
+
 module _ (sheet slots : List ℕ) (rows : List (Option Row)) (pc : ℕ) where
-  pub check-fact : instruction sheet pc .op ≡ 121 → rowFact slots (rowAt rows pc) (instruction sheet pc .b) ≡ lengthFact sheet slots rows pc
+  pub check-fact : instruction sheet pc .op ≡ 121 → checkedFrom (rowFact slots (rowAt rows pc) (instruction sheet pc .b)) ≡ lengthFact sheet slots rows pc
   unfolding lengthFact lengthFactIf
   check-fact e = rw (eq-eqb (instruction sheet pc .op) 121 e)
 
   pub other-fact : (instruction sheet pc .op ≡ 121 → ⊥) → unknown ≡ lengthFact sheet slots rows pc
   unfolding lengthFact lengthFactIf
   other-fact e = rw (ne-eqb (instruction sheet pc .op) 121 e)
+
+  pub small-fact : value (lengthFact sheet slots rows pc) ≤ 65535
+  unfolding lengthFact lengthFactIf value
+  small-fact = go (eqb (instruction sheet pc .op) 121)
+    where
+      go : (b : Bool) → value (lengthFactIf b sheet slots rows pc) ≤ 65535
+      go true = checked-small (rowFact slots (rowAt rows pc) (instruction sheet pc .b))
+      go false = omega arith
 
 -- ---- the loop
 
@@ -76,10 +93,10 @@ module _ (sheet slots present kinds values : List ℕ) (n : ℕ) (k₀ v₀ : Li
 
 -- ---- what it reads as
 
--- At an IndexCheck it reads as the ended constant run's fact of b.
+-- At an IndexCheck it reads as what that makes of the ended constant run's fact of b.
 pub lengths-read : (sheet : List ℕ) (constants : Analysed) {slots : List ℕ} → constants .slots ≡ slots → (k₀ v₀ : List ℕ) → codeCount sheet ≤ length k₀ → codeCount sheet ≤ length v₀
     → {k v : List ℕ} → k ≡ lengthKinds sheet slots (constants .rows) k₀ → v ≡ lengthValues sheet slots (constants .rows) v₀
-    → (pc : ℕ) → pc < codeCount sheet → instruction sheet pc .op ≡ 121 → lengthTable k v pc ≡ lengthFacts sheet constants pc
+    → (pc : ℕ) → pc < codeCount sheet → instruction sheet pc .op ≡ 121 → checkedFrom (lengthTable k v pc) ≡ checkedFrom (lengthFacts sheet constants pc)
 unfolding lengthKinds lengthValues lengthTable lengthFacts
 lengths-read sheet constants {slots} same k₀ v₀ hk hv p q pc l o =
     rw (
@@ -90,4 +107,4 @@ lengths-read sheet constants {slots} same k₀ v₀ hk hv p q pc l o =
       fact-back (lengthFact sheet slots (constants .rows) pc),
       same,
     )
-    (sym (check-fact sheet slots (constants .rows) pc o))
+    (ap checkedFrom (sym (check-fact sheet slots (constants .rows) pc o)) ∙ checked-twice (rowFact slots (rowAt (constants .rows) pc) (instruction sheet pc .b)))

@@ -13,6 +13,7 @@ use Rattle.model.specs.Opcode as O
 use Rattle.model.specs.Run.{rowAt}
 use Rattle.model.specs.Tables.{presentBytes, cells}
 use Rattle.model.specs.Analyses.{rowFact}
+use Rattle.model.specs.Transfer.{checkedFrom}
 use Rattle.model.specs.Lookup.{ascends}
 use Rattle.memory.specs.Front.{front}
 
@@ -24,9 +25,9 @@ pub record Ended (slots : List ℕ) (rows : List (Option Row)) (present kinds va
   pub kinds-are : kinds ≡ cells kind (length slots) rows
   pub values-are : values ≡ cells value (length slots) rows
 
--- the fact of b, where the test holds
+-- what IndexCheck makes of the fact of b, where the test holds
 unfoldable pub lengthFactIf : Bool → List ℕ → List ℕ → List (Option Row) → ℕ → Fact
-lengthFactIf true sheet slots rows pc = rowFact slots (rowAt rows pc) (instruction sheet pc .b)
+lengthFactIf true sheet slots rows pc = checkedFrom (rowFact slots (rowAt rows pc) (instruction sheet pc .b))
 lengthFactIf false sheet slots rows pc = unknown
 
 -- "IndexCheck then sets a from the constant analysis at that instruction.": no other instruction reads its fact, so Unknown stands there

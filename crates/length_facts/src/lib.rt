@@ -1,4 +1,4 @@
-// "for index, the ended constant run": its fact of b before each IndexCheck, found once, before the index run.
+// "for index, the ended constant run": what each IndexCheck makes of its fact of b, found once, before the index run.
 ghost use mathlib.Core.Path.{_≡_};
 ghost use mathlib.Core.List.{List};
 ghost use mathlib.Core.Option.{Option};
@@ -8,9 +8,11 @@ ghost use Rattle.model.specs.Fact.{Row};
 ghost use Rattle.model.specs.Sheet.{codeCount, instruction};
 ghost use Rattle.model.specs.Run.{rowAt};
 ghost use Rattle.model.specs.Tables.{cellOf, lengthTable};
+ghost use Rattle.model.specs.Transfer.{checkedFrom};
 ghost use Rattle.model.specs.Analyses.{Analysed, rowFact, lengthFacts};
 ghost use Rattle.sheet.specs.Measured.{Measured};
 ghost use Rattle.length_facts.specs.Lengths.{Ended, lengthFact, lengthKinds, lengthValues};
+use fact_cells::checked_cell;
 use fact_cells::unknown_cell;
 use model::FactCell;
 use search::Place;
@@ -62,13 +64,13 @@ fn length_fact(
 {
     let inst = code::instruction_at(sheet, pc);
     if inst.op == INDEX_CHECK {
-        return row_fact(slots, present, kinds, values, pc, wide(inst.b));
+        return checked_cell(row_fact(slots, present, kinds, values, pc, wide(inst.b)));
     }
     unknown_cell()
 }
 
-// For each instruction the fact that `lengthFact` names, in the first n places of two tables. At each IndexCheck it is the ended
-// constant run's fact of b, which is all that the index analysis reads.
+// For each instruction the fact that `lengthFact` names, in the first n places of two tables: at each IndexCheck what it makes of the
+// ended constant run's fact of b, which is all that the index analysis reads. So a value is a length of 16 bits.
 pub fn length_facts(
     sheet: &[u8],
     sizes: Sizes,
@@ -77,19 +79,19 @@ pub fn length_facts(
     kinds: &[u8],
     values: &[u64],
     out_kinds: &mut [u8],
-    out_values: &mut [u64],
+    out_values: &mut [u16],
 )
     requires { ⌜ Measured (now sheet) sizes × ((rows : List (Option Row)) × Ended (now slots) rows (now present) (now kinds) (now values)) ⌝ }
     requires { ⌜ (length (now present) ≡ sizes .«code_count») × (sizes .«code_count» ≤ length (now «out_kinds»)) × (sizes .«code_count» ≤ length (now «out_values»)) ⌝ }
     ensures stored { λ r. ⌜ ((rows : List (Option Row)) → Ended (now (slots .entry)) rows (now (present .entry)) (now (kinds .entry)) (now (values .entry)) → (now («out_kinds» .exit) ≡ lengthKinds (now (sheet .entry)) (now (slots .entry)) rows (now («out_kinds» .entry))) × (now («out_values» .exit) ≡ lengthValues (now (sheet .entry)) (now (slots .entry)) rows (now («out_values» .entry)))) ⌝ }
-    ensures read { λ r. ⌜ ((constants : Analysed) → constants .slots ≡ now (slots .entry) → Ended (now (slots .entry)) (constants .rows) (now (present .entry)) (now (kinds .entry)) (now (values .entry)) → (pc : ℕ) → pc < codeCount (now (sheet .entry)) → instruction (now (sheet .entry)) pc .op ≡ 121 → lengthTable (now («out_kinds» .exit)) (now («out_values» .exit)) pc ≡ lengthFacts (now (sheet .entry)) constants pc) ⌝ }
+    ensures read { λ r. ⌜ ((constants : Analysed) → constants .slots ≡ now (slots .entry) → Ended (now (slots .entry)) (constants .rows) (now (present .entry)) (now (kinds .entry)) (now (values .entry)) → (pc : ℕ) → pc < codeCount (now (sheet .entry)) → instruction (now (sheet .entry)) pc .op ≡ 121 → checkedFrom (lengthTable (now («out_kinds» .exit)) (now («out_values» .exit)) pc) ≡ checkedFrom (lengthFacts (now (sheet .entry)) constants pc)) ⌝ }
 {
     let n = sizes.code_count;
     let mut pc = 0;
     while pc < n {
         let cell = length_fact(sheet, sizes, slots, present, kinds, values, pc);
         out_kinds[pc] = cell.kind;
-        out_values[pc] = cell.value;
+        out_values[pc] = cell.value as u16;
         pc += 1;
     }
 }

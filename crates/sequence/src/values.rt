@@ -49,7 +49,7 @@ pub fn analyze_values(
     let mut starts = [0u16; 1024];
     layout_starts(sheet, sizes, &mut starts);
     let mut length_kinds = [0u8; 4096];
-    let mut length_values = [0u64; 4096];
+    let mut length_values = [0u16; 4096];
     let begun = charge_graph(sheet, sizes, resources);
     let constants = analyze_next(
         begun,

@@ -16,7 +16,7 @@ pub fn step(
     starts: &[u16],
     slots: &[u16],
     length_kinds: &[u8],
-    length_values: &[u64],
+    length_values: &[u16],
     p: usize,
     top: usize,
     present: &mut [u8],
@@ -34,7 +34,7 @@ pub fn step(
     let end = at + s;
     let fact = FactCell {
         kind: length_kinds[p],
-        value: length_values[p],
+        value: length_values[p] as u64,
     };
     transfer_row(
         which,

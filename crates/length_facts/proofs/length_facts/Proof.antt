@@ -2,7 +2,8 @@
 use Prim.Native.Nat.{_-_}
 use native.Mathlib.Omega.{arith}
 use Rattle.sheet.proofs.Counted.{counted}
-use Rattle.length_facts.proofs.Stored.{Stored, stored-none, stored-more, stored-all, lengths-read}
+use Rattle.length_facts.proofs.Stored.{small-fact, Stored, stored-none, stored-more, stored-all, lengths-read}
+use Rattle.fact_cells.proofs.Facts.{value-of}
 use Rattle.length_facts.proofs.length_facts.Statement.{statement}
 use Rattle.length_facts.proofs.length_facts.Tie as tie
 
@@ -25,6 +26,12 @@ length-fact-requires c κs =
 slice-write-out-kinds : tie.Need-slice-write-out-kinds Inv-loop μ-loop
 slice-write-out-kinds c = omega arith
 
+cast-out-values : tie.Need-cast-out-values Inv-loop μ-loop
+cast-out-values c =
+    let asked = c .before .before .before .before .before .before .before .before .before .before .before .pre in
+    let rows = asked .0 .1 .0 in
+    omega (arith, value-of _ (c .before .length-fact .ensures rows (asked .0 .1 .1)), small-fact (c .before .before .before .before .before .before .before .before .before .before .before .args .sheet .now) (c .before .before .before .before .before .before .before .before .before .before .before .args .slots .now) rows (c .before .before .before .loop .pc))
+
 mul-out-values : tie.Need-mul-out-values Inv-loop μ-loop
 mul-out-values c = omega arith
 
@@ -38,7 +45,7 @@ loop-less : tie.Need-loop-less Inv-loop μ-loop
 loop-less c = omega arith
 
 loop-again : tie.Need-loop-again Inv-loop μ-loop
-loop-again c = stored-more _ _ _ _ _ _ _ _ (c .before .before .loop .inv) (c .before .loop-test .taken) (c .length-fact .ensures)
+loop-again c = stored-more _ _ _ _ _ _ _ _ (c .before .before .before .loop .inv) (c .before .before .loop-test .taken) (c .before .length-fact .ensures)
 
 same-length : tie.Need-same-length Inv-loop μ-loop
 same-length c = c .before .loop .inv .kinds-long
@@ -61,6 +68,7 @@ length-facts-spec =
     loop-holds
     length-fact-requires
     slice-write-out-kinds
+    cast-out-values
     mul-out-values
     slice-write-out-values
     add-pc

@@ -24,6 +24,9 @@ mul-t23 c = omega (arith, c .before .before .before .before .before .before .bef
 shared-slice-read-t25 : tie.Need-shared-slice-read-t25
 shared-slice-read-t25 c = omega (arith, c .before .before .before .before .before .before .before .before .before .before .before .before .before .before .pre .below, c .before .before .before .before .before .before .before .before .before .before .before .before .before .before .pre .lending .length-values-length)
 
+cast-t26 : tie.Need-cast-t26
+cast-t26 c = omega (arith, c .shared-slice-known8 .given (c .before .before .before .before .before .before .before .before .before .before .before .before .before .before .args .p))
+
 sub-transfer-row : tie.Need-sub-transfer-row
 sub-transfer-row c = omega arith
 
@@ -81,6 +84,7 @@ step-spec =
     shared-slice-read-t22
     mul-t23
     shared-slice-read-t25
+    cast-t26
     sub-transfer-row
     part-transfer-row-start
     part-transfer-row-end

@@ -1,11 +1,11 @@
--- `effects::index::checked_cell` meets its contract: by the kind of the length's cell, and its value. Assumes nothing.
+-- `fact_cells::checked_cell` meets its contract: by the kind of the length's cell, and its value. Assumes nothing.
 use mathlib.Core.Path.{ap, _∙_}
 use borrow.Author.Needs.{needs}
 use Rattle.model.specs.Fact.{kind, value}
 use Rattle.model.specs.Tables.{cellOf, factIn}
-use Rattle.effects.proofs.Rules.{checked-unknown, checked-other, checked-over, checked-in}
-use Rattle.effects.proofs.index.checked_cell.Statement.{statement}
-use Rattle.effects.proofs.index.checked_cell.Tie as tie
+use Rattle.fact_cells.proofs.Checks.{checked-unknown, checked-other, checked-over, checked-in}
+use Rattle.fact_cells.proofs.checked_cell.Statement.{statement}
+use Rattle.fact_cells.proofs.checked_cell.Tie as tie
 
 unknown-cell-requires : tie.Need-unknown-cell-requires
 unknown-cell-requires c κs = search needs
