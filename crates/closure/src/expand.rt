@@ -111,7 +111,7 @@ fn expand_short(
     requires { ⌜ Measured (now sheet) sizes × Blank (now sheet) (now marks) (now stack) ⌝ }
     ensures { λ r. ⌜ (expandedTo r (now (marks .exit)) ≡ expandedOf (now (marks .entry)) (expand which (now (sheet .entry)) (localSlots (now (sheet .entry))) (seeded which (now (sheet .entry))) resources)) × (now (stack .exit) ≡ zeros (now (stack .entry))) ⌝ }
 {
-    let heads = [0u16; 1024];
+    let heads = [0u16; 1];
     let nexts = [0u16; 1];
     let pcs = [0u16; 1];
     expand_along(

@@ -4,7 +4,7 @@ use mathlib.Core.Path.{_≡_, refl, sym, ap, _∙_}
 use mathlib.Core.Bool.{Bool, true, false, _&&_}
 use mathlib.Core.Logic.{_⊎_, inl, inr}
 use mathlib.Core.List.{List, [], _∷_, _++_, append-nil, append-assoc}
-use Prim.Native.Nat.{ℕ, zero, suc, _+_, _-_, _*_, _≤_, _<_}
+use Prim.Native.Nat.{ℕ, zero, suc, _+_, _-_, _*_, _%_, _^_, _≤_, _<_}
 use native.Mathlib.Nat.{eq-or-lt-of-le}
 use native.Mathlib.Numerals.{add-one}
 use native.Mathlib.Omega.{arith}
@@ -19,13 +19,14 @@ use Rattle.model.specs.Closure.{Marked, mark, followIf, follow}
 use Rattle.model.specs.Opcode.{select}
 use Rattle.model.specs.declared.Instruction.{Instruction}
 use Rattle.model.specs.declared.AnalysisKind.the-variants.{Constant, Container}
-use Rattle.dependencies.specs.Rows.{row, rowIf, rows}
+use Rattle.dependencies.specs.Rows.{row, rowIf, rows, dependenceBy, dependence}
 use Rattle.marks.specs.Marks.{Goes, Holding, slotsIn, markAll}
 use Rattle.follow.specs.Sources.{edgesFrom, edgesIn, onlyIf, Follows}
 use Rattle.dependencies.specs.declared.Dependence.{Dependence}
 use Rattle.follow.specs.declared.Followed.{Followed}
 use Rattle.follow.specs.declared.SlotEdges.{SlotEdges}
-use Rattle.dependencies.proofs.Into.{into-append, edge-other, row-misses, misses}
+use Rattle.dependencies.proofs.Rows.{below-or-not, by-rule}
+use Rattle.dependencies.proofs.Into.{into-append, edge-other, row-misses, misses, span-misses}
 use Rattle.graph.specs.Links.{bucket}
 use Rattle.graph.specs.Chain.{edgesAt, Silent, Chain, ended, linked, Chained}
 use Rattle.marks.proofs.Marking.{goes-self, goes-on, goes-as}
@@ -96,6 +97,27 @@ module _ (l d : ℕ) (inst : Instruction) (r : Dependence) (are : rows r l inst 
       → (edgesIn d e ≡ edgesInto d (instructionEdges l inst)) × (e .sources .len ≡ length (edgesInto d (instructionEdges l inst)))
   met-some i p h k w = met _ w (hits i p h k)
 
+-- ---- how far they lead
+
+-- CopyN's edges to c slots
+pub copy-n-reach : (inst : Instruction) → inst .op ≡ 4 → dependence inst .span ≤ inst .c
+unfolding depends select dependenceBy
+copy-n-reach inst e = rw e (omega arith)
+
+-- and the others' to one
+pub other-reach : (inst : Instruction) → (inst .op ≡ 4 → ⊥) → dependence inst .span ≤ 1
+unfolding dependenceBy
+other-reach inst h = by-rule (λ (r : Depends). dependenceBy r inst .span ≤ 1) (inst .op) h (omega arith) (omega arith) (omega arith) (omega arith)
+
+-- the test of the code: `past` is d less a, modulo 2^64
+pub outside-reach : (inst : Instruction) {count past : ℕ} → dependence inst .span ≤ count → (l d : ℕ) → (past + inst .a) % 2 ^ 64 ≡ d → past < 2 ^ 64 → inst .a ≤ 65535 → count ≤ past
+    → edgesInto d (instructionEdges l inst) ≡ []
+outside-reach inst {count} {past} r l d e fits small h = span-misses l d inst (go (below-or-not (past + inst .a) (2 ^ 64)))
+  where
+    go : (past + inst .a < 2 ^ 64) ⊎ (2 ^ 64 ≤ past + inst .a) → (d < inst .a) ⊎ (inst .a + dependence inst .span ≤ d)
+    go (inl k) = inr (omega arith)
+    go (inr k) = inl (omega arith)
+
 -- ---- following
 
 module _ (bit : ℕ) where
@@ -116,6 +138,11 @@ module _ (bit : ℕ) where
     unfolding follow followIf edgesFrom markAll
     marks-all h [] m = refl
     marks-all h (s ∷ ss) m = ap (λ (t : Bool). follow bit (edgesFrom d kinds ss) (followIf t s m)) (ne-eqb (bitAnd kinds bit) 0 h) ∙ marks-all h ss (mark s m)
+
+  -- no edge at all
+  pub followed-nothing : {es : List FactDependency} {marks stack : List ℕ} {from : Followed} → es ≡ [] → Follows bit es marks stack from marks stack from
+  unfolding follow
+  followed-nothing e = rw e (record { counts = omega arith; goes = goes-self (λ m. refl) })
 
   module _ (d : ℕ) (e : SlotEdges) {es : List FactDependency} (is : edgesIn d e ≡ es) (many : e .sources .len ≡ length es) (from : Followed) where
     pub followed-none : {marks stack : List ℕ} → bitAnd (e .kinds) bit ≡ 0
@@ -158,6 +185,12 @@ follows-more bit sheet d pc l inst p e k q = rw add-one (follows-on bit (collect
 pub follows-below : (bit : ℕ) (sheet : List ℕ) (d : ℕ) {pc end : ℕ} {marks stack marks′ stack′ : List ℕ} {a b : Followed} → pc ≤ end → end ≤ pc → b .count ≤ pc * 255
     → Follows bit (collect (edgesAt sheet d) pc) marks stack a marks′ stack′ b → (b .count ≤ end * 255) × Follows bit (collect (edgesAt sheet d) end) marks stack a marks′ stack′ b
 follows-below bit sheet d {pc} {end} h k small p = let e : end ≡ pc = omega arith in (rw e small, rw e p)
+
+pub follows-all : (which-bit bit : ℕ) (sheet : List ℕ) (d : ℕ) {n from : ℕ} {marks stack marks′ stack′ : List ℕ} {a b : Followed}
+    → bit ≡ which-bit → from ≤ codeCount sheet → n ≤ from → n ≡ codeCount sheet → Follows bit (collect (edgesAt sheet d) from) marks stack a marks′ stack′ b
+    → Follows which-bit (edgesTo sheet d) marks stack a marks′ stack′ b
+unfolding edgesTo edgesAt
+follows-all which-bit bit sheet d {n} {from} w h k e p = let q : from ≡ codeCount sheet = omega arith in rw (w, q) at p
 
 -- ---- the instructions of a chain
 

@@ -10,10 +10,12 @@ ghost use lib.Dec.{ltb};
 ghost use Rattle.marks.specs.Marks.{Lain, Holding};
 ghost use Rattle.model.specs.Count.{collect};
 ghost use Rattle.graph.specs.Chain.{edgesAt, Chained};
+ghost use Rattle.dependencies.specs.Rows.{dependence};
 ghost use Rattle.follow.specs.Sources.{edgesIn, onlyIf, Follows};
 use code::instruction_at;
 use dependencies::CONSTANT;
 use dependencies::CONTAINER;
+use dependencies::COPY_N;
 use dependencies::INDEX_CHECK;
 use dependencies::dependence_of;
 use graph::bucket_of;
@@ -90,6 +92,17 @@ fn edges_to(inst: Instruction, l: usize, d: usize) -> SlotEdges
     SlotEdges { sources, kinds }
 }
 
+// To how many slots, beginning with a, an instruction's edges lead at most.
+fn reach(inst: Instruction) -> usize
+    ensures { λ r. ⌜ (r ≤ 65535) × (dependence inst .span ≤ r) ⌝ }
+{
+    let op = inst.op;
+    if op == COPY_N {
+        return inst.c as usize;
+    }
+    1
+}
+
 // One instruction's edges to d: every one is counted, and those of this analysis's bit are followed.
 fn follow_instruction(
     inst: Instruction,
@@ -103,6 +116,11 @@ fn follow_instruction(
     requires { ⌜ (d < l) × (l ≤ 65535) × (from .count < 4294967296) × Lain (now marks) (now stack) (from .top) ⌝ }
     ensures { λ r. ⌜ (r .count ≤ from .count + 255) × Follows bit (edgesInto d (instructionEdges l inst)) (now (marks .entry)) (now (stack .entry)) from (now (marks .exit)) (now (stack .exit)) r ⌝ }
 {
+    let a = inst.a as usize;
+    // most instructions are passed over by this test alone: below a the difference wraps and is larger than any reach
+    if reach(inst) <= std::num::wrapping_sub_usize(d, a) {
+        return from;
+    }
     let edges = edges_to(inst, l, d);
     let sources = edges.sources;
     let count = from.count + sources.len as u64;
@@ -158,8 +176,11 @@ pub fn follow_edges(
 {
     let l = sizes.local_slots;
     let bit = dependency_bit(which);
-    let k = bucket_of(l, d);
     let mut followed = follow_code(bit, sheet, sizes, from, d, marks, stack, top);
+    if sizes.code_count <= from {
+        return followed;
+    }
+    let k = bucket_of(l, d);
     let mut link = heads[k] as usize;
     while 0 < link {
         let i = link - 1;

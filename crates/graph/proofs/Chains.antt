@@ -179,10 +179,10 @@ module _ (sheet : List ℕ) where
   -- ---- all instructions
 
   -- no instruction is linked
-  pub unlinked : (heads nexts pcs : List ℕ) → length heads ≡ 1024 → length pcs ≡ length nexts → length nexts ≤ 65535 → ((k : ℕ) → getD heads k 0 ≡ 0) → {from : ℕ} → from ≡ codeCount sheet
+  pub unlinked : (heads nexts pcs : List ℕ) → length pcs ≡ length nexts → length nexts ≤ 65535 → ((k : ℕ) → getD heads k 0 ≡ 0) → {from : ℕ} → from ≡ codeCount sheet
       → Chained sheet heads nexts pcs from
-  unlinked heads nexts pcs w p few none {from} e = record {
-    wide = w;
+  unlinked heads nexts pcs p few none {from} e = record {
+    wide = λ l. absurd (omega arith);
     paired = p;
     few = few;
     inside = omega arith;
@@ -208,7 +208,7 @@ module _ (sheet : List ℕ) where
     down-chained : (pc : ℕ) (t : Links) → Filled t → pc ≤ codeCount sheet → ((d : ℕ) → d < localSlots sheet → At d pc t)
         → Chained sheet (linkDown sheet pc t .heads) (linkDown sheet pc t .nexts) (linkDown sheet pc t .pcs) (linkDown sheet pc t .from)
     unfolding linkDown
-    down-chained zero t f h c = record { wide = f .wide; paired = f .paired; few = f .few; inside = h; chain = c }
+    down-chained zero t f h c = record { wide = λ l. f .wide; paired = f .paired; few = f .few; inside = h; chain = c }
     down-chained (suc pc) t f h c = go (leb (t .used + bucketsAt sheet pc .count) (length (t .nexts))) refl (down-chained pc)
       where
         after : Links
@@ -225,13 +225,13 @@ module _ (sheet : List ℕ) where
             let room = leb-true _ _ e in
             rest after (each-filled pc h _ t f (bucketsAt sheet pc .count) (buckets-few (localSlots sheet) (instruction sheet pc) small) room) (omega arith)
             (λ d l. instruction-linked pc t f h room d l (c d l))
-        go false e rest = record { wide = f .wide; paired = f .paired; few = f .few; inside = h; chain = c }
+        go false e rest = record { wide = λ l. f .wide; paired = f .paired; few = f .few; inside = h; chain = c }
 
     -- the whole graph
     pub graph-chained : (heads nexts pcs : List ℕ) → length heads ≡ 1024 → length pcs ≡ length nexts → length nexts ≤ 65535 → {g : Graph} → g ≡ graphOf sheet heads nexts pcs
         → Chained sheet (g .heads) (g .nexts) (g .pcs) (g .from)
     unfolding graphOf zeros
     graph-chained heads nexts pcs w p few e =
-        let none = unlinked (zeros heads) nexts pcs (length-replicate (length heads) 0 ∙ w) p few (zeros-read (length heads)) refl in
+        let none = unlinked (zeros heads) nexts pcs p few (zeros-read (length heads)) refl in
         rw e (down-chained (codeCount sheet) (links (zeros heads) nexts pcs 0)
-        (record { wide = none .wide; paired = p; few = few; room = omega arith; below = λ k. rw (zeros-read (length heads) k) (omega arith) }) (omega arith) (none .chain))
+        (record { wide = length-replicate (length heads) 0 ∙ w; paired = p; few = few; room = omega arith; below = λ k. rw (zeros-read (length heads) k) (omega arith) }) (omega arith) (none .chain))

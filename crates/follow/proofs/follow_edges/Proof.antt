@@ -8,72 +8,83 @@ use Rattle.sheet.proofs.Counted.{counted}
 use Rattle.sheet.proofs.Limited.{limited}
 use Rattle.sheet.proofs.Inside.{code-inside}
 use Rattle.marks.proofs.Marking.{lain-on, goes-wide, goes-long}
-use Rattle.follow.proofs.Following.{Walked, walked-none, walked-next, walked-more, walked-done, chain-of}
+use Rattle.follow.proofs.Following.{follows-all, Walked, walked-none, walked-next, walked-more, walked-done, chain-of}
 use Rattle.follow.proofs.follow_edges.Statement.{statement}
 use Rattle.follow.proofs.follow_edges.Tie as tie
 
 abbrev Inv-loop : tie.InvT-loop
-Inv-loop sheet from heads nexts pcs d marks₀ stack₀ top l bit k followed₀ link₀ marks stack followed link = Walked sheet d nexts pcs from bit marks₀ stack₀ followed₀ marks stack followed link
+Inv-loop sheet from heads nexts pcs d marks₀ stack₀ top l bit followed₀ k link₀ marks stack followed link = Walked sheet d nexts pcs from bit marks₀ stack₀ followed₀ marks stack followed link
 
 abbrev μ-loop : tie.MeasureT-loop
-μ-loop sheet from heads nexts pcs d marks₀ stack₀ top l bit k followed₀ link₀ marks stack followed link = link
+μ-loop sheet from heads nexts pcs d marks₀ stack₀ top l bit followed₀ k link₀ marks stack followed link = link
 
 dependency-bit-requires : tie.Need-dependency-bit-requires Inv-loop μ-loop
 dependency-bit-requires c κs = search needs
 
-bucket-of-requires : tie.Need-bucket-of-requires Inv-loop μ-loop
-bucket-of-requires c κs = (c .before .before .before .before .before .before .before .pre .2, limited (c .before .before .before .before .before .before .before .pre .0) .local-slots)
-
 follow-code-requires : tie.Need-follow-code-requires Inv-loop μ-loop
 follow-code-requires c κs =
-    let asked = c .before .before .before .before .before .before .before .before .before .before .pre in
+    let asked = c .before .before .before .before .before .before .before .before .before .pre in
     (asked .0, omega (arith, asked .1 .inside, counted (asked .0 .are) .code-count), asked .2, asked .3)
 
+same-length : tie.Need-same-length Inv-loop μ-loop
+same-length c = search needs
+
+same-length-2 : tie.Need-same-length-2 Inv-loop μ-loop
+same-length-2 c = search needs
+
+returns : tie.Need-returns Inv-loop μ-loop
+returns c =
+    follows-all _ _ _ _ (c .before .before .before .before .before .before .before .before .before .dependency-bit .ensures) (c .before .before .before .before .before .before .before .before .before .before .before .before .before .before .before .before .pre .1 .inside) (c .if1 .taken) (counted (c .before .before .before .before .before .before .before .before .before .before .before .before .before .before .before .before .pre .0 .are) .code-count)
+    (c .before .before .before .before .before .before .follow-code .ensures .1)
+
+bucket-of-requires : tie.Need-bucket-of-requires Inv-loop μ-loop
+bucket-of-requires c κs = (c .before .before .before .before .before .before .before .before .before .before .before .before .before .before .before .before .pre .2, limited (c .before .before .before .before .before .before .before .before .before .before .before .before .before .before .before .before .pre .0) .local-slots)
+
 mul-link : tie.Need-mul-link Inv-loop μ-loop
-mul-link c = omega (arith, c .before .before .before .before .before .before .before .bucket-of .ensures .1)
+mul-link c = omega (arith, c .bucket-of .ensures .1)
 
 shared-slice-read-link : tie.Need-shared-slice-read-link Inv-loop μ-loop
-shared-slice-read-link c = omega (arith, c .before .before .before .before .before .before .before .before .before .before .before .before .before .before .before .before .pre .1 .wide, c .before .before .before .before .before .before .before .before .bucket-of .ensures .1)
+shared-slice-read-link c = omega (arith, c .before .before .before .before .before .before .before .before .before .before .before .before .before .before .before .before .before .before .pre .1 .wide (omega (arith, c .before .before .if1 .left, counted (c .before .before .before .before .before .before .before .before .before .before .before .before .before .before .before .before .before .before .pre .0 .are) .code-count)), c .before .bucket-of .ensures .1)
 
 cast-link : tie.Need-cast-link Inv-loop μ-loop
-cast-link c = omega (arith, c .shared-slice-known5 .given (c .before .before .before .before .before .before .before .before .bucket-of .result))
+cast-link c = omega (arith, c .shared-slice-known5 .given (c .before .bucket-of .result))
 
 loop-holds : tie.Need-loop-holds Inv-loop μ-loop
 loop-holds c =
-    let asked = c .before .before .before .before .before .before .before .before .before .before .before .before .before .before .before .before .pre in
-    walked-none _ _ (asked .1 .inside) (chain-of (asked .1) _ (counted (asked .0 .are) .local-slots) (asked .2) (c .before .before .before .before .before .before .before .before .bucket-of .ensures .0))
-    (c .before .before .before .before .before .follow-code .ensures .0)
+    let asked = c .before .before .before .before .before .before .before .before .before .before .before .before .before .before .before .before .before .before .pre in
+    walked-none _ _ (asked .1 .inside) (chain-of (asked .1) _ (counted (asked .0 .are) .local-slots) (asked .2) (c .before .bucket-of .ensures .0))
+    (c .before .before .before .before .before .before .before .before .follow-code .ensures .0)
 
 sub-i : tie.Need-sub-i Inv-loop μ-loop
 sub-i c = omega (arith, c .loop-test .taken)
 
 mul-pc : tie.Need-mul-pc Inv-loop μ-loop
-mul-pc c = omega (arith, c .before .before .before .before .before .before .before .before .before .before .before .before .before .before .before .before .before .before .pre .1 .few, walked-next _ _ (c .before .loop .inv) (c .loop-test .taken) .in-nexts, c .before .before .before .before .before .before .before .before .before .before .before .before .before .before .before .before .before .before .pre .1 .paired)
+mul-pc c = omega (arith, c .before .before .before .before .before .before .before .before .before .before .before .before .before .before .before .before .before .before .before .before .pre .1 .few, walked-next _ _ (c .before .loop .inv) (c .loop-test .taken) .in-nexts, c .before .before .before .before .before .before .before .before .before .before .before .before .before .before .before .before .before .before .before .before .pre .1 .paired)
 
 shared-slice-read-pc : tie.Need-shared-slice-read-pc Inv-loop μ-loop
-shared-slice-read-pc c = omega (arith, walked-next _ _ (c .before .before .loop .inv) (c .before .loop-test .taken) .in-nexts, c .before .before .before .before .before .before .before .before .before .before .before .before .before .before .before .before .before .before .before .pre .1 .paired)
+shared-slice-read-pc c = omega (arith, walked-next _ _ (c .before .before .loop .inv) (c .before .loop-test .taken) .in-nexts, c .before .before .before .before .before .before .before .before .before .before .before .before .before .before .before .before .before .before .before .before .before .pre .1 .paired)
 
 cast-pc : tie.Need-cast-pc Inv-loop μ-loop
 cast-pc c = omega (arith, c .shared-slice-known6 .given (c .before .before .loop .link - 1))
 
 instruction-at-requires : tie.Need-instruction-at-requires Inv-loop μ-loop
 instruction-at-requires c κs =
-    code-inside (c .before .before .before .before .before .before .before .before .before .before .before .before .before .before .before .before .before .before .before .pre .0) _
-    (omega (arith, walked-next _ _ (c .before .before .loop .inv) (c .before .loop-test .taken) .code, counted (c .before .before .before .before .before .before .before .before .before .before .before .before .before .before .before .before .before .before .before .pre .0 .are) .code-count))
+    code-inside (c .before .before .before .before .before .before .before .before .before .before .before .before .before .before .before .before .before .before .before .before .before .pre .0) _
+    (omega (arith, walked-next _ _ (c .before .before .loop .inv) (c .before .loop-test .taken) .code, counted (c .before .before .before .before .before .before .before .before .before .before .before .before .before .before .before .before .before .before .before .before .before .pre .0 .are) .code-count))
 
 follow-instruction-requires : tie.Need-follow-instruction-requires Inv-loop μ-loop
 follow-instruction-requires c κs =
-    let asked = c .before .before .before .before .before .before .before .before .before .before .before .before .before .before .before .before .before .before .before .before .before .before .pre in
+    let asked = c .before .before .before .before .before .before .before .before .before .before .before .before .before .before .before .before .before .before .before .before .before .before .before .before .pre in
     let w = c .before .before .before .before .before .loop .inv in
     let l = limited (asked .0) in (
       asked .2,
       l .local-slots,
       omega (arith, w .small, w .inside, l .code-count, counted (asked .0 .are) .code-count),
-      lain-on (w .follows .goes) (lain-on (c .before .before .before .before .before .before .before .before .before .before .before .follow-code .ensures .1 .goes) (asked .3)),
+      lain-on (w .follows .goes) (lain-on (c .before .before .before .before .before .before .before .before .before .before .before .before .before .before .follow-code .ensures .1 .goes) (asked .3)),
     )
 
 mul-link-2 : tie.Need-mul-link-2 Inv-loop μ-loop
-mul-link-2 c = omega (arith, c .before .before .before .before .before .before .before .before .before .before .before .before .before .before .before .before .before .before .before .before .before .before .before .before .before .before .before .pre .1 .few, walked-next _ _ (c .before .before .before .before .before .before .before .before .before .before .loop .inv) (c .before .before .before .before .before .before .before .before .before .loop-test .taken) .in-nexts)
+mul-link-2 c = omega (arith, c .before .before .before .before .before .before .before .before .before .before .before .before .before .before .before .before .before .before .before .before .before .before .before .before .before .before .before .before .before .pre .1 .few, walked-next _ _ (c .before .before .before .before .before .before .before .before .before .before .loop .inv) (c .before .before .before .before .before .before .before .before .before .loop-test .taken) .in-nexts)
 
 shared-slice-read-link-2 : tie.Need-shared-slice-read-link-2 Inv-loop μ-loop
 shared-slice-read-link-2 c = omega (arith, walked-next _ _ (c .before .before .before .before .before .before .before .before .before .before .before .loop .inv) (c .before .before .before .before .before .before .before .before .before .before .loop-test .taken) .in-nexts)
@@ -87,21 +98,21 @@ loop-less c = walked-next _ _ (c .before .before .before .before .before .before
 loop-again : tie.Need-loop-again Inv-loop μ-loop
 loop-again c =
     let followed = c .before .before .before .before .before .follow-instruction .ensures in
-    walked-more _ _ (c .before .before .before .before .before .before .before .before .before .before .before .loop .inv) (c .before .before .before .before .before .before .before .before .before .before .loop-test .taken) (c .before .before .before .before .before .before .before .before .instruction-at .ensures) (counted (c .before .before .before .before .before .before .before .before .before .before .before .before .before .before .before .before .before .before .before .before .before .before .before .before .before .before .before .before .pre .0 .are) .local-slots)
+    walked-more _ _ (c .before .before .before .before .before .before .before .before .before .before .before .loop .inv) (c .before .before .before .before .before .before .before .before .before .before .loop-test .taken) (c .before .before .before .before .before .before .before .before .instruction-at .ensures) (counted (c .before .before .before .before .before .before .before .before .before .before .before .before .before .before .before .before .before .before .before .before .before .before .before .before .before .before .before .before .before .before .pre .0 .are) .local-slots)
     (followed .0) (followed .1)
 
-same-length : tie.Need-same-length Inv-loop μ-loop
-same-length c =
-    let code = c .before .before .before .before .before .before .before .follow-code .ensures .1 .goes in
-    goes-wide (c .before .loop .inv .follows .goes) (lain-on code (c .before .before .before .before .before .before .before .before .before .before .before .before .before .before .before .before .before .before .pre .3)) ∙ goes-wide code (c .before .before .before .before .before .before .before .before .before .before .before .before .before .before .before .before .before .before .pre .3)
+same-length-3 : tie.Need-same-length-3 Inv-loop μ-loop
+same-length-3 c =
+    let code = c .before .before .before .before .before .before .before .before .before .before .follow-code .ensures .1 .goes in
+    goes-wide (c .before .loop .inv .follows .goes) (lain-on code (c .before .before .before .before .before .before .before .before .before .before .before .before .before .before .before .before .before .before .before .before .pre .3)) ∙ goes-wide code (c .before .before .before .before .before .before .before .before .before .before .before .before .before .before .before .before .before .before .before .before .pre .3)
 
-same-length-2 : tie.Need-same-length-2 Inv-loop μ-loop
-same-length-2 c =
-    let code = c .before .before .before .before .before .before .before .follow-code .ensures .1 .goes in
-    goes-long (c .before .loop .inv .follows .goes) (lain-on code (c .before .before .before .before .before .before .before .before .before .before .before .before .before .before .before .before .before .before .pre .3)) ∙ goes-long code (c .before .before .before .before .before .before .before .before .before .before .before .before .before .before .before .before .before .before .pre .3)
+same-length-4 : tie.Need-same-length-4 Inv-loop μ-loop
+same-length-4 c =
+    let code = c .before .before .before .before .before .before .before .before .before .before .follow-code .ensures .1 .goes in
+    goes-long (c .before .loop .inv .follows .goes) (lain-on code (c .before .before .before .before .before .before .before .before .before .before .before .before .before .before .before .before .before .before .before .before .pre .3)) ∙ goes-long code (c .before .before .before .before .before .before .before .before .before .before .before .before .before .before .before .before .before .before .before .before .pre .3)
 
-returns : tie.Need-returns Inv-loop μ-loop
-returns c = walked-done _ _ (c .before .loop .inv) (c .loop-test .left) (c .before .before .before .before .before .before .before .before .before .before .before .dependency-bit .ensures) (c .before .before .before .before .before .before .before .follow-code .ensures .1)
+returns-2 : tie.Need-returns-2 Inv-loop μ-loop
+returns-2 c = walked-done _ _ (c .before .loop .inv) (c .loop-test .left) (c .before .before .before .before .before .before .before .before .before .before .before .before .before .dependency-bit .ensures) (c .before .before .before .before .before .before .before .before .before .before .follow-code .ensures .1)
 
 pub follow-edges-spec : {M : Type 1} → statement M
 follow-edges-spec =
@@ -110,8 +121,11 @@ follow-edges-spec =
     Inv-loop
     μ-loop
     dependency-bit-requires
-    bucket-of-requires
     follow-code-requires
+    same-length
+    same-length-2
+    returns
+    bucket-of-requires
     mul-link
     shared-slice-read-link
     cast-link
@@ -127,6 +141,6 @@ follow-edges-spec =
     cast-link-2
     loop-less
     loop-again
-    same-length
-    same-length-2
-    returns)
+    same-length-3
+    same-length-4
+    returns-2)
