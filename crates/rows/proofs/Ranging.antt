@@ -80,28 +80,6 @@ module _ (slots : List ℕ) (start count : ℕ) (cell : ℕ → FactCell) (kinds
           later k u (inl q) = rw (sym q) l
           later k u (inr q) = omega (arith, ascends-lt slots asc j k q u)
 
--- a range behind all slots
-pub wrote-beyond : (slots : List ℕ) → ((k : ℕ) → k < length slots → getD slots k 0 < 65536) → (start count : ℕ) (cell : ℕ → FactCell) (kinds values : List ℕ)
-    → length kinds ≡ length slots → length values ≡ length slots → ((k : ℕ) → k < length slots → getD slots k 0 < start)
-    → Wrote slots (λ slot. inRange slot start count) cell kinds values kinds values
-wrote-beyond slots below start count cell kinds values nk nv h =
-    wrote slots below (λ slot. inRange slot start count) cell kinds values nk nv kinds values refl refl
-    (λ k l. rw (← before (getD slots k 0) start count (h k (omega arith))))
-    (λ k l. rw (← before (getD slots k 0) start count (h k (omega arith))))
-
--- so, where the last slot lies before it
-pub last-below : (slots : List ℕ) (start : ℕ) → ascends slots ≡ true → getD slots (length slots - 1) 0 < start → (k : ℕ) → k < length slots → getD slots k 0 < start
-last-below slots start asc h k l = let m : k ≤ length slots - 1 = omega arith in go (eq-or-lt-of-le m)
-  where
-    go : (k ≡ length slots - 1) ⊎ (k < length slots - 1) → getD slots k 0 < start
-    go (inl q) = rw q h
-    go (inr q) = omega (arith, ascends-lt slots asc k (length slots - 1) q (omega arith))
-
--- a range of the sheet
-pub range-wrote : (sheet : List ℕ) (i : ℕ) {slots : List ℕ} {start count : ℕ} {cell : ℕ → FactCell} {kinds values kinds′ values′ : List ℕ} → start ≡ rangeStart sheet i → count ≡ rangeLength sheet i
-    → Wrote slots (λ slot. inRange slot start count) cell kinds values kinds′ values′ → Wrote slots (λ slot. inRange slot (rangeStart sheet i) (rangeLength sheet i)) cell kinds values kinds′ values′
-range-wrote sheet i s c w = rw (s, c) at w
-
 -- ---- several
 
 assoc : (a b c : Bool) → (a || (b || c)) ≡ ((a || b) || c)
@@ -146,12 +124,12 @@ module _ (sheet slots : List ℕ) (below : (k : ℕ) → k < length slots → ge
   }
 
   module _ {kinds′ values′ : List ℕ} {i : ℕ} (r : Ranging sheet slots first count cell kinds values kinds′ values′ i) where
-    pub ranging-more : {kinds″ values″ : List ℕ} → i < count
-        → Wrote slots (λ slot. inRange slot (rangeStart sheet (first + i)) (rangeLength sheet (first + i))) cell kinds′ values′ kinds″ values″ → Ranging sheet slots first count cell kinds values kinds″ values″ (i + 1)
-    ranging-more h w = record {
+    pub ranging-more : {start len : ℕ} {kinds″ values″ : List ℕ} → i < count → start ≡ rangeStart sheet (first + i) → len ≡ rangeLength sheet (first + i)
+        → Wrote slots (λ slot. inRange slot start len) cell kinds′ values′ kinds″ values″ → Ranging sheet slots first count cell kinds values kinds″ values″ (i + 1)
+    ranging-more h s l w = record {
       within = omega arith;
       kinds-long = r .kinds-long;
-      is = wrote-both (λ slot. inRanges sheet slot first (i + 1)) below (r .kinds-long) (λ slot. ranges-more sheet slot first i) (r .is) w;
+      is = wrote-both (λ slot. inRanges sheet slot first (i + 1)) below (r .kinds-long) (λ slot. rw (s, l) (ranges-more sheet slot first i)) (r .is) w;
     }
 
     pub ranging-all : count ≤ i → Wrote slots (λ slot. inRanges sheet slot first count) cell kinds values kinds′ values′

@@ -3,7 +3,6 @@ ghost use mathlib.Core.Path.{_≡_};
 ghost use Prim.Native.Nat.{_+_, _<_, _≤_};
 ghost use lib.ListN.{length};
 ghost use Rattle.model.specs.Tables.{factsOf};
-ghost use Rattle.model.specs.Sheet.{rangeStart, rangeLength};
 ghost use Rattle.model.specs.Written.{inRange, inRanges};
 ghost use Rattle.sheet.specs.Measured.{Measured};
 ghost use Rattle.model.specs.Lookup.{ascends};
@@ -53,44 +52,6 @@ fn write_range(
     }
 }
 
-// The same for range i of the sheet.
-fn write_range_at(
-    effect: Effect,
-    sheet: &[u8],
-    sizes: Sizes,
-    slots: &[u16],
-    kinds: &[u8],
-    values: &[u64],
-    i: usize,
-    out_kinds: &mut [u8],
-    out_values: &mut [u64],
-)
-    requires { ⌜ Measured (now sheet) sizes × (i < sizes .«range_count») ⌝ }
-    requires { ⌜ Tracked (now slots) (now kinds) (now values) × (length (now «out_kinds») ≡ length (now slots)) × (length (now «out_values») ≡ length (now slots)) ⌝ }
-    ensures { λ r. ⌜ Wrote (now (slots .entry)) (λ slot. inRange slot (rangeStart (now (sheet .entry)) i) (rangeLength (now (sheet .entry)) i)) (effectCell effect (now (slots .entry)) (factsOf (now (kinds .entry)) (now (values .entry)))) (now («out_kinds» .entry)) (now («out_values» .entry)) (now («out_kinds» .exit)) (now («out_values» .exit)) ⌝ }
-{
-    let len = slots.len();
-    if len == 0 {
-        return;
-    }
-    let start = code::range_start_at(sheet, sizes, i);
-    // most ranges that a call writes lie beyond what is tracked
-    if slots[len - 1] < start {
-        return;
-    }
-    let count = code::range_length_at(sheet, sizes, i) as u64;
-    write_range(
-        effect,
-        slots,
-        kinds,
-        values,
-        start,
-        count,
-        out_kinds,
-        out_values,
-    );
-}
-
 // The same for count ranges of the sheet, from the range first on.
 fn write_ranges(
     effect: Effect,
@@ -110,14 +71,15 @@ fn write_ranges(
 {
     let mut i = 0;
     while i < count {
-        write_range_at(
+        let start = code::range_start_at(sheet, sizes, first + i);
+        let length = code::range_length_at(sheet, sizes, first + i) as u64;
+        write_range(
             effect,
-            sheet,
-            sizes,
             slots,
             kinds,
             values,
-            first + i,
+            start,
+            length,
             out_kinds,
             out_values,
         );

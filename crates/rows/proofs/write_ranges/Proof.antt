@@ -1,6 +1,7 @@
 -- `rows::write_ranges` meets its contract: each turn is one range more. Assumes nothing.
 use Prim.Native.Nat.{_-_}
 use native.Mathlib.Omega.{arith}
+use borrow.Author.Needs.{needs}
 use Rattle.model.specs.Tables.{factsOf}
 use Rattle.effects.specs.Effect.{effectCell}
 use Rattle.rows.proofs.Ranging.{Ranging, ranging-start, ranging-more, ranging-all}
@@ -17,16 +18,27 @@ abbrev μ-loop : tie.MeasureT-loop
 loop-holds : tie.Need-loop-holds Inv-loop μ-loop
 loop-holds c =
     let s = c .before .before .before .before .before .before in
-    ranging-start (s .args .sheet .now) (s .args .slots .now) (λ k l. omega (arith, c .before .before .before .before .shared-slice-known2 .given k)) (s .args .first) (s .args .count) _
-    (s .args .out-kinds .now) (s .args .out-values .now) (s .pre .1 .1) (s .pre .1 .2)
+    ranging-start (s .args .sheet .now) (s .args .slots .now) (λ k l. omega (arith, c .before .before .before .before .shared-slice-known2 .given k)) (s .args .first) (s .args .count) _ (s .args .out-kinds .now) (s .args .out-values .now) (s .pre .1 .1) (s .pre .1 .2)
 
-add-write-range-at : tie.Need-add-write-range-at Inv-loop μ-loop
-add-write-range-at c = omega arith
+add-range-start-at : tie.Need-add-range-start-at Inv-loop μ-loop
+add-range-start-at c = omega arith
 
-write-range-at-requires : tie.Need-write-range-at-requires Inv-loop μ-loop
-write-range-at-requires c κs =
-    let asked = c .before .before .before .before .before .before .before .before .before .before .pre in
-    let is = c .before .before .before .loop .inv .is in ((asked .0 .0, omega (arith, asked .0 .1, c .before .before .loop-test .taken)), (asked .1 .0, is .kinds-long, is .values-long))
+range-start-at-requires : tie.Need-range-start-at-requires Inv-loop μ-loop
+range-start-at-requires c κs = (c .before .before .before .before .before .before .before .before .pre .0 .0, omega arith)
+
+add-range-length-at : tie.Need-add-range-length-at Inv-loop μ-loop
+add-range-length-at c = omega arith
+
+range-length-at-requires : tie.Need-range-length-at-requires Inv-loop μ-loop
+range-length-at-requires c κs = (c .before .before .before .before .before .before .before .before .before .pre .0 .0, omega arith)
+
+cast-length : tie.Need-cast-length Inv-loop μ-loop
+cast-length c = search needs
+
+write-range-requires : tie.Need-write-range-requires Inv-loop μ-loop
+write-range-requires c κs =
+    let s = c .before .before .before .before .before in
+    (c .before .before .before .before .before .before .before .before .before .before .before .before .pre .1 .0, s .loop .inv .is .kinds-long, s .loop .inv .is .values-long)
 
 add-i : tie.Need-add-i Inv-loop μ-loop
 add-i c = omega arith
@@ -36,9 +48,8 @@ loop-less c = omega arith
 
 loop-again : tie.Need-loop-again Inv-loop μ-loop
 loop-again c =
-    let s = c .before .before .before .before .before .before .before .before .before .before .before .before .before .before .before in
-    ranging-more (s .args .sheet .now) (s .args .slots .now) (λ k l. omega (arith, c .before .before .before .before .before .before .before .before .before .before .before .before .before .shared-slice-known2 .given k)) (s .args .first) (s .args .count) _
-    (s .args .out-kinds .now) (s .args .out-values .now) (c .before .before .before .before .before .before .before .before .loop .inv) (c .before .before .before .before .before .before .before .loop-test .taken) (c .before .before .before .before .write-range-at .ensures)
+    let s = c .before .before .before .before .before .before .before .before .before .before .before .before .before .before .before .before .before in
+    ranging-more (s .args .sheet .now) (s .args .slots .now) (λ k l. omega (arith, c .before .before .before .before .before .before .before .before .before .before .before .before .before .before .before .shared-slice-known2 .given k)) (s .args .first) (s .args .count) _ (s .args .out-kinds .now) (s .args .out-values .now) (c .before .before .before .before .before .before .before .before .before .before .loop .inv) (c .before .before .before .before .before .before .before .before .before .loop-test .taken) (c .before .before .before .before .before .before .before .before .range-start-at .ensures) (c .before .before .before .before .before .before .before .range-length-at .ensures) (c .before .before .before .before .write-range .ensures)
 
 same-length : tie.Need-same-length Inv-loop μ-loop
 same-length c = omega arith
@@ -49,8 +60,7 @@ same-length-2 c = omega (arith, c .before .loop .inv .is .values-long)
 returns : tie.Need-returns Inv-loop μ-loop
 returns c =
     let s = c .before .before .before .before .before .before .before .before in
-    ranging-all (s .args .sheet .now) (s .args .slots .now) (λ k l. omega (arith, c .before .before .before .before .before .before .shared-slice-known2 .given k)) (s .args .first) (s .args .count) _
-    (s .args .out-kinds .now) (s .args .out-values .now) (c .before .loop .inv) (c .loop-test .left)
+    ranging-all (s .args .sheet .now) (s .args .slots .now) (λ k l. omega (arith, c .before .before .before .before .before .before .shared-slice-known2 .given k)) (s .args .first) (s .args .count) _ (s .args .out-kinds .now) (s .args .out-values .now) (c .before .loop .inv) (c .loop-test .left)
 
 pub write-ranges-spec : {M : Type 1} → statement M
 write-ranges-spec =
@@ -59,8 +69,12 @@ write-ranges-spec =
     Inv-loop
     μ-loop
     loop-holds
-    add-write-range-at
-    write-range-at-requires
+    add-range-start-at
+    range-start-at-requires
+    add-range-length-at
+    range-length-at-requires
+    cast-length
+    write-range-requires
     add-i
     loop-less
     loop-again
