@@ -1,26 +1,34 @@
--- What is written in the slots that an instruction writes.
+-- The ranges of what an instruction writes, as the code reads them.
 -- Assumes nothing.
-use mathlib.Core.Path.{_≡_}
+use mathlib.Core.Path.{_≡_, ap, _∙_}
 use mathlib.Core.List.{List}
-use Prim.Native.Nat.{ℕ, _+_, _≤_}
-use Rattle.model.specs.Written.{inRange, inRanges}
-use Rattle.model.specs.declared.FactCell.{FactCell}
-use Rattle.rows.specs.Slots.{names, lastRange}
-use Rattle.rows.specs.Wrote.{Wrote}
+use Prim.Native.Nat.{ℕ, _+_, _≤_, _<_}
+use native.Mathlib.Omega.{arith}
+use Rattle.model.specs.Sheet.{rangeStart, rangeLength}
+use Rattle.rows.specs.Slots.{rangeCount, rangeOf, lastRange}
+use Rattle.rows.specs.declared.SlotRange.{SlotRange}
 use Rattle.rows.specs.declared.Written.{Written}
 use Rattle.rows.specs.declared.Written.the-variants.{Span, Ranges}
 
 module _ {written : Written} where
-  pub span-wrote : (sheet : List ℕ) {start count : ℕ} {slots : List ℕ} {cell : ℕ → FactCell} {kinds values kinds′ values′ : List ℕ} → written ≡ Span start count
-      → Wrote slots (λ slot. inRange slot start count) cell kinds values kinds′ values′ → Wrote slots (names written sheet) cell kinds values kinds′ values′
-  unfolding names
-  span-wrote sheet e w = rw e w
+  pub span-count : {start count : ℕ} → written ≡ Span start count → 1 ≡ rangeCount written
+  unfolding rangeCount
+  span-count e = rw e
 
-  pub ranges-wrote : (sheet : List ℕ) {first count : ℕ} {slots : List ℕ} {cell : ℕ → FactCell} {kinds values kinds′ values′ : List ℕ} → written ≡ Ranges first count
-      → Wrote slots (λ slot. inRanges sheet slot first count) cell kinds values kinds′ values′ → Wrote slots (names written sheet) cell kinds values kinds′ values′
-  unfolding names
-  ranges-wrote sheet e w = rw e w
+  pub ranges-count : {first count : ℕ} → written ≡ Ranges first count → count ≡ rangeCount written
+  unfolding rangeCount
+  ranges-count e = rw e
 
-  pub ranges-fit : {first count bound : ℕ} → written ≡ Ranges first count → lastRange written ≤ bound → first + count ≤ bound
-  unfolding lastRange
-  ranges-fit e h = rw e at h
+  pub span-range : (sheet : List ℕ) (i : ℕ) {start count : ℕ} → written ≡ Span start count → record { start = start; count = count } ≡ rangeOf written sheet i
+  unfolding rangeOf
+  span-range sheet i e = rw e
+
+  module _ {first count : ℕ} (e : written ≡ Ranges first count) where
+    pub range-inside : {i bound : ℕ} → lastRange written ≤ bound → i < rangeCount written → first + i < bound
+    unfolding lastRange rangeCount
+    range-inside {i} {bound} h l = omega (arith, rw e at h, rw e at l)
+
+    pub sheet-range : (sheet : List ℕ) (i : ℕ) {start len : ℕ} → start ≡ rangeStart sheet (first + i) → len ≡ rangeLength sheet (first + i)
+        → record { start = start; count = len } ≡ rangeOf written sheet i
+    unfolding rangeOf
+    sheet-range sheet i s l = rw (e, s, l)

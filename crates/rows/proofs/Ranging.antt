@@ -17,8 +17,12 @@ use Rattle.model.specs.declared.FactCell.{FactCell}
 use Rattle.writes.proofs.InRange.{before, from-start}
 use Rattle.search.specs.Rows.{Bound}
 use Rattle.search.proofs.Ascending.{ascends-lt}
+use Rattle.rows.specs.Slots.{rangeCount, rangeOf, names}
+use Rattle.rows.specs.declared.SlotRange.{SlotRange}
+use Rattle.rows.specs.declared.Written.{Written}
+use Rattle.rows.specs.declared.Written.the-variants.{Span, Ranges}
 use Rattle.rows.specs.Wrote.{Wrote}
-use Rattle.rows.proofs.Writing.{Partly, partly-start, partly-more, partly-all, wrote, wrote-none, wrote-both}
+use Rattle.rows.proofs.Writing.{Partly, partly-start, partly-more, partly-all, wrote, wrote-none, wrote-both, wrote-as}
 
 -- ---- one range
 
@@ -80,6 +84,29 @@ module _ (slots : List ℕ) (start count : ℕ) (cell : ℕ → FactCell) (kinds
           later k u (inl q) = rw (sym q) l
           later k u (inr q) = omega (arith, ascends-lt slots asc j k q u)
 
+-- a range behind all slots
+pub wrote-beyond : (slots : List ℕ) → ((k : ℕ) → k < length slots → getD slots k 0 < 65536) → (start count : ℕ) (cell : ℕ → FactCell) (kinds values : List ℕ)
+    → length kinds ≡ length slots → length values ≡ length slots → ((k : ℕ) → k < length slots → getD slots k 0 < start)
+    → Wrote slots (λ slot. inRange slot start count) cell kinds values kinds values
+wrote-beyond slots below start count cell kinds values nk nv h =
+    wrote slots below (λ slot. inRange slot start count) cell kinds values nk nv kinds values refl refl
+    (λ k l. rw (← before (getD slots k 0) start count (h k (omega arith))))
+    (λ k l. rw (← before (getD slots k 0) start count (h k (omega arith))))
+
+-- no slots at all
+pub wrote-nowhere : (slots : List ℕ) (writes : ℕ → Bool) (cell : ℕ → FactCell) (kinds values : List ℕ) → length slots ≡ 0 → length kinds ≡ length slots → length values ≡ length slots
+    → Wrote slots writes cell kinds values kinds values
+wrote-nowhere slots writes cell kinds values none nk nv =
+    wrote slots (λ k l. absurd (omega arith)) writes cell kinds values nk nv kinds values refl refl (λ k l. absurd (omega arith)) (λ k l. absurd (omega arith))
+
+-- so, where the last slot lies before it
+pub last-below : (slots : List ℕ) (start : ℕ) → ascends slots ≡ true → getD slots (length slots - 1) 0 < start → (k : ℕ) → k < length slots → getD slots k 0 < start
+last-below slots start asc h k l = let m : k ≤ length slots - 1 = omega arith in go (eq-or-lt-of-le m)
+  where
+    go : (k ≡ length slots - 1) ⊎ (k < length slots - 1) → getD slots k 0 < start
+    go (inl q) = rw q h
+    go (inr q) = omega (arith, ascends-lt slots asc k (length slots - 1) q (omega arith))
+
 -- ---- several
 
 assoc : (a b c : Bool) → (a || (b || c)) ≡ ((a || b) || c)
@@ -89,6 +116,10 @@ assoc false b c = refl
 or-false : (a : Bool) → (a || false) ≡ a
 or-false true = refl
 or-false false = refl
+
+none-in-ranges : (sheet : List ℕ) (slot first : ℕ) → inRanges sheet slot first 0 ≡ false
+unfolding inRanges
+none-in-ranges sheet slot first = refl
 
 ranges-suc : (sheet : List ℕ) (slot first i : ℕ)
     → inRanges sheet slot first (suc i) ≡ inRanges sheet slot first i || inRange slot (rangeStart sheet (first + i)) (rangeLength sheet (first + i))
@@ -103,34 +134,45 @@ ranges-suc sheet slot first (suc i) =
     (inRanges sheet slot (suc first) i)
     (inRange slot (rangeStart sheet (suc first + i)) (rangeLength sheet (suc first + i))))
 
--- one range more, behind the others
-pub ranges-more : (sheet : List ℕ) (slot first i : ℕ)
-    → inRanges sheet slot first (i + 1) ≡ inRanges sheet slot first i || inRange slot (rangeStart sheet (first + i)) (rangeLength sheet (first + i))
-ranges-more sheet slot first i = ap (inRanges sheet slot first) (add-one i) ∙ ranges-suc sheet slot first i
+-- whether a slot is in one of the first i ranges
+unfoldable pub among : Written → List ℕ → ℕ → ℕ → Bool
+among w sheet zero slot = false
+among w sheet (suc i) slot = among w sheet i slot || inRange slot (rangeOf w sheet i .start) (rangeOf w sheet i .count)
+
+-- it is in one of all
+among-all : (w : Written) (sheet : List ℕ) (slot : ℕ) → among w sheet (rangeCount w) slot ≡ names w sheet slot
+unfolding among rangeCount rangeOf names
+among-all (Span start count) sheet slot = refl
+among-all (Ranges first count) sheet slot = go count
+  where
+    go : (i : ℕ) → among (Ranges first count) sheet i slot ≡ inRanges sheet slot first i
+    go zero = sym (none-in-ranges sheet slot first)
+    go (suc i) = ap (λ (t : Bool). t || inRange slot (rangeStart sheet (first + i)) (rangeLength sheet (first + i))) (go i) ∙ sym (ranges-suc sheet slot first i)
 
 -- i of the ranges are written
-pub record Ranging (sheet slots : List ℕ) (first count : ℕ) (cell : ℕ → FactCell) (kinds values kinds′ values′ : List ℕ) (i : ℕ) : Type 0 where
-  pub within : i ≤ count
+pub record Ranging (w : Written) (sheet slots : List ℕ) (cell : ℕ → FactCell) (kinds values kinds′ values′ : List ℕ) (i : ℕ) : Type 0 where
+  pub within : i ≤ rangeCount w
   pub kinds-long : length kinds ≡ length slots
-  pub is : Wrote slots (λ slot. inRanges sheet slot first i) cell kinds values kinds′ values′
+  pub is : Wrote slots (among w sheet i) cell kinds values kinds′ values′
 
-module _ (sheet slots : List ℕ) (below : (k : ℕ) → k < length slots → getD slots k 0 < 65536) (first count : ℕ) (cell : ℕ → FactCell) (kinds values : List ℕ) where
-  pub ranging-start : length kinds ≡ length slots → length values ≡ length slots → Ranging sheet slots first count cell kinds values kinds values 0
-  unfolding inRanges
+module _ (w : Written) (sheet slots : List ℕ) (below : (k : ℕ) → k < length slots → getD slots k 0 < 65536) (cell : ℕ → FactCell) (kinds values : List ℕ) where
+  pub ranging-start : length kinds ≡ length slots → length values ≡ length slots → Ranging w sheet slots cell kinds values kinds values 0
+  unfolding among
   ranging-start nk nv = record {
     within = omega arith;
     kinds-long = nk;
-    is = wrote-none slots below (λ slot. inRanges sheet slot first 0) cell kinds values nk nv (λ slot. refl);
+    is = wrote-none slots below (among w sheet 0) cell kinds values nk nv (λ slot. refl);
   }
 
-  module _ {kinds′ values′ : List ℕ} {i : ℕ} (r : Ranging sheet slots first count cell kinds values kinds′ values′ i) where
-    pub ranging-more : {start len : ℕ} {kinds″ values″ : List ℕ} → i < count → start ≡ rangeStart sheet (first + i) → len ≡ rangeLength sheet (first + i)
-        → Wrote slots (λ slot. inRange slot start len) cell kinds′ values′ kinds″ values″ → Ranging sheet slots first count cell kinds values kinds″ values″ (i + 1)
-    ranging-more h s l w = record {
+  module _ {kinds′ values′ : List ℕ} {i : ℕ} (r : Ranging w sheet slots cell kinds values kinds′ values′ i) where
+    pub ranging-more : {kinds″ values″ : List ℕ} {range : SlotRange} → i < rangeCount w → range ≡ rangeOf w sheet i
+        → Wrote slots (λ slot. inRange slot (range .start) (range .count)) cell kinds′ values′ kinds″ values″ → Ranging w sheet slots cell kinds values kinds″ values″ (i + 1)
+    unfolding among
+    ranging-more h e u = record {
       within = omega arith;
       kinds-long = r .kinds-long;
-      is = wrote-both (λ slot. inRanges sheet slot first (i + 1)) below (r .kinds-long) (λ slot. rw (s, l) (ranges-more sheet slot first i)) (r .is) w;
+      is = wrote-both (among w sheet (i + 1)) below (r .kinds-long) (λ slot. rw (add-one i, e)) (r .is) u;
     }
 
-    pub ranging-all : count ≤ i → Wrote slots (λ slot. inRanges sheet slot first count) cell kinds values kinds′ values′
-    ranging-all h = let e : i ≡ count = omega (arith, r .within) in rw (sym e) (r .is)
+    pub ranging-all : rangeCount w ≤ i → Wrote slots (names w sheet) cell kinds values kinds′ values′
+    ranging-all h = let e : i ≡ rangeCount w = omega (arith, r .within) in wrote-as (λ slot. rw e (among-all w sheet slot)) (r .is)

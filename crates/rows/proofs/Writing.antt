@@ -142,6 +142,15 @@ module _ (slots : List ℕ) (below : (k : ℕ) → k < length slots → getD slo
   pub wrote-none : ((slot : ℕ) → writes slot ≡ false) → Wrote slots writes cell kinds values kinds values
   wrote-none h = wrote kinds values refl refl (λ k l. rw (h (getD slots k 0))) (λ k l. rw (h (getD slots k 0)))
 
+-- where another test holds of the same slots
+pub wrote-as : {slots : List ℕ} {writes test : ℕ → Bool} {cell : ℕ → FactCell} {kinds values kinds′ values′ : List ℕ} → ((slot : ℕ) → writes slot ≡ test slot)
+    → Wrote slots writes cell kinds values kinds′ values′ → Wrote slots test cell kinds values kinds′ values′
+wrote-as e w = record {
+  row = λ row other fact l same cells. w .row row other fact l (λ slot h. e slot ∙ same slot h) cells;
+  kinds-long = w .kinds-long;
+  values-long = w .values-long;
+}
+
 -- first where one test holds, then where another does
 both : (s t : Bool) (x y : Fact) → replaced t (replaced s x y) y ≡ replaced (s || t) x y
 unfolding replaced

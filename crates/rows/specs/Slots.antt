@@ -4,8 +4,10 @@ use mathlib.Core.Path.{_≡_}
 use mathlib.Core.Bool.{Bool}
 use mathlib.Core.List.{List}
 use Prim.Native.Nat.{ℕ, _+_, _≤_, _<_}
+use Rattle.model.specs.Sheet.{rangeStart, rangeLength}
 use Rattle.model.specs.Written.{inRange, inRanges}
 use Rattle.sheet.specs.declared.Sizes.{Sizes}
+use Rattle.rows.specs.declared.SlotRange.{SlotRange}
 use Rattle.rows.specs.declared.Written.{Written}
 use Rattle.rows.specs.declared.Written.the-variants.{Span, Ranges}
 
@@ -13,6 +15,16 @@ use Rattle.rows.specs.declared.Written.the-variants.{Span, Ranges}
 unfoldable pub names : Written → List ℕ → ℕ → Bool
 names (Span start count) sheet slot = inRange slot start count
 names (Ranges first count) sheet slot = inRanges sheet slot first count
+
+-- how many ranges they are
+unfoldable pub rangeCount : Written → ℕ
+rangeCount (Span start count) = 1
+rangeCount (Ranges first count) = count
+
+-- the i-th of them
+unfoldable pub rangeOf : Written → List ℕ → ℕ → SlotRange
+rangeOf (Span start count) sheet i = record { start = start; count = count }
+rangeOf (Ranges first count) sheet i = record { start = rangeStart sheet (first + i); count = rangeLength sheet (first + i) }
 
 -- the end of the ranges
 unfoldable pub lastRange : Written → ℕ

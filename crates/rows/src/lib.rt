@@ -1,9 +1,9 @@
 // Facts written into a row, slot by slot, from the row before.
 ghost use mathlib.Core.Path.{_≡_};
-ghost use Prim.Native.Nat.{_+_, _<_, _≤_};
-ghost use lib.ListN.{length};
+ghost use Prim.Native.Nat.{_-_, _<_, _≤_};
+ghost use lib.ListN.{length, getD};
 ghost use Rattle.model.specs.Tables.{factsOf};
-ghost use Rattle.model.specs.Written.{inRange, inRanges};
+ghost use Rattle.model.specs.Written.{inRange};
 ghost use Rattle.sheet.specs.Measured.{Measured};
 ghost use Rattle.model.specs.Lookup.{ascends};
 ghost use mathlib.Core.Bool.{true};
@@ -11,7 +11,7 @@ ghost use lib.Dec.{eqb};
 ghost use Rattle.effects.specs.Effect.{effectCell};
 ghost use Rattle.search.specs.Rows.{Tracked};
 ghost use Rattle.rows.specs.Wrote.{Wrote};
-ghost use Rattle.rows.specs.Slots.{names, lastRange};
+ghost use Rattle.rows.specs.Slots.{rangeCount, rangeOf, names, lastRange};
 use effects::Effect;
 use effects::effect_on_slot;
 use model::FactCell;
@@ -25,9 +25,40 @@ pub enum Written {
     Ranges { first: usize, count: usize },
 }
 
-// The tracked slots from start up to but not including start + count become what the effect makes of them.
+// One range of slots.
+struct SlotRange {
+    start: u16,
+    count: u64,
+}
+
+// How many ranges they are.
+fn range_count(written: Written) -> usize
+    ensures { λ r. ⌜ r ≡ rangeCount written ⌝ }
+{
+    match written {
+        Written::Span { start: _, count: _ } => 1,
+        Written::Ranges { first: _, count } => count,
+    }
+}
+
+// The i-th of them.
+fn range_of(written: Written, sheet: &[u8], sizes: Sizes, i: usize) -> SlotRange
+    requires { ⌜ Measured (now sheet) sizes × (lastRange written ≤ sizes .«range_count») × (i < rangeCount written) ⌝ }
+    ensures { λ r. ⌜ r ≡ rangeOf written (now (sheet .entry)) i ⌝ }
+{
+    match written {
+        Written::Span { start, count } => SlotRange { start, count },
+        Written::Ranges { first, count: _ } => SlotRange {
+            start: code::range_start_at(sheet, sizes, first + i),
+            count: code::range_length_at(sheet, sizes, first + i) as u64,
+        },
+    }
+}
+
+// The tracked slots from start up to but not including start + count become what the effect makes of them. last is the last of the slots.
 fn write_range(
     effect: Effect,
+    last: u16,
     slots: &[u16],
     kinds: &[u8],
     values: &[u64],
@@ -36,9 +67,13 @@ fn write_range(
     out_kinds: &mut [u8],
     out_values: &mut [u64],
 )
-    requires { ⌜ Tracked (now slots) (now kinds) (now values) × (length (now «out_kinds») ≡ length (now slots)) × (length (now «out_values») ≡ length (now slots)) ⌝ }
+    requires { ⌜ Tracked (now slots) (now kinds) (now values) × (length (now «out_kinds») ≡ length (now slots)) × (length (now «out_values») ≡ length (now slots)) × (last ≡ getD (now slots) (length (now slots) - 1) 0) ⌝ }
     ensures { λ r. ⌜ Wrote (now (slots .entry)) (λ slot. inRange slot start count) (effectCell effect (now (slots .entry)) (factsOf (now (kinds .entry)) (now (values .entry)))) (now («out_kinds» .entry)) (now («out_values» .entry)) (now («out_kinds» .exit)) (now («out_values» .exit)) ⌝ }
 {
+    // most ranges that a call writes lie beyond what is tracked
+    if last < start {
+        return;
+    }
     let mut j = lower_bound(slots, wide(start));
     while j < slots.len() {
         let slot = slots[j];
@@ -52,42 +87,7 @@ fn write_range(
     }
 }
 
-// The same for count ranges of the sheet, from the range first on.
-fn write_ranges(
-    effect: Effect,
-    sheet: &[u8],
-    sizes: Sizes,
-    slots: &[u16],
-    kinds: &[u8],
-    values: &[u64],
-    first: usize,
-    count: usize,
-    out_kinds: &mut [u8],
-    out_values: &mut [u64],
-)
-    requires { ⌜ Measured (now sheet) sizes × (first + count ≤ sizes .«range_count») ⌝ }
-    requires { ⌜ Tracked (now slots) (now kinds) (now values) × (length (now «out_kinds») ≡ length (now slots)) × (length (now «out_values») ≡ length (now slots)) ⌝ }
-    ensures { λ r. ⌜ Wrote (now (slots .entry)) (λ slot. inRanges (now (sheet .entry)) slot first count) (effectCell effect (now (slots .entry)) (factsOf (now (kinds .entry)) (now (values .entry)))) (now («out_kinds» .entry)) (now («out_values» .entry)) (now («out_kinds» .exit)) (now («out_values» .exit)) ⌝ }
-{
-    let mut i = 0;
-    while i < count {
-        let start = code::range_start_at(sheet, sizes, first + i);
-        let length = code::range_length_at(sheet, sizes, first + i) as u64;
-        write_range(
-            effect,
-            slots,
-            kinds,
-            values,
-            start,
-            length,
-            out_kinds,
-            out_values,
-        );
-        i += 1;
-    }
-}
-
-// The same for all that an instruction writes.
+// All slots that an instruction writes, range after range. One call of write_range serves both forms, so that it is inlined.
 pub fn write_slots(
     effect: Effect,
     written: Written,
@@ -103,33 +103,27 @@ pub fn write_slots(
     requires { ⌜ Tracked (now slots) (now kinds) (now values) × (length (now «out_kinds») ≡ length (now slots)) × (length (now «out_values») ≡ length (now slots)) ⌝ }
     ensures { λ r. ⌜ Wrote (now (slots .entry)) (names written (now (sheet .entry))) (effectCell effect (now (slots .entry)) (factsOf (now (kinds .entry)) (now (values .entry)))) (now («out_kinds» .entry)) (now («out_values» .entry)) (now («out_kinds» .exit)) (now («out_values» .exit)) ⌝ }
 {
-    match written {
-        Written::Span { start, count } => {
-            write_range(
-                effect,
-                slots,
-                kinds,
-                values,
-                start,
-                count,
-                out_kinds,
-                out_values,
-            );
-        }
-        Written::Ranges { first, count } => {
-            write_ranges(
-                effect,
-                sheet,
-                sizes,
-                slots,
-                kinds,
-                values,
-                first,
-                count,
-                out_kinds,
-                out_values,
-            );
-        }
+    let len = slots.len();
+    if len == 0 {
+        return;
+    }
+    let last = slots[len - 1];
+    let n = range_count(written);
+    let mut i = 0;
+    while i < n {
+        let range = range_of(written, sheet, sizes, i);
+        write_range(
+            effect,
+            last,
+            slots,
+            kinds,
+            values,
+            range.start,
+            range.count,
+            out_kinds,
+            out_values,
+        );
+        i += 1;
     }
 }
 

@@ -5,27 +5,31 @@ use lib.ListN.{length}
 use borrow.Author.Needs.{needs}
 use Rattle.model.specs.Tables.{factsOf}
 use Rattle.effects.specs.Effect.{effectCell}
-use Rattle.rows.proofs.Ranging.{Writing, writing-start, writing-more, written-all, written-range}
+use Rattle.rows.proofs.Ranging.{Writing, writing-start, writing-more, written-all, written-range, wrote-beyond, last-below}
 use Rattle.rows.proofs.write_range.Statement.{statement}
 use Rattle.rows.proofs.write_range.Tie as tie
 
 abbrev Inv-loop : tie.InvT-loop
-Inv-loop effect slots kinds values start count out-kinds₀ out-values₀ j₀ out-kinds out-values j =
+Inv-loop effect last slots kinds values start count out-kinds₀ out-values₀ j₀ out-kinds out-values j =
     Writing slots start count (effectCell effect slots (factsOf kinds values)) out-kinds₀ out-values₀ out-kinds out-values j
 
 abbrev μ-loop : tie.MeasureT-loop
-μ-loop effect slots kinds values start count out-kinds₀ out-values₀ j₀ out-kinds out-values j = length slots - j
+μ-loop effect last slots kinds values start count out-kinds₀ out-values₀ j₀ out-kinds out-values j = length slots - j
+
+returns : tie.Need-returns Inv-loop μ-loop
+returns c =
+    let asked = c .before .before .before .before .before .before .pre in
+    wrote-beyond (c .before .before .before .before .before .before .args .slots .now) (λ k l. omega (arith, c .before .before .before .before .before .shared-slice-known .given k)) _ _ _ _ _ (asked .1) (asked .2)
+    (last-below (c .before .before .before .before .before .before .args .slots .now) _ (asked .0 .ascending) (omega (arith, asked .3, c .if1 .taken)))
 
 wide-requires : tie.Need-wide-requires Inv-loop μ-loop
 wide-requires c κs = search needs
 
 lower-bound-requires : tie.Need-lower-bound-requires Inv-loop μ-loop
-lower-bound-requires c κs = c .before .before .before .before .before .before .pre .0 .ascending
+lower-bound-requires c κs = c .before .before .before .before .before .before .before .pre .0 .ascending
 
 loop-holds : tie.Need-loop-holds Inv-loop μ-loop
-loop-holds c =
-    let s = c .before .before .before .before .before .before .before in
-    writing-start _ _ _ _ _ _ _ (s .pre .1) (s .pre .2) (rw (c .before .wide .ensures .0) at (c .lower-bound .ensures))
+loop-holds c = writing-start _ _ _ _ _ _ _ (c .before .before .before .before .before .before .before .before .pre .1) (c .before .before .before .before .before .before .before .before .pre .2) (rw (c .before .wide .ensures .0) at (c .lower-bound .ensures))
 
 mul-slot : tie.Need-mul-slot Inv-loop μ-loop
 mul-slot c = omega arith
@@ -33,11 +37,11 @@ mul-slot c = omega arith
 shared-slice-read-slot : tie.Need-shared-slice-read-slot Inv-loop μ-loop
 shared-slice-read-slot c = omega arith
 
-sub-if1 : tie.Need-sub-if1 Inv-loop μ-loop
-sub-if1 c = omega (arith, c .before .before .loop .inv .from (c .before .before .loop .j) (omega arith) (c .before .loop-test .taken))
+sub-if2 : tie.Need-sub-if2 Inv-loop μ-loop
+sub-if2 c = omega (arith, c .before .before .loop .inv .from (c .before .before .loop .j) (omega arith) (c .before .loop-test .taken))
 
-cast-if1 : tie.Need-cast-if1 Inv-loop μ-loop
-cast-if1 c = omega (arith, c .shared-slice-known4 .given (c .before .before .loop .j))
+cast-if2 : tie.Need-cast-if2 Inv-loop μ-loop
+cast-if2 c = omega (arith, c .shared-slice-known4 .given (c .before .before .loop .j))
 
 same-length : tie.Need-same-length Inv-loop μ-loop
 same-length c = omega arith
@@ -45,11 +49,13 @@ same-length c = omega arith
 same-length-2 : tie.Need-same-length-2 Inv-loop μ-loop
 same-length-2 c = omega arith
 
-returns : tie.Need-returns Inv-loop μ-loop
-returns c = written-range _ _ _ _ _ _ (c .before .before .before .loop .inv) (λ k l. omega (arith, c .before .before .before .before .before .before .before .before .before .before .shared-slice-known .given k)) (c .before .before .before .before .before .before .before .before .before .before .before .pre .0 .ascending) (c .before .before .loop-test .taken) (c .if1 .taken)
+returns-2 : tie.Need-returns-2 Inv-loop μ-loop
+returns-2 c =
+    written-range _ _ _ _ _ _ (c .before .before .before .loop .inv) (λ k l. omega (arith, c .before .before .before .before .before .before .before .before .before .before .before .shared-slice-known .given k)) (c .before .before .before .before .before .before .before .before .before .before .before .before .pre .0 .ascending)
+    (c .before .before .loop-test .taken) (c .if2 .taken)
 
 effect-on-slot-requires : tie.Need-effect-on-slot-requires Inv-loop μ-loop
-effect-on-slot-requires c κs = c .before .before .before .before .before .before .before .before .before .before .before .pre .0
+effect-on-slot-requires c κs = c .before .before .before .before .before .before .before .before .before .before .before .before .pre .0
 
 slice-write-out-kinds : tie.Need-slice-write-out-kinds Inv-loop μ-loop
 slice-write-out-kinds c = omega arith
@@ -67,7 +73,7 @@ loop-less : tie.Need-loop-less Inv-loop μ-loop
 loop-less c = omega arith
 
 loop-again : tie.Need-loop-again Inv-loop μ-loop
-loop-again c = writing-more _ _ _ _ _ _ (c .before .before .before .before .loop .inv) (c .before .before .before .loop-test .taken) (c .before .if1 .left) (c .effect-on-slot .ensures)
+loop-again c = writing-more _ _ _ _ _ _ (c .before .before .before .before .loop .inv) (c .before .before .before .loop-test .taken) (c .before .if2 .left) (c .effect-on-slot .ensures)
 
 same-length-3 : tie.Need-same-length-3 Inv-loop μ-loop
 same-length-3 c = omega arith
@@ -75,8 +81,8 @@ same-length-3 c = omega arith
 same-length-4 : tie.Need-same-length-4 Inv-loop μ-loop
 same-length-4 c = omega arith
 
-returns-2 : tie.Need-returns-2 Inv-loop μ-loop
-returns-2 c = written-all _ _ _ _ _ _ (c .before .loop .inv) (λ k l. omega (arith, c .before .before .before .before .before .before .before .before .shared-slice-known .given k)) (c .loop-test .left)
+returns-3 : tie.Need-returns-3 Inv-loop μ-loop
+returns-3 c = written-all _ _ _ _ _ _ (c .before .loop .inv) (λ k l. omega (arith, c .before .before .before .before .before .before .before .before .before .shared-slice-known .given k)) (c .loop-test .left)
 
 pub write-range-spec : {M : Type 1} → statement M
 write-range-spec =
@@ -84,16 +90,17 @@ write-range-spec =
     (tie.spec
     Inv-loop
     μ-loop
+    returns
     wide-requires
     lower-bound-requires
     loop-holds
     mul-slot
     shared-slice-read-slot
-    sub-if1
-    cast-if1
+    sub-if2
+    cast-if2
     same-length
     same-length-2
-    returns
+    returns-2
     effect-on-slot-requires
     slice-write-out-kinds
     mul-out-values
@@ -103,4 +110,4 @@ write-range-spec =
     loop-again
     same-length-3
     same-length-4
-    returns-2)
+    returns-3)

@@ -1,52 +1,90 @@
--- `rows::write_slots` meets its contract: one range, or several. Assumes nothing.
+-- `rows::write_slots` meets its contract: each turn is one range more. Assumes nothing.
+use mathlib.Core.Path.{refl}
+use Prim.Native.Nat.{_-_}
+use native.Mathlib.Omega.{arith}
 use borrow.Author.Needs.{needs}
-use Rattle.rows.proofs.Named.{span-wrote, ranges-wrote, ranges-fit}
+use Rattle.model.specs.Tables.{factsOf}
+use Rattle.effects.specs.Effect.{effectCell}
+use Rattle.rows.proofs.Ranging.{wrote-nowhere, Ranging, ranging-start, ranging-more, ranging-all}
 use Rattle.rows.proofs.write_slots.Statement.{statement}
 use Rattle.rows.proofs.write_slots.Tie as tie
 
-enum-known-written : tie.Need-enum-known-written
-enum-known-written c = search needs
+abbrev Inv-loop : tie.InvT-loop
+Inv-loop effect written sheet sizes slots kinds values out-kinds₀ out-values₀ len last n i₀ out-kinds out-values i =
+    Ranging written sheet slots (effectCell effect slots (factsOf kinds values)) out-kinds₀ out-values₀ out-kinds out-values i
 
-write-range-requires : tie.Need-write-range-requires
-write-range-requires c κs = search needs
+abbrev μ-loop : tie.MeasureT-loop
+μ-loop effect written sheet sizes slots kinds values out-kinds₀ out-values₀ len last n i₀ out-kinds out-values i = n - i
 
-enum-known-written-2 : tie.Need-enum-known-written-2
-enum-known-written-2 c = search needs
+returns : tie.Need-returns Inv-loop μ-loop
+returns c = wrote-nowhere (c .before .before .before .before .before .before .before .args .slots .now) _ _ _ _ (c .if1 .taken) (c .before .before .before .before .before .before .before .pre .1 .1) (c .before .before .before .before .before .before .before .pre .1 .2)
 
-write-ranges-requires : tie.Need-write-ranges-requires
-write-ranges-requires c κs =
+sub-last : tie.Need-sub-last Inv-loop μ-loop
+sub-last c = omega arith
+
+mul-last : tie.Need-mul-last Inv-loop μ-loop
+mul-last c = omega arith
+
+shared-slice-read-last : tie.Need-shared-slice-read-last Inv-loop μ-loop
+shared-slice-read-last c = omega arith
+
+range-count-requires : tie.Need-range-count-requires Inv-loop μ-loop
+range-count-requires c κs = search needs
+
+loop-holds : tie.Need-loop-holds Inv-loop μ-loop
+loop-holds c =
+    let s = c .before .before .before .before .before .before .before .before .before in
+    ranging-start (s .args .written) (s .args .sheet .now) (s .args .slots .now) (λ k l. omega (arith, c .before .before .before .before .before .before .before .shared-slice-known2 .given k)) _ (s .args .out-kinds .now)
+    (s .args .out-values .now) (s .pre .1 .1) (s .pre .1 .2)
+
+range-of-requires : tie.Need-range-of-requires Inv-loop μ-loop
+range-of-requires c κs = (c .before .before .before .before .before .before .before .before .before .before .before .pre .0 .0, c .before .before .before .before .before .before .before .before .before .before .before .pre .0 .1, omega (arith, c .loop-test .taken, c .before .before .range-count .ensures))
+
+write-range-requires : tie.Need-write-range-requires Inv-loop μ-loop
+write-range-requires c κs = let is = c .before .before .before .before .loop .inv .is in (c .before .before .before .before .before .before .before .before .before .before .before .before .before .before .pre .1 .0, is .kinds-long, is .values-long, refl)
+
+add-i : tie.Need-add-i Inv-loop μ-loop
+add-i c = omega (arith, c .before .before .before .before .before .before .before .before .loop-test .taken)
+
+loop-less : tie.Need-loop-less Inv-loop μ-loop
+loop-less c = omega (arith, c .before .before .before .before .before .before .before .before .loop-test .taken)
+
+loop-again : tie.Need-loop-again Inv-loop μ-loop
+loop-again c =
+    let s = c .before .before .before .before .before .before .before .before .before .before .before .before .before .before .before .before .before .before .before in
+    ranging-more (s .args .written) (s .args .sheet .now) (s .args .slots .now) (λ k l. omega (arith, c .before .before .before .before .before .before .before .before .before .before .before .before .before .before .before .before .before .shared-slice-known2 .given k)) _ (s .args .out-kinds .now)
+    (s .args .out-values .now) (c .before .before .before .before .before .before .before .before .before .loop .inv) (omega (arith, c .before .before .before .before .before .before .before .before .loop-test .taken, c .before .before .before .before .before .before .before .before .before .before .range-count .ensures)) (c .before .before .before .before .before .before .before .range-of .ensures)
+    (c .before .before .before .before .write-range .ensures)
+
+same-length : tie.Need-same-length Inv-loop μ-loop
+same-length c = omega (arith, c .before .loop .inv .is .kinds-long, c .before .before .before .before .before .before .before .before .before .before .before .pre .1 .1)
+
+same-length-2 : tie.Need-same-length-2 Inv-loop μ-loop
+same-length-2 c = omega (arith, c .before .loop .inv .is .values-long, c .before .before .before .before .before .before .before .before .before .before .before .pre .1 .2)
+
+returns-2 : tie.Need-returns-2 Inv-loop μ-loop
+returns-2 c =
     let s = c .before .before .before .before .before .before .before .before .before .before .before in
-    ((s .pre .0 .0, ranges-fit (c .before .before .before .written2 .given .1) (s .pre .0 .1)), s .pre .1)
-
-same-length : tie.Need-same-length
-same-length c = search needs
-
-same-length-2 : tie.Need-same-length-2
-same-length-2 c = search needs
-
-returns : tie.Need-returns
-returns c = span-wrote (c .before .before .before .before .before .before .before .before .before .before .before .before .before .before .before .before .args .sheet .now) (c .before .before .before .before .before .before .before .before .written .given .1) (c .before .before .before .before .write-range .ensures)
-
-same-length-3 : tie.Need-same-length-3
-same-length-3 c = search needs
-
-same-length-4 : tie.Need-same-length-4
-same-length-4 c = search needs
-
-returns-2 : tie.Need-returns-2
-returns-2 c = ranges-wrote (c .before .before .before .before .before .before .before .before .before .before .before .before .before .before .before .before .args .sheet .now) (c .before .before .before .before .before .before .before .before .written2 .given .1) (c .before .before .before .before .write-ranges .ensures)
+    ranging-all (s .args .written) (s .args .sheet .now) (s .args .slots .now) (λ k l. omega (arith, c .before .before .before .before .before .before .before .before .before .shared-slice-known2 .given k)) _ (s .args .out-kinds .now)
+    (s .args .out-values .now) (c .before .loop .inv) (omega (arith, c .loop-test .left, c .before .before .range-count .ensures))
 
 pub write-slots-spec : {M : Type 1} → statement M
 write-slots-spec =
     tie.close
     (tie.spec
-    enum-known-written
+    Inv-loop
+    μ-loop
+    returns
+    sub-last
+    mul-last
+    shared-slice-read-last
+    range-count-requires
+    loop-holds
+    range-of-requires
     write-range-requires
-    enum-known-written-2
-    write-ranges-requires
+    add-i
+    loop-less
+    loop-again
     same-length
     same-length-2
-    returns
-    same-length-3
-    same-length-4
     returns-2)
