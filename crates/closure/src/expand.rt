@@ -144,7 +144,7 @@ pub fn expand(
     if sizes.code_count < 33 {
         return expand_short(which, sheet, sizes, resources, marks, stack);
     }
-    let mut heads = [0u16; 1024];
+    let mut heads = [0u16; 2048];
     let mut nexts = [0u16; 8192];
     let mut pcs = [0u16; 8192];
     let from = build(sheet, sizes, &mut heads, &mut nexts, &mut pcs);

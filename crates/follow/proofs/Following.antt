@@ -284,6 +284,6 @@ module _ (sheet : List ℕ) (d : ℕ) where
         rw (e, all) at (follows-on bit (collect (edgesAt sheet d) from) (w .es) p (w .follows))
 
 -- the chain of a slot's bucket
-pub chain-of : {sheet heads nexts pcs : List ℕ} {from : ℕ} → Chained sheet heads nexts pcs from → (d : ℕ) {l k : ℕ} → l ≡ localSlots sheet → d < l → k ≡ bucket l d
+pub chain-of : {sheet heads nexts pcs : List ℕ} {from : ℕ} → Chained sheet heads nexts pcs from → (d : ℕ) {l k : ℕ} → l ≡ localSlots sheet → d < l → k ≡ bucket d
     → Chain sheet nexts pcs d (getD heads k 0) from
-chain-of c d e h k = rw (k, e) (c .chain d (rw e at h))
+chain-of c d e h k = rw k (c .chain d (rw e at h))

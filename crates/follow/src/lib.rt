@@ -180,7 +180,7 @@ pub fn follow_edges(
     if sizes.code_count <= from {
         return followed;
     }
-    let k = bucket_of(l, d);
+    let k = bucket_of(d);
     let mut link = heads[k] as usize;
     while 0 < link {
         let i = link - 1;

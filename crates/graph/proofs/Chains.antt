@@ -41,14 +41,14 @@ outside-or-inside b k = go (below-or-not k (b .first)) (below-or-not k (b .first
 -- an instruction has no edge to a slot whose bucket is not among its own
 module _ (l d : ℕ) (inst : Instruction) (small : d < l) where
   buckets-miss : (t : Bool) → ltb (inst .a) (endOf l inst) ≡ t
-      → (bucket l d < bucketsIf t l (inst .a) (endOf l inst) .first) ⊎ (bucketsIf t l (inst .a) (endOf l inst) .first + bucketsIf t l (inst .a) (endOf l inst) .count ≤ bucket l d)
+      → (bucket d < bucketsIf t (inst .a) (endOf l inst) .first) ⊎ (bucketsIf t (inst .a) (endOf l inst) .first + bucketsIf t (inst .a) (endOf l inst) .count ≤ bucket d)
       → (d < inst .a) ⊎ (inst .a + dependence inst .span ≤ d)
   unfolding bucketsIf
-  buckets-miss true e (inl h) = inl (bucket-below l d (inst .a) h)
+  buckets-miss true e (inl h) = inl (bucket-below d (inst .a) h)
   buckets-miss true e (inr h) =
       let some : inst .a < endOf l inst = ltb-true _ _ e in
-      let up = bucket-order l (inst .a) (endOf l inst - 1) (omega arith) in
-      let past = bucket-below l (endOf l inst - 1) d (omega arith) in
+      let up = bucket-order (inst .a) (endOf l inst - 1) (omega arith) in
+      let past = bucket-below (endOf l inst - 1) d (omega arith) in
       inr (omega arith)
   buckets-miss false e h = go (below-or-not d (inst .a))
     where
@@ -56,7 +56,7 @@ module _ (l d : ℕ) (inst : Instruction) (small : d < l) where
       go (inl k) = inl k
       go (inr k) = let none : endOf l inst ≤ inst .a = ltb-false _ _ e in inr (omega arith)
 
-  pub outside-none : (bucket l d < bucketsOf l inst .first) ⊎ (bucketsOf l inst .first + bucketsOf l inst .count ≤ bucket l d) → edgesInto d (instructionEdges l inst) ≡ []
+  pub outside-none : (bucket d < bucketsOf l inst .first) ⊎ (bucketsOf l inst .first + bucketsOf l inst .count ≤ bucket d) → edgesInto d (instructionEdges l inst) ≡ []
   unfolding bucketsOf
   outside-none h = span-misses l d inst (buckets-miss _ refl h)
 
@@ -91,11 +91,11 @@ module _ (sheet : List ℕ) (d : ℕ) where
 module _ (sheet : List ℕ) where
   -- what the tables tell of d, from instruction pc on
   abbrev At : ℕ → ℕ → Links → Type 0
-  At d pc t = Chain sheet (t .nexts) (t .pcs) d (getD (t .heads) (bucket (localSlots sheet) d) 0) pc
+  At d pc t = Chain sheet (t .nexts) (t .pcs) d (getD (t .heads) (bucket d) 0) pc
 
   -- a head is a link that is used, or none
   record Filled (t : Links) : Type 0 where
-    wide : length (t .heads) ≡ 1024
+    wide : length (t .heads) ≡ 2048
     paired : length (t .pcs) ≡ length (t .nexts)
     few : length (t .nexts) ≤ 65535
     room : t .used ≤ length (t .nexts)
@@ -103,7 +103,7 @@ module _ (sheet : List ℕ) where
 
   module _ (pc : ℕ) (code : pc < codeCount sheet) where
     module _ (k : ℕ) (t : Links) (f : Filled t) (more : t .used < length (t .nexts)) where
-      link-filled : k < 1024 → Filled (link pc k t)
+      link-filled : k < 2048 → Filled (link pc k t)
       unfolding link
       link-filled h = record {
         wide = length-set (t .heads) k (t .used + 1) ∙ f .wide;
@@ -117,18 +117,18 @@ module _ (sheet : List ℕ) where
           go j true e = rw (eqb-true j k e, getD-set-same (t .heads) k (t .used + 1) 0 (omega (arith, f .wide))) (omega arith)
           go j false e = rw (getD-set-other (t .heads) k j (t .used + 1) 0 (eqb-false j k e)) (omega (arith, f .below j))
 
-      link-kept : (d lo : ℕ) → (bucket (localSlots sheet) d ≡ k → ⊥) → At d lo t → At d lo (link pc k t)
+      link-kept : (d lo : ℕ) → (bucket d ≡ k → ⊥) → At d lo t → At d lo (link pc k t)
       unfolding link
       link-kept d lo apart c =
-          rw (getD-set-other (t .heads) k (bucket (localSlots sheet) d) (t .used + 1) 0 apart)
+          rw (getD-set-other (t .heads) k (bucket d) (t .used + 1) 0 apart)
           (chain-kept sheet d (t .used) (getD (t .heads) k 0) pc (f .below _) c)
 
-      link-linked : (d : ℕ) → bucket (localSlots sheet) d ≡ k → k < 1024 → At d (suc pc) t → At d pc (link pc k t)
+      link-linked : (d : ℕ) → bucket d ≡ k → k < 2048 → At d (suc pc) t → At d pc (link pc k t)
       unfolding link
       link-linked d same h c =
           let n = getD-set-same (t .nexts) (t .used) (getD (t .heads) k 0) 0 more in
           let p = getD-set-same (t .pcs) (t .used) pc 0 (omega (arith, f .paired)) in
-          let e : getD (set (t .heads) k (t .used + 1)) (bucket (localSlots sheet) d) 0 ≡ suc (t .used) =
+          let e : getD (set (t .heads) k (t .used + 1)) (bucket d) 0 ≡ suc (t .used) =
           rw (same, getD-set-same (t .heads) k (t .used + 1) 0 (omega (arith, f .wide))) (omega arith) in
           linked {pc = pc} e (rw (length-set (t .nexts) (t .used) (getD (t .heads) k 0)) more) (rw n (f .below k)) (rw p (omega arith)) (rw p code)
           (rw p (record { none = λ q m l. absurd (omega arith) })) (rw (n, p, add-one) (chain-kept sheet d (t .used) (getD (t .heads) k 0) pc (f .below k) (rw same at c)))
@@ -137,41 +137,41 @@ module _ (sheet : List ℕ) where
       each-more : (i : ℕ) → t .used + suc i ≤ length (t .nexts) → linkEach pc first i t .used < length (linkEach pc first i t .nexts)
       each-more i h = omega (arith, each-used pc first t i, each-room pc first t i)
 
-      each-filled : (i : ℕ) → first + i ≤ 1024 → t .used + i ≤ length (t .nexts) → Filled (linkEach pc first i t)
+      each-filled : (i : ℕ) → first + i ≤ 2048 → t .used + i ≤ length (t .nexts) → Filled (linkEach pc first i t)
       unfolding linkEach
       each-filled zero w h = f
       each-filled (suc i) w h = link-filled (first + i) (linkEach pc first i t) (each-filled i (omega arith) (omega arith)) (each-more i h) (omega arith)
 
-      each-kept : (i : ℕ) → first + i ≤ 1024 → t .used + i ≤ length (t .nexts) → (d lo : ℕ)
-          → (bucket (localSlots sheet) d < first) ⊎ (first + i ≤ bucket (localSlots sheet) d) → At d lo t → At d lo (linkEach pc first i t)
+      each-kept : (i : ℕ) → first + i ≤ 2048 → t .used + i ≤ length (t .nexts) → (d lo : ℕ)
+          → (bucket d < first) ⊎ (first + i ≤ bucket d) → At d lo t → At d lo (linkEach pc first i t)
       unfolding linkEach
       each-kept zero w h d lo o c = c
       each-kept (suc i) w h d lo o c =
           link-kept (first + i) (linkEach pc first i t) (each-filled i (omega arith) (omega arith)) (each-more i h) d lo (apart o)
           (each-kept i (omega arith) (omega arith) d lo (fewer o) c)
         where
-          apart : (bucket (localSlots sheet) d < first) ⊎ (first + suc i ≤ bucket (localSlots sheet) d) → bucket (localSlots sheet) d ≡ first + i → ⊥
+          apart : (bucket d < first) ⊎ (first + suc i ≤ bucket d) → bucket d ≡ first + i → ⊥
           apart (inl m) e = omega arith
           apart (inr m) e = omega arith
 
-          fewer : (bucket (localSlots sheet) d < first) ⊎ (first + suc i ≤ bucket (localSlots sheet) d) → (bucket (localSlots sheet) d < first) ⊎ (first + i ≤ bucket (localSlots sheet) d)
+          fewer : (bucket d < first) ⊎ (first + suc i ≤ bucket d) → (bucket d < first) ⊎ (first + i ≤ bucket d)
           fewer (inl m) = inl m
           fewer (inr m) = inr (omega arith)
 
-      each-linked : (i : ℕ) → first + i ≤ 1024 → t .used + i ≤ length (t .nexts) → (d : ℕ)
-          → first ≤ bucket (localSlots sheet) d → bucket (localSlots sheet) d < first + i → At d (suc pc) t → At d pc (linkEach pc first i t)
+      each-linked : (i : ℕ) → first + i ≤ 2048 → t .used + i ≤ length (t .nexts) → (d : ℕ)
+          → first ≤ bucket d → bucket d < first + i → At d (suc pc) t → At d pc (linkEach pc first i t)
       unfolding linkEach
       each-linked zero w h d a b c = absurd (omega arith)
       each-linked (suc i) w h d a b c = go (eq-or-lt-of-le last) (each-linked i (omega arith) (omega arith) d a)
         where
-          last : bucket (localSlots sheet) d ≤ first + i
+          last : bucket d ≤ first + i
           last = omega arith
 
           before : Filled (linkEach pc first i t)
           before = each-filled i (omega arith) (omega arith)
 
-          go : (bucket (localSlots sheet) d ≡ first + i) ⊎ (bucket (localSlots sheet) d < first + i)
-              → (bucket (localSlots sheet) d < first + i → At d (suc pc) t → At d pc (linkEach pc first i t))
+          go : (bucket d ≡ first + i) ⊎ (bucket d < first + i)
+              → (bucket d < first + i → At d (suc pc) t → At d pc (linkEach pc first i t))
               → At d pc (link pc (first + i) (linkEach pc first i t))
           go (inl e) earlier = link-linked (first + i) (linkEach pc first i t) before (each-more i h) d e (omega arith) (each-kept i (omega arith) (omega arith) d (suc pc) (inr (omega arith)) c)
           go (inr m) earlier = link-kept (first + i) (linkEach pc first i t) before (each-more i h) d pc (λ e. omega arith) (earlier m c)
@@ -186,7 +186,7 @@ module _ (sheet : List ℕ) where
     paired = p;
     few = few;
     inside = omega arith;
-    chain = λ d l. ended {pc = from} (none (bucket (localSlots sheet) d)) (record { none = λ q m k. absurd (omega arith) });
+    chain = λ d l. ended {pc = from} (none (bucket d)) (record { none = λ q m k. absurd (omega arith) });
   }
 
   module _ (small : localSlots sheet ≤ 65535) where
@@ -194,13 +194,13 @@ module _ (sheet : List ℕ) where
     instruction-linked : (pc : ℕ) (t : Links) → Filled t → pc < codeCount sheet → t .used + bucketsAt sheet pc .count ≤ length (t .nexts) → (d : ℕ) → d < localSlots sheet
         → At d (suc pc) t → At d pc (linkEach pc (bucketsAt sheet pc .first) (bucketsAt sheet pc .count) t)
     unfolding edgesAt
-    instruction-linked pc t f code h d l c = go (outside-or-inside (bucketsAt sheet pc) (bucket (localSlots sheet) d))
+    instruction-linked pc t f code h d l c = go (outside-or-inside (bucketsAt sheet pc) (bucket d))
       where
-        few : bucketsAt sheet pc .first + bucketsAt sheet pc .count ≤ 1024
+        few : bucketsAt sheet pc .first + bucketsAt sheet pc .count ≤ 2048
         few = buckets-few (localSlots sheet) (instruction sheet pc) small
 
-        go : ((bucket (localSlots sheet) d < bucketsAt sheet pc .first) ⊎ (bucketsAt sheet pc .first + bucketsAt sheet pc .count ≤ bucket (localSlots sheet) d))
-            ⊎ ((bucketsAt sheet pc .first ≤ bucket (localSlots sheet) d) × (bucket (localSlots sheet) d < bucketsAt sheet pc .first + bucketsAt sheet pc .count))
+        go : ((bucket d < bucketsAt sheet pc .first) ⊎ (bucketsAt sheet pc .first + bucketsAt sheet pc .count ≤ bucket d))
+            ⊎ ((bucketsAt sheet pc .first ≤ bucket d) × (bucket d < bucketsAt sheet pc .first + bucketsAt sheet pc .count))
             → At d pc (linkEach pc (bucketsAt sheet pc .first) (bucketsAt sheet pc .count) t)
         go (inl o) = each-kept pc code _ t f (bucketsAt sheet pc .count) few h d pc o (chain-earlier sheet d (outside-none (localSlots sheet) d (instruction sheet pc) l o) c)
         go (inr (a, b)) = each-linked pc code _ t f (bucketsAt sheet pc .count) few h d a b c
@@ -228,7 +228,7 @@ module _ (sheet : List ℕ) where
         go false e rest = record { wide = λ l. f .wide; paired = f .paired; few = f .few; inside = h; chain = c }
 
     -- the whole graph
-    pub graph-chained : (heads nexts pcs : List ℕ) → length heads ≡ 1024 → length pcs ≡ length nexts → length nexts ≤ 65535 → {g : Graph} → g ≡ graphOf sheet heads nexts pcs
+    pub graph-chained : (heads nexts pcs : List ℕ) → length heads ≡ 2048 → length pcs ≡ length nexts → length nexts ≤ 65535 → {g : Graph} → g ≡ graphOf sheet heads nexts pcs
         → Chained sheet (g .heads) (g .nexts) (g .pcs) (g .from)
     unfolding graphOf zeros
     graph-chained heads nexts pcs w p few e =

@@ -24,8 +24,8 @@ pub data Chain (sheet nexts pcs : List ℕ) (d : ℕ) : ℕ → ℕ → Type 0 w
 
 -- The tables tell the edges of the instructions from `from` on, to each slot.
 pub record Chained (sheet heads nexts pcs : List ℕ) (from : ℕ) : Type 0 where
-  pub wide : from < codeCount sheet → length heads ≡ 1024
+  pub wide : from < codeCount sheet → length heads ≡ 2048
   pub paired : length pcs ≡ length nexts
   pub few : length nexts ≤ 65535
   pub inside : from ≤ codeCount sheet
-  pub chain : (d : ℕ) → d < localSlots sheet → Chain sheet nexts pcs d (getD heads (bucket (localSlots sheet) d) 0) from
+  pub chain : (d : ℕ) → d < localSlots sheet → Chain sheet nexts pcs d (getD heads (bucket d) 0) from

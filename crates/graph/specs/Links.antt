@@ -16,16 +16,16 @@ use Rattle.graph.specs.declared.Buckets.{Buckets}
 -- one for each slot, or one for 64 of them
 unfoldable pub bucketIf : Bool → ℕ → ℕ
 bucketIf true slot = slot
-bucketIf false slot = slot / 64
+bucketIf false slot = 1008 + slot / 64
 
--- the bucket of a slot below l: there are at most 1,024
-unfoldable pub bucket : ℕ → ℕ → ℕ
-bucket l slot = bucketIf (leb l 1024) slot
+-- the bucket of a slot: each of the first 1,024 has its own, and there are less than 2,048
+unfoldable pub bucket : ℕ → ℕ
+bucket slot = bucketIf (ltb slot 1024) slot
 
 -- the buckets of the slots from a up to but not including end, where there are any
-unfoldable pub bucketsIf : Bool → ℕ → ℕ → ℕ → Buckets
-bucketsIf true l a end = record { first = bucket l a; count = bucket l (end - 1) + 1 - bucket l a }
-bucketsIf false l a end = record { first = 0; count = 0 }
+unfoldable pub bucketsIf : Bool → ℕ → ℕ → Buckets
+bucketsIf true a end = record { first = bucket a; count = bucket (end - 1) + 1 - bucket a }
+bucketsIf false a end = record { first = 0; count = 0 }
 
 -- where the slots below l end that an instruction's edges may lead to
 abbrev pub endOf : ℕ → Instruction → ℕ
@@ -33,7 +33,7 @@ endOf l inst = min (inst .a + dependence inst .span) l
 
 -- the buckets that an instruction's edges may lead to
 unfoldable pub bucketsOf : ℕ → Instruction → Buckets
-bucketsOf l inst = bucketsIf (ltb (inst .a) (endOf l inst)) l (inst .a) (endOf l inst)
+bucketsOf l inst = bucketsIf (ltb (inst .a) (endOf l inst)) (inst .a) (endOf l inst)
 
 -- ---- links
 

@@ -6,15 +6,15 @@ use crate::Buckets;
 use dependencies::dependence_of;
 use model::Instruction;
 
-// The bucket of a slot: its own where there are at most 1,024 slots, else one that it shares with 63 others.
-pub fn bucket_of(l: usize, slot: usize) -> usize
-    requires { ⌜ (slot < l) × (l ≤ 65535) ⌝ }
-    ensures { λ r. ⌜ (r ≡ bucket l slot) × (r < 1024) ⌝ }
+// The bucket of a slot: its own below 1,024, where scripts have most of theirs, else one that it shares with 63 others.
+pub fn bucket_of(slot: usize) -> usize
+    requires { ⌜ slot < 65536 ⌝ }
+    ensures { λ r. ⌜ (r ≡ bucket slot) × (r < 2048) ⌝ }
 {
-    if l <= 1024 {
+    if slot < 1024 {
         return slot;
     }
-    slot / 64
+    1008 + slot / 64
 }
 
 // Where the slots end that an instruction's edges may lead to.
@@ -29,14 +29,14 @@ fn end_of(l: usize, a: usize, span: usize) -> usize
 // The buckets that an instruction's edges may lead to.
 pub fn buckets_of(inst: Instruction, l: usize) -> Buckets
     requires { ⌜ l ≤ 65535 ⌝ }
-    ensures { λ r. ⌜ (r ≡ bucketsOf l inst) × (r .first + r .count ≤ 1024) ⌝ }
+    ensures { λ r. ⌜ (r ≡ bucketsOf l inst) × (r .first + r .count ≤ 2048) ⌝ }
 {
     let a = inst.a as usize;
     let rule = dependence_of(inst);
     let end = end_of(l, a, rule.span as usize);
     if a < end {
-        let first = bucket_of(l, a);
-        let last = bucket_of(l, end - 1);
+        let first = bucket_of(a);
+        let last = bucket_of(end - 1);
         return Buckets {
             first,
             count: last + 1 - first,

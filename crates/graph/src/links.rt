@@ -45,7 +45,7 @@ pub fn build(
     nexts: &mut [u16],
     pcs: &mut [u16],
 ) -> usize
-    requires { ⌜ Measured (now sheet) sizes × (length (now heads) ≡ 1024) × (length (now pcs) ≡ length (now nexts)) × (length (now nexts) ≤ 65535) ⌝ }
+    requires { ⌜ Measured (now sheet) sizes × (length (now heads) ≡ 2048) × (length (now pcs) ≡ length (now nexts)) × (length (now nexts) ≤ 65535) ⌝ }
     ensures { λ r. ⌜ graph (now (heads .exit)) (now (nexts .exit)) (now (pcs .exit)) r ≡ graphOf (now (sheet .entry)) (now (heads .entry)) (now (nexts .entry)) (now (pcs .entry)) ⌝ }
 {
     clear_u16(heads);

@@ -1,16 +1,16 @@
 -- The places of the marks that are set, as a loop counts and writes them.
 -- Assumes nothing.
-use mathlib.Core.Path.{_≡_, refl, ap, _∙_}
+use mathlib.Core.Path.{_≡_, refl, sym, ap, _∙_}
 use mathlib.Core.Bool.{Bool, true, false}
 use mathlib.Core.List.{List, [], _∷_, _++_, append-nil, append-assoc}
 use Prim.Native.Nat.{ℕ, suc, _+_, _≤_, _<_}
 use native.Mathlib.Nat.{add-zero}
 use native.Mathlib.Numerals.{add-one}
 use native.Mathlib.Omega.{arith}
-use lib.Dec.{eqb}
+use lib.Dec.{ltb, eqb}
 use lib.ListN.{length, getD, set, take, drop, length-append, length-set, take-append-drop}
 use lib.Seq.{take-suc, take-all, drop-cons, set-at, length-take-le}
-use borrow.Author.Tests.{le-leb, lt-leb}
+use borrow.Author.Tests.{le-leb, lt-leb, ltb-true, ltb-false}
 use Rattle.model.specs.Closure.{listed, places}
 use Rattle.marks.specs.Slots.{storedIf, fittedIf, fitted}
 
@@ -45,6 +45,17 @@ module _ (marks : List ℕ) where
   placed-part i =
       let e : places 0 (take i marks ++ drop i marks) ≡ places 0 marks = ap (places 0) (take-append-drop i marks) in
       omega (arith, ap length e, ap length (places-append 0 (take i marks) (drop i marks)), length-append (places 0 (take i marks)) (places (0 + length (take i marks)) (drop i marks)))
+
+  -- where as many lie below i as there are, these are all
+  placed-whole : (i : ℕ) → length (places 0 marks) ≤ length (placed i) → placed i ≡ places 0 marks
+  unfolding placed
+  placed-whole i h =
+      let e : places 0 (take i marks ++ drop i marks) ≡ places 0 marks = ap (places 0) (take-append-drop i marks) in
+      go (places (0 + length (take i marks)) (drop i marks)) (sym (places-append 0 (take i marks) (drop i marks)) ∙ e)
+    where
+      go : (rest : List ℕ) → places 0 (take i marks) ++ rest ≡ places 0 marks → places 0 (take i marks) ≡ places 0 marks
+      go [] e = sym (append-nil (places 0 (take i marks))) ∙ e
+      go (x ∷ xs) e = absurd (omega (arith, ap length e, length-append (places 0 (take i marks)) (x ∷ xs)))
 
 length-listed : (t : Bool) (i j : ℕ) → length (listed t i []) ≡ length (listed t j [])
 unfolding listed
@@ -129,8 +140,16 @@ module _ {marks old out : List ℕ} {at i : ℕ} (w : Writing marks old out at i
             long = rw o (length-set out at i ∙ w .long);
           }
 
-pub writing-all : {marks old out : List ℕ} {at i : ℕ} → Writing marks old out at i → length marks ≤ i → out ≡ places 0 marks ++ drop (length (places 0 marks)) old
-writing-all {marks} {old} {out} {at} {i} w h = rw (placed-all marks i h) at (w .is)
+-- while there are more, there is a next mark
+pub writing-inside : {marks old out : List ℕ} {at i : ℕ} → Writing marks old out at i → at < length (places 0 marks) → i < length marks
+writing-inside {marks} {i = i} w h = go (ltb i (length marks)) refl
+  where
+    go : (t : Bool) → ltb i (length marks) ≡ t → i < length marks
+    go true e = ltb-true i (length marks) e
+    go false e = absurd (omega (arith, w .at-is, ap length (placed-all marks i (ltb-false i (length marks) e))))
+
+pub writing-all : {marks old out : List ℕ} {at i : ℕ} → Writing marks old out at i → length (places 0 marks) ≤ at → out ≡ places 0 marks ++ drop (length (places 0 marks)) old
+writing-all {marks} {old} {out} {at} {i} w h = rw (placed-whole marks i (omega (arith, w .at-is))) at (w .is)
 
 -- ---- where they fit
 

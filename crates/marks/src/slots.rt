@@ -40,14 +40,14 @@ fn write_slot(mark: u8, slot: usize, slots: &mut [u16], at: usize) -> usize
     at + 1
 }
 
-// All marked slots, in the first places.
-fn write_slots(marks: &[u8], slots: &mut [u16])
-    requires { ⌜ (length (now marks) ≤ 65535) × (length (places 0 (now marks)) ≤ length (now slots)) ⌝ }
+// The s marked slots, in the first places. No mark behind the last of them is read.
+fn write_slots(marks: &[u8], slots: &mut [u16], s: usize)
+    requires { ⌜ (length (now marks) ≤ 65535) × (length (places 0 (now marks)) ≤ length (now slots)) × (s ≡ length (places 0 (now marks))) ⌝ }
     ensures { λ r. ⌜ now (slots .exit) ≡ places 0 (now (marks .entry)) ++ drop (length (places 0 (now (marks .entry)))) (now (slots .entry)) ⌝ }
 {
     let mut at = 0;
     let mut i = 0;
-    while i < marks.len() {
+    while at < s {
         at = write_slot(marks[i], i, slots, at);
         i += 1;
     }
@@ -62,6 +62,6 @@ pub fn list_slots(marks: &[u8], slots: &mut [u16]) -> usize
     if slots.len() < s {
         return s;
     }
-    write_slots(marks, slots);
+    write_slots(marks, slots, s);
     s
 }

@@ -24,12 +24,16 @@ loop-holds : tie.Need-loop-holds Inv-loop μ-loop
 loop-holds c = (omega arith, omega arith, follows-none _ _ _ _ _ _)
 
 instruction-at-requires : tie.Need-instruction-at-requires Inv-loop μ-loop
-instruction-at-requires c κs = code-inside (c .before .before .before .before .before .pre .0) _ (omega (arith, c .loop-test .taken, c .before .before .before .before .before .pre .1))
+instruction-at-requires c κs =
+    let start = c .before .before .before .before .before in
+    code-inside (start .pre .0) _ (omega (arith, c .loop-test .taken, start .pre .1))
 
 follow-instruction-requires : tie.Need-follow-instruction-requires Inv-loop μ-loop
 follow-instruction-requires c κs =
-    let done = c .before .before .before .before .loop .inv in
-    let asked = c .before .before .before .before .before .before .before .before .pre in
+    let at-loop = c .before .before .before .before in
+    let start = at-loop .before .before .before .before in
+    let done = at-loop .loop .inv in
+    let asked = start .pre in
     let l = limited (asked .0) in (
       asked .2,
       l .local-slots,
@@ -38,18 +42,27 @@ follow-instruction-requires c κs =
     )
 
 add-pc : tie.Need-add-pc Inv-loop μ-loop
-add-pc c = omega (arith, c .before .before .before .before .before .before .before .before .loop-test .taken)
+add-pc c =
+    let in-loop = c .before .before .before .before .before .before .before .before in
+    omega (arith, in-loop .loop-test .taken)
 
 loop-less : tie.Need-loop-less Inv-loop μ-loop
-loop-less c = omega (arith, c .before .before .before .before .before .before .before .before .loop-test .taken)
+loop-less c =
+    let in-loop = c .before .before .before .before .before .before .before .before in
+    omega (arith, in-loop .loop-test .taken)
 
 loop-again : tie.Need-loop-again Inv-loop μ-loop
 loop-again c =
-    let done = c .before .before .before .before .before .before .before .before .before .loop .inv in
-    let followed = c .before .before .before .before .follow-instruction .ensures in (
-      omega (arith, c .before .before .before .before .before .before .before .before .loop-test .taken),
+    let follow-instruction = c .before .before .before .before in
+    let instruction-at = follow-instruction .before .before .before in
+    let in-loop = instruction-at .before in
+    let at-loop = in-loop .before in
+    let start = at-loop .before .before .before .before in
+    let done = at-loop .loop .inv in
+    let followed = follow-instruction .follow-instruction .ensures in (
+      omega (arith, in-loop .loop-test .taken),
       omega (arith, done .1, followed .0),
-      follows-more _ _ _ _ _ _ (done .2) (c .before .before .before .before .before .before .before .instruction-at .ensures) (counted (c .before .before .before .before .before .before .before .before .before .before .before .before .before .pre .0 .are) .local-slots) (followed .1),
+      follows-more _ _ _ _ _ _ (done .2) (instruction-at .instruction-at .ensures) (counted (start .pre .0 .are) .local-slots) (followed .1),
     )
 
 same-length : tie.Need-same-length Inv-loop μ-loop

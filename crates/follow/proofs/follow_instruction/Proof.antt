@@ -16,11 +16,12 @@ wrapping-sub-usize-requires : tie.Need-wrapping-sub-usize-requires
 wrapping-sub-usize-requires c κs = search needs
 
 returns : tie.Need-returns
-returns c = (
-  omega arith,
-  followed-nothing _
-      (outside-reach (c .before .before .before .before .before .before .args .inst) (c .before .before .reach .ensures .1) _ _ (c .before .wrapping-sub-usize .ensures) (omega arith) (omega arith) (c .if1 .taken)),
-)
+returns c =
+    let start = c .before .before .before .before .before .before in (
+      omega arith,
+      followed-nothing _
+          (outside-reach (start .args .inst) (c .before .before .reach .ensures .1) _ _ (c .before .wrapping-sub-usize .ensures) (omega arith) (omega arith) (c .if1 .taken)),
+    )
 
 edges-to-requires : tie.Need-edges-to-requires
 edges-to-requires c κs = search needs
@@ -33,9 +34,10 @@ add-count c = search needs
 
 returns-2 : tie.Need-returns-2
 returns-2 c =
-    let edges-to = c .before .before .before .before .before in (
+    let edges-to = c .before .before .before .before .before in
+    let start = edges-to .before .before .before .before .before .before .before in (
       omega arith,
-      followed-none _ _ (edges-to .edges-to .result) (edges-to .edges-to .ensures .0) (edges-to .edges-to .ensures .1) (c .before .before .before .before .before .before .before .before .before .before .before .before .args .from) (c .if2 .taken),
+      followed-none _ _ (edges-to .edges-to .result) (edges-to .edges-to .ensures .0) (edges-to .edges-to .ensures .1) (start .args .from) (c .if2 .taken),
     )
 
 mark-slots-requires : tie.Need-mark-slots-requires
@@ -48,12 +50,15 @@ same-length-2 : tie.Need-same-length-2
 same-length-2 c = search needs
 
 returns-3 : tie.Need-returns-3
-returns-3 c =
-    let edges-to = c .before .before .before .before .before .before .before .before .before .before .before .before in (
-      omega arith,
-      followed-some _ _ (edges-to .edges-to .result) (edges-to .edges-to .ensures .0) (edges-to .edges-to .ensures .1) (c .before .before .before .before .before .before .before .before .before .before .before .before .before .before .before .before .before .before .before .args .from) (c .before .before .before .before .before .before .before .if2 .left)
-          (c .before .before .before .before .mark-slots .ensures),
-    )
+returns-3 c = (
+  omega arith,
+  let mark-slots = c .before .before .before .before in
+      let else2 = mark-slots .before .before .before in
+      let edges-to = else2 .before .before .before .before .before in
+      let start = edges-to .before .before .before .before .before .before .before in
+      followed-some _ _ (edges-to .edges-to .result) (edges-to .edges-to .ensures .0) (edges-to .edges-to .ensures .1) (start .args .from) (else2 .if2 .left)
+      (mark-slots .mark-slots .ensures),
+)
 
 pub follow-instruction-spec : {M : Type 1} → statement M
 follow-instruction-spec =

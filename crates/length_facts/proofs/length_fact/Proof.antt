@@ -13,32 +13,41 @@ use Rattle.length_facts.proofs.length_fact.Statement.{statement}
 use Rattle.length_facts.proofs.length_fact.Tie as tie
 
 instruction-at-requires : tie.Need-instruction-at-requires
-instruction-at-requires c κs = code-inside (c .before .before .before .before .before .pre .0 .0) _ (c .before .before .before .before .before .pre .1 .0)
+instruction-at-requires c κs =
+    let start = c .before .before .before .before .before in
+    code-inside (start .pre .0 .0) _ (start .pre .1 .0)
 
 wide-requires : tie.Need-wide-requires
 wide-requires c κs = search needs
 
 row-fact-requires : tie.Need-row-fact-requires
-row-fact-requires c κs = (c .before .before .before .before .before .before .before .before .before .pre .0 .1, omega arith)
+row-fact-requires c κs =
+    let start = c .before .before .before .before .before .before .before .before .before in
+    (start .pre .0 .1, omega arith)
 
 checked-cell-requires : tie.Need-checked-cell-requires
 checked-cell-requires c κs = search needs
 
 returns : tie.Need-returns
-returns c = λ rows e.
-    let start = c .before .before .before .before .before .before .before .before .before .before .before in
-    let read = c .before .before .before .before .before .instruction-at .ensures in
+returns c =
+    let then1 = c .before .before .before in
+    let instruction-at = then1 .before .before in
+    let start = instruction-at .before .before .before .before .before .before in
+    λ rows e.
+    let read = instruction-at .instruction-at .ensures in
     let slot = c .before .before .wide .ensures .0 ∙ ap (λ (i : Instruction). i .b) read in
     checked-of _ (c .before .row-fact .ensures rows e ∙ ap (λ (b : ℕ). cellOf (rowFact (start .args .slots .now) (rowAt rows (start .args .pc)) b)) slot) (c .checked-cell .ensures)
-    ∙ ap cellOf (check-fact _ (start .args .slots .now) rows (start .args .pc) (sym (ap (λ (i : Instruction). i .op) read) ∙ c .before .before .before .if1 .taken))
+    ∙ ap cellOf (check-fact _ (start .args .slots .now) rows (start .args .pc) (sym (ap (λ (i : Instruction). i .op) read) ∙ then1 .if1 .taken))
 
 unknown-cell-requires : tie.Need-unknown-cell-requires
 unknown-cell-requires c κs = search needs
 
 returns-2 : tie.Need-returns-2
-returns-2 c = λ rows e.
-    let start = c .before .before .before .before .before .before .before .before .before in
-    let read = c .before .before .before .instruction-at .ensures in
+returns-2 c =
+    let instruction-at = c .before .before .before in
+    let start = instruction-at .before .before .before .before .before .before in
+    λ rows e.
+    let read = instruction-at .instruction-at .ensures in
     c .unknown-cell .ensures
     ∙ ap cellOf (other-fact _ (start .args .slots .now) rows (start .args .pc) (λ o. c .before .if1 .left (ap (λ (i : Instruction). i .op) read ∙ o)))
 

@@ -13,16 +13,24 @@ enum-known-written-2 : tie.Need-enum-known-written-2
 enum-known-written-2 c = search needs
 
 add-range-start-at : tie.Need-add-range-start-at
-add-range-start-at c = omega (arith, range-inside (c .before .written2 .given .1) (c .before .before .before .before .pre .1) (c .before .before .before .before .pre .2), limited (c .before .before .before .before .pre .0) .range-count)
+add-range-start-at c =
+    let start = c .before .before .before .before in
+    omega (arith, range-inside (c .before .written2 .given .1) (start .pre .1) (start .pre .2), limited (start .pre .0) .range-count)
 
 range-start-at-requires : tie.Need-range-start-at-requires
-range-start-at-requires c κs = (c .before .before .before .before .pre .0, range-inside (c .before .written2 .given .1) (c .before .before .before .before .pre .1) (c .before .before .before .before .pre .2))
+range-start-at-requires c κs =
+    let start = c .before .before .before .before in
+    (start .pre .0, range-inside (c .before .written2 .given .1) (start .pre .1) (start .pre .2))
 
 add-range-length-at : tie.Need-add-range-length-at
-add-range-length-at c = omega (arith, range-inside (c .before .before .written2 .given .1) (c .before .before .before .before .before .pre .1) (c .before .before .before .before .before .pre .2), limited (c .before .before .before .before .before .pre .0) .range-count)
+add-range-length-at c =
+    let start = c .before .before .before .before .before in
+    omega (arith, range-inside (c .before .before .written2 .given .1) (start .pre .1) (start .pre .2), limited (start .pre .0) .range-count)
 
 range-length-at-requires : tie.Need-range-length-at-requires
-range-length-at-requires c κs = (c .before .before .before .before .before .pre .0, range-inside (c .before .before .written2 .given .1) (c .before .before .before .before .before .pre .1) (c .before .before .before .before .before .pre .2))
+range-length-at-requires c κs =
+    let start = c .before .before .before .before .before in
+    (start .pre .0, range-inside (c .before .before .written2 .given .1) (start .pre .1) (start .pre .2))
 
 cast-t13 : tie.Need-cast-t13
 cast-t13 c = search needs

@@ -18,18 +18,24 @@ abbrev μ-loop : tie.MeasureT-loop
 
 returns : tie.Need-returns Inv-loop μ-loop
 returns c =
-    let asked = c .before .before .before .before .before .before .pre in
-    wrote-beyond (c .before .before .before .before .before .before .args .slots .now) (λ k l. omega (arith, c .before .before .before .before .before .shared-slice-known .given k)) _ _ _ _ _ (asked .1) (asked .2)
-    (last-below (c .before .before .before .before .before .before .args .slots .now) _ (asked .0 .ascending) (omega (arith, asked .3, c .if1 .taken)))
+    let shared-slice-known = c .before .before .before .before .before in
+    let start = shared-slice-known .before in
+    let asked = start .pre in
+    wrote-beyond (start .args .slots .now) (λ k l. omega (arith, shared-slice-known .shared-slice-known .given k)) _ _ _ _ _ (asked .1) (asked .2)
+    (last-below (start .args .slots .now) _ (asked .0 .ascending) (omega (arith, asked .3, c .if1 .taken)))
 
 wide-requires : tie.Need-wide-requires Inv-loop μ-loop
 wide-requires c κs = search needs
 
 lower-bound-requires : tie.Need-lower-bound-requires Inv-loop μ-loop
-lower-bound-requires c κs = c .before .before .before .before .before .before .before .pre .0 .ascending
+lower-bound-requires c κs =
+    let start = c .before .before .before .before .before .before .before in
+    start .pre .0 .ascending
 
 loop-holds : tie.Need-loop-holds Inv-loop μ-loop
-loop-holds c = writing-start _ _ _ _ _ _ _ (c .before .before .before .before .before .before .before .before .pre .1) (c .before .before .before .before .before .before .before .before .pre .2) (rw (c .before .wide .ensures .0) at (c .lower-bound .ensures))
+loop-holds c =
+    let start = c .before .before .before .before .before .before .before .before in
+    writing-start _ _ _ _ _ _ _ (start .pre .1) (start .pre .2) (rw (c .before .wide .ensures .0) at (c .lower-bound .ensures))
 
 mul-slot : tie.Need-mul-slot Inv-loop μ-loop
 mul-slot c = omega arith
@@ -51,11 +57,16 @@ same-length-2 c = omega arith
 
 returns-2 : tie.Need-returns-2 Inv-loop μ-loop
 returns-2 c =
-    written-range _ _ _ _ _ _ (c .before .before .before .loop .inv) (λ k l. omega (arith, c .before .before .before .before .before .before .before .before .before .before .before .shared-slice-known .given k)) (c .before .before .before .before .before .before .before .before .before .before .before .before .pre .0 .ascending)
+    let at-loop = c .before .before .before in
+    let shared-slice-known = at-loop .before .before .before .before .before .before .before .before in
+    let start = shared-slice-known .before in
+    written-range _ _ _ _ _ _ (at-loop .loop .inv) (λ k l. omega (arith, shared-slice-known .shared-slice-known .given k)) (start .pre .0 .ascending)
     (c .before .before .loop-test .taken) (c .if2 .taken)
 
 effect-on-slot-requires : tie.Need-effect-on-slot-requires Inv-loop μ-loop
-effect-on-slot-requires c κs = c .before .before .before .before .before .before .before .before .before .before .before .before .pre .0
+effect-on-slot-requires c κs =
+    let start = c .before .before .before .before .before .before .before .before .before .before .before .before in
+    start .pre .0
 
 slice-write-out-kinds : tie.Need-slice-write-out-kinds Inv-loop μ-loop
 slice-write-out-kinds c = omega arith
@@ -73,7 +84,10 @@ loop-less : tie.Need-loop-less Inv-loop μ-loop
 loop-less c = omega arith
 
 loop-again : tie.Need-loop-again Inv-loop μ-loop
-loop-again c = writing-more _ _ _ _ _ _ (c .before .before .before .before .loop .inv) (c .before .before .before .loop-test .taken) (c .before .if2 .left) (c .effect-on-slot .ensures)
+loop-again c =
+    let in-loop = c .before .before .before in
+    let at-loop = in-loop .before in
+    writing-more _ _ _ _ _ _ (at-loop .loop .inv) (in-loop .loop-test .taken) (c .before .if2 .left) (c .effect-on-slot .ensures)
 
 same-length-3 : tie.Need-same-length-3 Inv-loop μ-loop
 same-length-3 c = omega arith
@@ -82,7 +96,9 @@ same-length-4 : tie.Need-same-length-4 Inv-loop μ-loop
 same-length-4 c = omega arith
 
 returns-3 : tie.Need-returns-3 Inv-loop μ-loop
-returns-3 c = written-all _ _ _ _ _ _ (c .before .loop .inv) (λ k l. omega (arith, c .before .before .before .before .before .before .before .before .before .shared-slice-known .given k)) (c .loop-test .left)
+returns-3 c =
+    let shared-slice-known = c .before .before .before .before .before .before .before .before .before in
+    written-all _ _ _ _ _ _ (c .before .loop .inv) (λ k l. omega (arith, shared-slice-known .shared-slice-known .given k)) (c .loop-test .left)
 
 pub write-range-spec : {M : Type 1} → statement M
 write-range-spec =

@@ -31,7 +31,9 @@ slice-aggregate-build-3 : tie.Need-slice-aggregate-build-3
 slice-aggregate-build-3 c = search needs
 
 build-requires : tie.Need-build-requires
-build-requires c κs = (c .before .before .before .before .before .before .before .before .pre .0, refl, refl, omega arith)
+build-requires c κs =
+    let start = c .before .before .before .before .before .before .before .before in
+    (start .pre .0, refl, refl, omega arith)
 
 slice-aggregate-expand-along : tie.Need-slice-aggregate-expand-along
 slice-aggregate-expand-along c = search needs
@@ -44,11 +46,13 @@ slice-aggregate-expand-along-3 c = search needs
 
 expand-along-requires : tie.Need-expand-along-requires
 expand-along-requires c κs =
-    let asked = c .before .before .before .before .before .before .before .before .before .before .before .before .before .before .before .before .before .pre in (
+    let build = c .before .before .before .before .before .before .before .before in
+    let start = build .before .before .before .before .before .before .before .before .before in
+    let asked = start .pre in (
       asked .0,
       asked .1,
-      graph-chained (c .before .before .before .before .before .before .before .before .before .before .before .before .before .before .before .before .before .args .sheet .now) (omega (arith, counted (asked .0 .are) .local-slots, limited (asked .0) .local-slots)) _ _ _ refl refl (omega arith)
-          (c .before .before .before .before .before .before .before .before .build .ensures),
+      graph-chained (start .args .sheet .now) (omega (arith, counted (asked .0 .are) .local-slots, limited (asked .0) .local-slots)) _ _ _ refl refl (omega arith)
+          (build .build .ensures),
     )
 
 same-length-3 : tie.Need-same-length-3

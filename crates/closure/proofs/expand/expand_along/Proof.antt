@@ -21,14 +21,22 @@ abbrev μ-loop : tie.MeasureT-loop
 μ-loop which sheet sizes from heads nexts pcs marks₀ stack₀ top₀ left₀ marks stack top left = free marks + top
 
 seed-slots-requires : tie.Need-seed-slots-requires Inv-loop μ-loop
-seed-slots-requires c κs = (c .before .before .before .before .before .before .before .before .pre .0, some-lain (blank-lies (c .before .before .before .before .before .before .before .before .pre .0) (c .before .before .before .before .before .before .before .before .pre .1)))
+seed-slots-requires c κs =
+    let start = c .before .before .before .before .before .before .before .before in
+    (start .pre .0, some-lain (blank-lies (start .pre .0) (start .pre .1)))
 
 loop-holds : tie.Need-loop-holds Inv-loop μ-loop
 unfolding seeded
-loop-holds c = expanding-begun _ _ (lies-room (c .before .before .before .before .seed-slots .ensures .on (blank-lies (c .before .before .before .before .before .before .before .before .before .before .before .before .before .pre .0) (c .before .before .before .before .before .before .before .before .before .before .before .before .before .pre .1))))
+loop-holds c =
+    let seed-slots = c .before .before .before .before in
+    let start = seed-slots .before .before .before .before .before .before .before .before .before in
+    expanding-begun _ _ (lies-room (seed-slots .seed-slots .ensures .on (blank-lies (start .pre .0) (start .pre .1))))
 
 take-slot-requires : tie.Need-take-slot-requires Inv-loop μ-loop
-take-slot-requires c κs = (c .before .before .before .before .before .before .before .before .before .before .before .before .before .before .before .before .before .pre .0, c .before .before .loop-test .taken, expanding-standing _ _ (c .before .before .before .loop .inv), c .before .before .before .before .before .before .before .before .before .before .before .before .before .before .before .before .before .pre .2)
+take-slot-requires c κs =
+    let at-loop = c .before .before .before in
+    let start = at-loop .before .before .before .before .before .before .before .before .before .before .before .before .before .before in
+    (start .pre .0, c .before .before .loop-test .taken, expanding-standing _ _ (at-loop .loop .inv), start .pre .2)
 
 charge-work-requires : tie.Need-charge-work-requires Inv-loop μ-loop
 charge-work-requires c κs = search needs
@@ -50,48 +58,72 @@ metered-requires c κs = search needs
 
 same-length : tie.Need-same-length Inv-loop μ-loop
 same-length c =
-    let after = c .before .before .before .before .before .before .before .before .before .before .before .before .before .before .before .before .take-slot .ensures .lies (c .before .before .before .before .before .before .before .before .before .before .before .before .before .before .before .before .before .before .before .before .loop .inv .lies) in
-    ap length (c .before .before .before .before .before .before .before .clear-u8 .ensures) ∙ zeros-length _ ∙ omega (arith, after .wide, c .before .before .before .before .before .before .before .before .before .before .before .before .before .before .before .before .before .before .before .before .before .before .before .before .before .before .before .before .before .before .before .before .before .before .pre .1 .wide)
+    let clear-u8 = c .before .before .before .before .before .before .before in
+    let take-slot = clear-u8 .before .before .before .before .before .before .before .before .before in
+    let at-loop = take-slot .before .before .before .before in
+    let start = at-loop .before .before .before .before .before .before .before .before .before .before .before .before .before .before in
+    let after = take-slot .take-slot .ensures .lies (at-loop .loop .inv .lies) in
+    ap length (clear-u8 .clear-u8 .ensures) ∙ zeros-length _ ∙ omega (arith, after .wide, start .pre .1 .wide)
 
 same-length-2 : tie.Need-same-length-2 Inv-loop μ-loop
 same-length-2 c = search needs
 
 returns : tie.Need-returns Inv-loop μ-loop
 returns c =
-    let start = c .before .before .before .before .before .before .before .before .before .before .before .before .before .before .before .before .before .before .before .before .before .before .before .before .before .before .before .before .before .before .before .before .before .before in
-    let take-slot = c .before .before .before .before .before .before .before .before .before .before .before .before .before .before .before .before in
-    let at-loop = c .before .before .before .before .before .before .before .before .before .before .before .before .before .before .before .before .before .before .before .before in
-    let charge-work = c .before .before .before .before .before .before .before .before .before .before .before in
+    let clear-u16 = c .before .before .before in
+    let clear-u8 = clear-u16 .before .before .before .before in
+    let enum-told = clear-u8 .before .before in
+    let charge-work = enum-told .before .before in
+    let take-slot = charge-work .before .before .before .before .before in
+    let in-loop = take-slot .before .before .before in
+    let at-loop = in-loop .before in
+    let seed-slots = at-loop .before .before .before .before .before in
+    let start = seed-slots .before .before .before .before .before .before .before .before .before in
     let after = take-slot .take-slot .ensures .lies (at-loop .loop .inv .lies) in
-    let is-refused = c .before .before .before .before .before .before .before .before .before .enum-told .given .1 in
-    let stopped = expanding-refused _ _ (at-loop .loop .inv) (c .before .before .before .before .before .before .before .before .before .before .before .before .before .before .before .before .before .before .before .loop-test .taken) (take-slot .take-slot .ensures) (charge-work .charge-work .ensures) is-refused in (
-      refused-end (c .metered .result) _ _ stopped (c .metered .ensures 0) is-refused (c .before .before .before .before .before .before .before .clear-u8 .ensures)
+    let is-refused = enum-told .enum-told .given .1 in
+    let stopped = expanding-refused _ _ (at-loop .loop .inv) (in-loop .loop-test .taken) (take-slot .take-slot .ensures) (charge-work .charge-work .ensures) is-refused in (
+      refused-end (c .metered .result) _ _ stopped (c .metered .ensures 0) is-refused (clear-u8 .clear-u8 .ensures)
           (omega (arith, after .wide, start .pre .1 .wide)),
-      c .before .before .before .clear-u16 .ensures
-          ∙ zeros-same _ _ (after .long ∙ goes-long (c .before .before .before .before .before .before .before .before .before .before .before .before .before .before .before .before .before .before .before .before .before .before .before .before .before .seed-slots .ensures) (some-lain (blank-lies (start .pre .0) (start .pre .1)))),
+      clear-u16 .clear-u16 .ensures
+          ∙ zeros-same _ _ (after .long ∙ goes-long (seed-slots .seed-slots .ensures) (some-lain (blank-lies (start .pre .0) (start .pre .1)))),
     )
 
 loop-less : tie.Need-loop-less Inv-loop μ-loop
-loop-less c = expanding-less _ _ (c .before .before .before .before .before .before .before .before .before .before .before .before .loop .inv) (c .before .before .before .before .before .before .before .before .before .before .before .loop-test .taken) (c .before .before .before .before .before .before .before .before .take-slot .ensures)
+loop-less c =
+    let take-slot = c .before .before .before .before .before .before .before .before in
+    let in-loop = take-slot .before .before .before in
+    let at-loop = in-loop .before in
+    expanding-less _ _ (at-loop .loop .inv) (in-loop .loop-test .taken) (take-slot .take-slot .ensures)
 
 loop-again : tie.Need-loop-again Inv-loop μ-loop
 loop-again c =
-    expanding-on _ _ (c .before .before .before .before .before .before .before .before .before .before .before .before .loop .inv) (c .before .before .before .before .before .before .before .before .before .before .before .loop-test .taken) (c .before .before .before .before .before .before .before .before .take-slot .ensures) (c .before .before .before .charge-work .ensures)
+    let charge-work = c .before .before .before in
+    let take-slot = charge-work .before .before .before .before .before in
+    let in-loop = take-slot .before .before .before in
+    let at-loop = in-loop .before in
+    expanding-on _ _ (at-loop .loop .inv) (in-loop .loop-test .taken) (take-slot .take-slot .ensures) (charge-work .charge-work .ensures)
     (c .before .charge .given .1)
 
 same-length-3 : tie.Need-same-length-3 Inv-loop μ-loop
-same-length-3 c = omega (arith, c .before .loop .inv .lies .wide, c .before .before .before .before .before .before .before .before .before .before .before .before .before .before .before .pre .1 .wide)
+same-length-3 c =
+    let start = c .before .before .before .before .before .before .before .before .before .before .before .before .before .before .before in
+    omega (arith, c .before .loop .inv .lies .wide, start .pre .1 .wide)
 
 same-length-4 : tie.Need-same-length-4 Inv-loop μ-loop
-same-length-4 c = c .before .loop .inv .lies .long ∙ goes-long (c .before .before .before .before .before .before .seed-slots .ensures) (some-lain (blank-lies (c .before .before .before .before .before .before .before .before .before .before .before .before .before .before .before .pre .0) (c .before .before .before .before .before .before .before .before .before .before .before .before .before .before .before .pre .1)))
+same-length-4 c =
+    let seed-slots = c .before .before .before .before .before .before in
+    let start = seed-slots .before .before .before .before .before .before .before .before .before in
+    c .before .loop .inv .lies .long ∙ goes-long (seed-slots .seed-slots .ensures) (some-lain (blank-lies (start .pre .0) (start .pre .1)))
 
 returns-2 : tie.Need-returns-2 Inv-loop μ-loop
 unfolding zeros
 returns-2 c =
+    let seed-slots = c .before .before .before .before .before .before in
+    let start = seed-slots .before .before .before .before .before .before .before .before .before in
     let ended = c .before .loop .inv in (
       done-end _ (expanding-done _ _ ended (c .loop-test .left)) (ended .lies .marks-are),
       expanding-empty _ _ ended (c .loop-test .left)
-          ∙ ap (λ (k : ℕ). replicate k 0) (goes-long (c .before .before .before .before .before .before .seed-slots .ensures) (some-lain (blank-lies (c .before .before .before .before .before .before .before .before .before .before .before .before .before .before .before .pre .0) (c .before .before .before .before .before .before .before .before .before .before .before .before .before .before .before .pre .1)))),
+          ∙ ap (λ (k : ℕ). replicate k 0) (goes-long (seed-slots .seed-slots .ensures) (some-lain (blank-lies (start .pre .0) (start .pre .1)))),
     )
 
 pub expand-along-spec : {M : Type 1} → statement M

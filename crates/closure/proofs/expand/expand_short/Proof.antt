@@ -20,7 +20,8 @@ slice-aggregate-expand-along-3 c = search needs
 
 expand-along-requires : tie.Need-expand-along-requires
 expand-along-requires c κs =
-    let asked = c .before .before .before .before .before .before .before .before .pre in
+    let start = c .before .before .before .before .before .before .before .before in
+    let asked = start .pre in
     (asked .0, asked .1, unlinked _ _ _ _ refl (omega arith) (zeros-read 1) (counted (asked .0 .are) .code-count))
 
 same-length : tie.Need-same-length

@@ -15,23 +15,34 @@ sub-at : tie.Need-sub-at
 sub-at c = search needs
 
 mul-d : tie.Need-mul-d
-mul-d c = omega (arith, standing-below (c .before .before .before .before .before .before .pre .2) (c .before .before .before .before .before .before .pre .1))
+mul-d c =
+    let start = c .before .before .before .before .before .before in
+    omega (arith, standing-below (start .pre .2) (start .pre .1))
 
 slice-read-d : tie.Need-slice-read-d
-slice-read-d c = omega (arith, standing-below (c .before .before .before .before .before .before .before .pre .2) (c .before .before .before .before .before .before .before .pre .1))
+slice-read-d c =
+    let start = c .before .before .before .before .before .before .before in
+    omega (arith, standing-below (start .pre .2) (start .pre .1))
 
 cast-d : tie.Need-cast-d
-cast-d c = omega (arith, c .slice-known3 .given (c .before .before .before .before .before .before .before .args .top - 1))
+cast-d c =
+    let start = c .before .before .before .before .before .before .before in
+    omega (arith, c .slice-known3 .given (start .args .top - 1))
 
 mul-stack : tie.Need-mul-stack
-mul-stack c = omega (arith, standing-below (c .before .before .before .before .before .before .before .pre .2) (c .before .before .before .before .before .before .before .pre .1))
+mul-stack c =
+    let start = c .before .before .before .before .before .before .before in
+    omega (arith, standing-below (start .pre .2) (start .pre .1))
 
 slice-write-stack : tie.Need-slice-write-stack
-slice-write-stack c = omega (arith, standing-below (c .before .before .before .before .before .before .before .pre .2) (c .before .before .before .before .before .before .before .pre .1))
+slice-write-stack c =
+    let start = c .before .before .before .before .before .before .before in
+    omega (arith, standing-below (start .pre .2) (start .pre .1))
 
 follow-edges-requires : tie.Need-follow-edges-requires
 follow-edges-requires c κs =
-    let asked = c .before .before .before .before .before .before .before .before .before .pre in (
+    let start = c .before .before .before .before .before .before .before .before .before in
+    let asked = start .pre in (
       asked .0,
       asked .3,
       omega (arith, slot-below (asked .2) (asked .1), counted (asked .0 .are) .local-slots),
@@ -42,10 +53,16 @@ same-length : tie.Need-same-length
 same-length c = search needs
 
 same-length-2 : tie.Need-same-length-2
-same-length-2 c = goes-long (c .before .before .before .before .follow-edges .ensures .goes) (popped-lain (c .before .before .before .before .before .before .before .before .before .before .before .before .before .before .pre .2) (c .before .before .before .before .before .before .before .before .before .before .before .before .before .before .pre .1)) ∙ simp length-set
+same-length-2 c =
+    let follow-edges = c .before .before .before .before in
+    let start = follow-edges .before .before .before .before .before .before .before .before .before .before in
+    goes-long (follow-edges .follow-edges .ensures .goes) (popped-lain (start .pre .2) (start .pre .1)) ∙ simp length-set
 
 returns : tie.Need-returns
-returns c = takes _ _ (c .before .before .before .before .before .before .before .before .before .before .before .before .before .before .pre .1) (c .before .before .before .before .follow-edges .ensures)
+returns c =
+    let follow-edges = c .before .before .before .before in
+    let start = follow-edges .before .before .before .before .before .before .before .before .before .before in
+    takes _ _ (start .pre .1) (follow-edges .follow-edges .ensures)
 
 pub take-slot-spec : {M : Type 1} → statement M
 take-slot-spec =

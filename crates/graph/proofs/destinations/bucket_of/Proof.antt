@@ -1,18 +1,21 @@
 -- `graph::destinations::bucket_of` meets its contract.
 -- Assumes nothing.
 use native.Mathlib.Omega.{arith}
-use borrow.Author.Tests.{le-leb, lt-leb}
+use borrow.Author.Tests.{lt-ltb, le-ltb}
 use Rattle.graph.specs.Links.{bucket, bucketIf}
 use Rattle.graph.proofs.destinations.bucket_of.Statement.{statement}
 use Rattle.graph.proofs.destinations.bucket_of.Tie as tie
 
 returns : tie.Need-returns
 unfolding bucket bucketIf
-returns c = (rw (le-leb _ _ (c .if1 .taken)), omega arith)
+returns c = (rw (lt-ltb _ _ (c .if1 .taken)), omega arith)
+
+add-result : tie.Need-add-result
+add-result c = omega arith
 
 returns-2 : tie.Need-returns-2
 unfolding bucket bucketIf
-returns-2 c = (rw (lt-leb _ _ (c .if1 .left)), omega arith)
+returns-2 c = (rw (le-ltb _ _ (c .if1 .left)), omega arith)
 
 pub bucket-of-spec : {M : Type 1} → statement M
-bucket-of-spec = tie.close (tie.spec returns returns-2)
+bucket-of-spec = tie.close (tie.spec returns add-result returns-2)

@@ -31,12 +31,17 @@ add-t10 : tie.Need-add-t10
 add-t10 c = search needs
 
 sub-t11 : tie.Need-sub-t11
-sub-t11 c = in-order _ _ (c .before .before .before .before .before .dependence-of .ensures) (c .before .before .before .end-of .ensures) (c .before .before .if1 .taken) (c .before .bucket-of .ensures .0) (c .bucket-of2 .ensures .0)
+sub-t11 c =
+    let end-of = c .before .before .before in
+    let dependence-of = end-of .before .before in
+    in-order _ _ (dependence-of .dependence-of .ensures) (end-of .end-of .ensures) (c .before .before .if1 .taken) (c .before .bucket-of .ensures .0) (c .bucket-of2 .ensures .0)
 
 returns : tie.Need-returns
 returns c =
-    let rule = c .before .before .before .before .before .dependence-of .ensures in
-    let end = c .before .before .before .end-of .ensures in
+    let end-of = c .before .before .before in
+    let dependence-of = end-of .before .before in
+    let rule = dependence-of .dependence-of .ensures in
+    let end = end-of .end-of .ensures in
     let first = c .before .bucket-of .ensures .0 in
     let up = in-order _ _ rule end (c .before .before .if1 .taken) first (c .bucket-of2 .ensures .0) in
     (some-buckets _ _ rule end (c .before .before .if1 .taken) first (c .bucket-of2 .ensures .0), omega (arith, up, c .bucket-of2 .ensures .1))

@@ -27,16 +27,23 @@ sub-at : tie.Need-sub-at Inv-loop μ-loop
 sub-at c = omega arith
 
 instruction-at-requires : tie.Need-instruction-at-requires Inv-loop μ-loop
-instruction-at-requires c κs = code-inside (c .before .before .before .before .before .before .before .before .before .before .pre .0) _ (omega (arith, c .before .loop .inv .inside))
+instruction-at-requires c κs =
+    let start = c .before .before .before .before .before .before .before .before .before .before in
+    code-inside (start .pre .0) _ (omega (arith, c .before .loop .inv .inside))
 
 buckets-of-requires : tie.Need-buckets-of-requires Inv-loop μ-loop
-buckets-of-requires c κs = limited (c .before .before .before .before .before .before .before .before .before .before .before .pre .0) .local-slots
+buckets-of-requires c κs =
+    let start = c .before .before .before .before .before .before .before .before .before .before .before in
+    limited (start .pre .0) .local-slots
 
 sub-if1 : tie.Need-sub-if1 Inv-loop μ-loop
 sub-if1 c = omega arith
 
 same-length : tie.Need-same-length Inv-loop μ-loop
-same-length c = c .before .before .before .before .before .loop .inv .heads-long ∙ c .before .before .before .before .before .before .before .heads .given
+same-length c =
+    let at-loop = c .before .before .before .before .before in
+    let heads = at-loop .before .before in
+    at-loop .loop .inv .heads-long ∙ heads .heads .given
 
 same-length-2 : tie.Need-same-length-2 Inv-loop μ-loop
 same-length-2 c = c .before .before .before .before .before .loop .inv .nexts-long
@@ -46,16 +53,26 @@ same-length-3 c = c .before .before .before .before .before .loop .inv .pcs-long
 
 returns : tie.Need-returns Inv-loop μ-loop
 returns c =
-    building-full _ (c .before .before .before .before .before .loop .inv) (c .before .before .before .before .loop-test .taken)
-    (buckets-at _ _ (c .before .before .buckets-of .ensures .0) (c .before .before .before .instruction-at .ensures) (counted (c .before .before .before .before .before .before .before .before .before .before .before .before .before .before .pre .0 .are) .local-slots))
-    _ (c .if1 .taken) (counted (c .before .before .before .before .before .before .before .before .before .before .before .before .before .before .pre .0 .are) .code-count) (c .before .before .before .before .before .before .before .before .clear-u16 .ensures)
+    let instruction-at = c .before .before .before in
+    let in-loop = instruction-at .before in
+    let at-loop = in-loop .before in
+    let clear-u16 = at-loop .before .before .before in
+    let start = clear-u16 .before .before .before .before .before .before in
+    building-full _ (at-loop .loop .inv) (in-loop .loop-test .taken)
+    (buckets-at _ _ (c .before .before .buckets-of .ensures .0) (instruction-at .instruction-at .ensures) (counted (start .pre .0 .are) .local-slots))
+    _ (c .if1 .taken) (counted (start .pre .0 .are) .code-count) (clear-u16 .clear-u16 .ensures)
 
 link-each-requires : tie.Need-link-each-requires Inv-loop μ-loop
 link-each-requires c κs =
-    let b = c .before .before .before .before .before .before .before .before .loop .inv in
-    let asked = c .before .before .before .before .before .before .before .before .before .before .before .before .before .before .before .before .before .pre in (
-      omega (arith, c .before .before .before .before .before .buckets-of .ensures .1, b .heads-long, c .before .before .before .before .before .before .before .before .before .before .heads .given, asked .1),
-      omega (arith, b .room, c .before .before .before .if1 .left),
+    let else1 = c .before .before .before in
+    let buckets-of = else1 .before .before in
+    let at-loop = buckets-of .before .before .before in
+    let heads = at-loop .before .before in
+    let start = heads .before .before .before .before .before .before .before in
+    let b = at-loop .loop .inv in
+    let asked = start .pre in (
+      omega (arith, buckets-of .buckets-of .ensures .1, b .heads-long, heads .heads .given, asked .1),
+      omega (arith, b .room, else1 .if1 .left),
       omega (arith, b .pcs-long, b .nexts-long, asked .2),
       omega (arith, b .nexts-long, asked .3),
       omega (arith, b .inside, limited (asked .0) .code-count),
@@ -66,9 +83,18 @@ loop-less c = omega arith
 
 loop-again : tie.Need-loop-again Inv-loop μ-loop
 loop-again c =
-    building-more _ (c .before .before .before .before .before .before .before .before .before .before .before .before .before .before .before .loop .inv) (c .before .before .before .before .before .before .before .before .before .before .before .before .before .before .loop-test .taken)
-    (buckets-at _ _ (c .before .before .before .before .before .before .before .before .before .before .before .before .buckets-of .ensures .0) (c .before .before .before .before .before .before .before .before .before .before .before .before .before .instruction-at .ensures) (counted (c .before .before .before .before .before .before .before .before .before .before .before .before .before .before .before .before .before .before .before .before .before .before .before .before .pre .0 .are) .local-slots))
-    (c .before .before .before .before .before .before .before .before .before .before .if1 .left) (c .before .before .before .before .before .heads2 .given) (c .before .before .before .nexts .given) (c .before .pcs .given) (c .before .before .before .before .before .before .link-each .ensures)
+    let nexts = c .before .before .before in
+    let heads2 = nexts .before .before in
+    let link-each = heads2 .before in
+    let else1 = link-each .before .before .before .before in
+    let buckets-of = else1 .before .before in
+    let instruction-at = buckets-of .before in
+    let in-loop = instruction-at .before in
+    let at-loop = in-loop .before in
+    let start = at-loop .before .before .before .before .before .before .before .before .before in
+    building-more _ (at-loop .loop .inv) (in-loop .loop-test .taken)
+    (buckets-at _ _ (buckets-of .buckets-of .ensures .0) (instruction-at .instruction-at .ensures) (counted (start .pre .0 .are) .local-slots))
+    (else1 .if1 .left) (heads2 .heads2 .given) (nexts .nexts .given) (c .before .pcs .given) (link-each .link-each .ensures)
 
 same-length-4 : tie.Need-same-length-4 Inv-loop μ-loop
 same-length-4 c = c .before .loop .inv .heads-long ∙ c .before .before .before .heads .given
@@ -81,7 +107,9 @@ same-length-6 c = c .before .loop .inv .pcs-long
 
 returns-2 : tie.Need-returns-2 Inv-loop μ-loop
 returns-2 c =
-    building-done _ (c .before .loop .inv) _ (c .loop-test .left) (counted (c .before .before .before .before .before .before .before .before .before .before .pre .0 .are) .code-count) (c .before .before .before .before .clear-u16 .ensures)
+    let clear-u16 = c .before .before .before .before in
+    let start = clear-u16 .before .before .before .before .before .before in
+    building-done _ (c .before .loop .inv) _ (c .loop-test .left) (counted (start .pre .0 .are) .code-count) (clear-u16 .clear-u16 .ensures)
 
 pub build-spec : {M : Type 1} → statement M
 build-spec =

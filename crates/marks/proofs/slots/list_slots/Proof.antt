@@ -14,7 +14,8 @@ returns : tie.Need-returns
 returns c = (c .before .count-marks .ensures, fits-not _ _ (omega (arith, c .before .count-marks .ensures, c .if1 .taken)))
 
 write-slots-requires : tie.Need-write-slots-requires
-write-slots-requires c κs = (c .before .before .before .before .before .pre, omega (arith, c .before .before .count-marks .ensures, c .before .if1 .left))
+write-slots-requires c κs =
+    let many = c .before .before .count-marks .ensures in (c .before .before .before .before .before .pre, omega (arith, many, c .before .if1 .left), many)
 
 same-length : tie.Need-same-length
 same-length c = search needs

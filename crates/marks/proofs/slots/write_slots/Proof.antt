@@ -3,45 +3,60 @@
 use Prim.Native.Nat.{_-_}
 use native.Mathlib.Omega.{arith}
 use lib.ListN.{length}
-use Rattle.marks.proofs.Listing.{Writing, writing-none, writing-within, writing-room, writing-more, writing-all}
+use Rattle.marks.proofs.Listing.{Writing, writing-none, writing-inside, writing-within, writing-room, writing-more, writing-all}
 use Rattle.marks.proofs.slots.write_slots.Statement.{statement}
 use Rattle.marks.proofs.slots.write_slots.Tie as tie
 
 abbrev Inv-loop : tie.InvT-loop
-Inv-loop marks slots₀ at₀ i₀ slots at i = Writing marks slots₀ slots at i
+Inv-loop marks slots₀ s at₀ i₀ slots at i = Writing marks slots₀ slots at i
 
 abbrev μ-loop : tie.MeasureT-loop
-μ-loop marks slots₀ at₀ i₀ slots at i = length marks - i
+μ-loop marks slots₀ s at₀ i₀ slots at i = length marks - i
 
 loop-holds : tie.Need-loop-holds Inv-loop μ-loop
 loop-holds c = writing-none _ _
 
 shared-slice-read-write-slot : tie.Need-shared-slice-read-write-slot Inv-loop μ-loop
-shared-slice-read-write-slot c = omega arith
+shared-slice-read-write-slot c =
+    let start = c .before .before .before .before .before in
+    writing-inside (c .before .before .loop .inv) (omega (arith, c .before .loop-test .taken, start .pre .2))
 
 write-slot-requires : tie.Need-write-slot-requires Inv-loop μ-loop
 write-slot-requires c κs =
-    let w = c .before .before .before .loop .inv in let h = c .before .before .loop-test .taken in let f = c .before .before .before .before .before .before .pre .1 in (omega arith, writing-within w h f, writing-room w h f)
+    let at-loop = c .before .before .before in
+    let start = at-loop .before .before .before in
+    let w = at-loop .loop .inv in
+    let f = start .pre .1 in
+    let h = writing-inside w (omega (arith, c .before .before .loop-test .taken, start .pre .2)) in
+    (omega (arith, h, start .pre .0), writing-within w h f, writing-room w h f)
 
 add-i : tie.Need-add-i Inv-loop μ-loop
-add-i c = omega (arith, c .before .before .before .before .before .loop-test .taken)
+add-i c =
+    let in-loop = c .before .before .before .before .before in
+    let at-loop = in-loop .before in
+    let start = at-loop .before .before .before in
+    omega (arith, writing-inside (at-loop .loop .inv) (omega (arith, in-loop .loop-test .taken, start .pre .2)), start .pre .0)
 
 loop-less : tie.Need-loop-less Inv-loop μ-loop
-loop-less c = omega (arith, c .before .before .before .before .before .loop-test .taken)
+loop-less c =
+    let in-loop = c .before .before .before .before .before in
+    let at-loop = in-loop .before in
+    let start = at-loop .before .before .before in
+    omega (arith, writing-inside (at-loop .loop .inv) (omega (arith, in-loop .loop-test .taken, start .pre .2)))
 
 loop-again : tie.Need-loop-again Inv-loop μ-loop
 loop-again c =
-    let write-slot = c .before .before in
-    let in-loop = write-slot .before .before .before in
+    let in-loop = c .before .before .before .before .before in
     let at-loop = in-loop .before in
     let start = at-loop .before .before .before in
-    writing-more (at-loop .loop .inv) (in-loop .loop-test .taken) (start .pre .1) (write-slot .write-slot .ensures .0) (write-slot .write-slot .ensures .1)
+    let wrote = c .before .before .write-slot .ensures in
+    writing-more (at-loop .loop .inv) (writing-inside (at-loop .loop .inv) (omega (arith, in-loop .loop-test .taken, start .pre .2))) (start .pre .1) (wrote .0) (wrote .1)
 
 same-length : tie.Need-same-length Inv-loop μ-loop
 same-length c = c .before .loop .inv .long
 
 returns : tie.Need-returns Inv-loop μ-loop
-returns c = writing-all (c .before .loop .inv) (c .loop-test .left)
+returns c = writing-all (c .before .loop .inv) (omega (arith, c .loop-test .left, c .before .before .before .before .pre .2))
 
 pub write-slots-spec : {M : Type 1} → statement M
 write-slots-spec =
