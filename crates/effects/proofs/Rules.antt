@@ -3,14 +3,14 @@
 use mathlib.Core.Path.{_≡_, refl, ap, _∙_}
 use mathlib.Core.Logic.{_≢_}
 use mathlib.Core.List.{List}
-use Prim.Native.Nat.{ℕ, zero, suc, _+_, _-_, _≤_, _<_}
+use Prim.Native.Nat.{ℕ, _+_, _-_}
 use lib.Dec.{eqb}
-use borrow.Author.Tests.{ne-eqb, le-leb, lt-leb}
-use Rattle.model.specs.Fact.{Fact, unknown, conflict, known, Row}
+use borrow.Author.Tests.{ne-eqb}
+use Rattle.model.specs.Fact.{Fact, unknown, Row}
 use Rattle.model.specs.Opcode.{select}
 use Rattle.model.specs.Sheet.{instruction}
-use Rattle.model.specs.Tables.{factOf, cellOf}
-use Rattle.model.specs.Transfer.{factFor, target, copied, copiedN, constantRule, constantFact, checked, checkedFrom, indexRule, indexFact, iterNext, containerRule, containerFact}
+use Rattle.model.specs.Tables.{cellOf}
+use Rattle.model.specs.Transfer.{factFor, target, copied, copiedN, constantRule, constantFact, indexRule, indexFact, iterNext, containerRule, containerFact}
 use Rattle.model.specs.Written.{inRange}
 use Rattle.model.specs.declared.FactCell.{FactCell}
 use Rattle.model.specs.declared.Instruction.{Instruction}

@@ -8,17 +8,16 @@ use Prim.Native.Nat.{ℕ, zero, suc, _+_, _-_, _*_, _%_, _^_, _≤_, _<_}
 use native.Mathlib.Nat.{eq-or-lt-of-le}
 use native.Mathlib.Numerals.{add-one}
 use native.Mathlib.Omega.{arith}
-use lib.Dec.{ltb, eqb}
+use lib.Dec.{ltb}
 use lib.Bits.{bitAnd}
 use lib.ListN.{length, getD, length-append}
 use borrow.Author.Tests.{lt-ltb, eq-eqb, ne-eqb}
 use Rattle.model.specs.Count.{collect}
 use Rattle.model.specs.Sheet.{codeCount, localSlots, instruction}
-use Rattle.model.specs.Dependencies.{FactDependency, dependencyBit, copyDependencies, edgeIf, edge, Depends, depends, edgesBy, instructionEdges, keepIf, edgesInto, edgesTo}
+use Rattle.model.specs.Dependencies.{FactDependency, edgeIf, edge, Depends, depends, instructionEdges, keepIf, edgesInto, edgesTo}
 use Rattle.model.specs.Closure.{Marked, mark, followIf, follow}
 use Rattle.model.specs.Opcode.{select}
 use Rattle.model.specs.declared.Instruction.{Instruction}
-use Rattle.model.specs.declared.AnalysisKind.the-variants.{Constant, Container}
 use Rattle.dependencies.specs.Rows.{row, rowIf, rows, dependenceBy, dependence}
 use Rattle.marks.specs.Marks.{Goes, Holding, slotsIn, markAll}
 use Rattle.follow.specs.Sources.{edgesFrom, edgesIn, onlyIf, Follows}

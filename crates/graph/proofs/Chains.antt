@@ -1,15 +1,15 @@
 -- The tables that `graphOf` fills tell the edges to each slot.
 -- Assumes nothing.
-use mathlib.Core.Path.{_≡_, refl, sym, ap, _∙_}
+use mathlib.Core.Path.{_≡_, refl, sym, _∙_}
 use mathlib.Core.Bool.{Bool, true, false, cond}
 use mathlib.Core.Logic.{_⊎_, inl, inr}
 use mathlib.Core.List.{List, []}
-use Prim.Native.Nat.{ℕ, zero, suc, _+_, _-_, _/_, _≤_, _<_, min}
+use Prim.Native.Nat.{ℕ, zero, suc, _+_, _-_, _≤_, _<_}
 use native.Mathlib.Nat.{eq-or-lt-of-le}
 use native.Mathlib.Numerals.{add-one}
 use native.Mathlib.Omega.{arith}
 use lib.Dec.{leb, ltb, eqb}
-use lib.ListN.{length, getD, set, replicate, length-set, length-replicate}
+use lib.ListN.{length, getD, set, length-set, length-replicate}
 use lib.Seq.{getD-set-same, getD-set-other}
 use borrow.Author.Tests.{leb-true, ltb-true, ltb-false, eqb-true, eqb-false}
 use Rattle.model.specs.Sheet.{codeCount, localSlots, instruction}
@@ -20,7 +20,7 @@ use Rattle.dependencies.specs.Rows.{dependence}
 use Rattle.dependencies.proofs.Rows.{below-or-not}
 use Rattle.dependencies.proofs.Into.{span-misses}
 use Rattle.finality.proofs.Memory.{zeros-read}
-use Rattle.graph.specs.Links.{bucketIf, bucket, bucketsIf, endOf, bucketsOf, Links, links, link, linkEach, Graph, graph, bucketsAt, linkDown, graphOf}
+use Rattle.graph.specs.Links.{bucket, bucketsIf, endOf, bucketsOf, Links, links, link, linkEach, Graph, graph, bucketsAt, linkDown, graphOf}
 use Rattle.graph.specs.Chain.{edgesAt, Silent, Chain, ended, linked, Chained}
 use Rattle.graph.specs.declared.Buckets.{Buckets}
 use Rattle.graph.proofs.Ordering.{bucket-below, bucket-order, buckets-few}

@@ -1,12 +1,11 @@
 -- The ranges of what an instruction writes, as the code reads them.
 -- Assumes nothing.
-use mathlib.Core.Path.{_≡_, ap, _∙_}
+use mathlib.Core.Path.{_≡_}
 use mathlib.Core.List.{List}
 use Prim.Native.Nat.{ℕ, _+_, _≤_, _<_}
 use native.Mathlib.Omega.{arith}
 use Rattle.model.specs.Sheet.{rangeStart, rangeLength}
 use Rattle.rows.specs.Slots.{rangeCount, rangeOf, lastRange}
-use Rattle.rows.specs.declared.SlotRange.{SlotRange}
 use Rattle.rows.specs.declared.Written.{Written}
 use Rattle.rows.specs.declared.Written.the-variants.{Span, Ranges}
 
