@@ -36,7 +36,7 @@ use Rattle.analysis.proofs.Closing.{few-below}
 use Rattle.answers.specs.Answers as answers
 use Rattle.admission.specs.Begun.{refusedBy}
 use Rattle.analyses.specs.Chain.{next, nextOf}
-use Rattle.analyses.specs.Lengths.{Stored}
+use Rattle.lengths.specs.Stored.{Stored}
 use Rattle.analyses.proofs.Zeroed.{fill-zero}
 use Rattle.analyses.proofs.Steps.{Stepped, went, quit, same-next, step}
 

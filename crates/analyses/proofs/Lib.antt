@@ -4,7 +4,6 @@ pub mod Steps
 pub mod Constants
 pub mod Order
 pub mod Two
-pub mod Storing
 pub mod Nexting
 pub mod Ready
 pub mod Whole

@@ -18,7 +18,7 @@ use Rattle.model.specs.declared.Answer.{Answer}
 use Rattle.model.specs.declared.Answer.the-variants.{Analyzed, Invalid, OverBudget, NoRoom}
 use Rattle.stages.specs.Stage.{Scratch}
 use Rattle.stages.specs.Ends.{stageEnd, stageOf}
-use Rattle.stages.specs.declared.Staged.{Staged}
+use Rattle.ending.specs.declared.Staged.{Staged}
 use Rattle.answers.specs.Answers.{afterStage}
 use Rattle.analyses.specs.Chain.{next, nextBy, nextOf}
 use Rattle.analyses.proofs.Same.{room-same, containers-same}

@@ -25,7 +25,7 @@ use Rattle.stages.specs.Stage.{Scratch, zeroScratch, tableIf}
 use Rattle.admission.specs.Begun.{noCounts, refusedBy, begunOf, chargeGraph}
 use Rattle.answers.specs.Answers.{counted, refusing}
 use Rattle.analyses.specs.Chain.{next, nextOf}
-use Rattle.analyses.specs.Lengths.{Stored, Lengthened}
+use Rattle.lengths.specs.Stored.{Stored, Lengthened}
 use Rattle.analyses.specs.Values.{values, valuesEnd, valuesOf}
 use Rattle.analyses.proofs.Same.{constants-same, index-same}
 use Rattle.analyses.proofs.Zeroed.{zero-same, zero-twice, scratch-twice, fill-zero, scratch-room}

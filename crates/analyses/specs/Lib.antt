@@ -1,4 +1,3 @@
 -- What the functions of this crate ask and answer, by the definitions of `model`.
 pub mod Chain
-pub mod Lengths
 pub mod Values

@@ -34,11 +34,12 @@ use Rattle.closure.specs.Closed.{Ended, closedTo, closedOf}
 use Rattle.closure.specs.declared.Closed.{Closed}
 use Rattle.closure.specs.declared.Closed.the-variants.{Tracked, Refused}
 use Rattle.stages.specs.Parts.{behindRoom, Behind, behind}
-use Rattle.stages.specs.Stage.{table, scratch, zeroScratch, roomBy, room-by}
+use Rattle.room.specs.Room.{roomBy, room-by}
+use Rattle.stages.specs.Stage.{table, scratch, zeroScratch}
 use Rattle.stages.specs.Ends.{afterClosure, behindIn, slotsAfter, StageEnd, stageEnd, stageOf}
 use Rattle.stages.specs.Stocked.{Empty, Unmarked}
-use Rattle.stages.specs.declared.Staged.{Staged}
-use Rattle.stages.specs.declared.Staged.the-variants.{OverBudget}
+use Rattle.ending.specs.declared.Staged.{Staged}
+use Rattle.ending.specs.declared.Staged.the-variants.{OverBudget}
 use Rattle.stages.proofs.Stepwise.{closure-refused, no-room, with-room}
 use Rattle.behind.proofs.Zeros.{front-filled}
 use Rattle.behind.proofs.Asking.{room-parts}

@@ -11,11 +11,11 @@ ghost use Rattle.stages.specs.Stocked.{Found, Empty, Unmarked};
 use behind::behind_closure;
 use closure::Closed;
 use closure::tracked_slots;
+use ending::Staged;
 use memory::clear_u16;
 use model::AnalysisKind;
 use model::VerifierResources;
 use sheet::Sizes;
-use stages::Staged;
 
 // The slots stay where the analysis is done, and become zero where it is refused.
 fn keep_slots(ended: Staged, slots: &mut [u16])

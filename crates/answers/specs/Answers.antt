@@ -8,8 +8,8 @@ use Rattle.model.specs.declared.AnalysisKind.the-variants.{Constant, IndexCheck
 use Rattle.model.specs.declared.Counts.{Counts}
 use Rattle.model.specs.declared.Answer.{Answer}
 use Rattle.model.specs.declared.Answer.the-variants.{Analyzed, Invalid, OverBudget, NoRoom}
-use Rattle.stages.specs.declared.Staged.{Staged}
-use Rattle.stages.specs.declared.Staged.the-variants as S
+use Rattle.ending.specs.declared.Staged.{Staged}
+use Rattle.ending.specs.declared.Staged.the-variants as S
 
 -- the counts of all three, with those of this analysis
 unfoldable pub counted : AnalysisKind → Counts → Counts → Counts → Counts → VerifierResources → Answer

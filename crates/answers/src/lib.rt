@@ -2,11 +2,11 @@
 ghost use mathlib.Core.Path.{_≡_};
 ghost use Rattle.model.specs.Closure.{stageNumber};
 ghost use Rattle.answers.specs.Answers.{counted, afterStage, refusing};
+use ending::Staged;
 use model::AnalysisKind;
 use model::Answer;
 use model::Counts;
 use model::VerifierResources;
-use stages::Staged;
 
 // "stage (1 to 5 in charge order)"
 fn stage_number(which: AnalysisKind) -> u8

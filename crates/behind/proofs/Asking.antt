@@ -19,12 +19,13 @@ use Rattle.model.specs.declared.VerifierResources.{VerifierResources}
 use Rattle.model.specs.declared.AnalysisKind.{AnalysisKind}
 use Rattle.model.proofs.Tests.{both}
 use Rattle.stages.specs.Parts.{behindRoom, Behind, behind}
-use Rattle.stages.specs.Stage.{roomBy}
-use Rattle.stages.specs.Ends.{afterClosure, atOnce, behindIn}
+use Rattle.room.specs.Room.{roomBy}
+use Rattle.ending.specs.Answer.{atOnce}
+use Rattle.stages.specs.Ends.{afterClosure, behindIn}
 use Rattle.stages.specs.Stocked.{Slotted, Empty, Roomy}
-use Rattle.stages.specs.declared.Staged.{Staged}
-use Rattle.stages.specs.declared.Staged.the-variants.{NoRoom}
-use Rattle.stages.proofs.Paths.{some-room}
+use Rattle.ending.specs.declared.Staged.{Staged}
+use Rattle.ending.specs.declared.Staged.the-variants.{NoRoom}
+use Rattle.room.proofs.Fits.{some-room}
 use Rattle.stages.proofs.Stepwise.{at-once}
 use Rattle.behind.proofs.Zeros.{front-cleared, front-filled}
 use Rattle.worklist.proofs.Running.{no-cells, no-present}

@@ -15,8 +15,8 @@ use Rattle.sheet.proofs.Limited.{limited}
 use Rattle.stages.specs.Parts.{Behind, behind, behindZero, behindOf}
 use Rattle.stages.specs.Ends.{behindIn}
 use Rattle.stages.specs.Stocked.{Found, Slotted, Zeroed, Empty, Roomy}
-use Rattle.stages.specs.declared.Staged.{Staged}
-use Rattle.stages.proofs.Paths.{cells-fit}
+use Rattle.ending.specs.declared.Staged.{Staged}
+use Rattle.room.proofs.Fits.{cells-fit}
 use Rattle.behind.proofs.Zeros.{take-zero, front-cleared, front-filled}
 
 pub some-same : {a b : Behind} → _≡_ {A = Option Behind} (some a) (some b) → a ≡ b

@@ -29,13 +29,14 @@ use Rattle.sheet.proofs.Limited.{limited}
 use Rattle.parameters.specs.First.{Blank, First, first, firstOf}
 use Rattle.steps.specs.Stepped.{ranAnalysis, Lending}
 use Rattle.worklist.specs.Turn.{Fresh}
-use Rattle.worklist.specs.declared.Run.{Run}
-use Rattle.worklist.specs.declared.Run.the-variants.{Finished, Overdrawn}
-use Rattle.worklist.specs.Result.{RunResult, runResult, ranOf}
-use Rattle.stages.specs.Parts.{entering, behindRoom, stagedOf, behind, behindZero, behindOf}
+use Rattle.ending.specs.declared.Run.{Run}
+use Rattle.ending.specs.declared.Run.the-variants.{Finished, Overdrawn}
+use Rattle.ending.specs.Result.{RunResult, runResult, ranOf}
+use Rattle.ending.specs.Answer.{stagedOf}
+use Rattle.stages.specs.Parts.{entering, behindRoom, behind, behindZero, behindOf}
 use Rattle.stages.specs.Stocked.{Found, Slotted, Zeroed}
-use Rattle.stages.specs.declared.Staged.{Staged}
-use Rattle.stages.specs.declared.Staged.the-variants.{OverBudget}
+use Rattle.ending.specs.declared.Staged.{Staged}
+use Rattle.ending.specs.declared.Staged.the-variants.{OverBudget}
 use Rattle.stages.proofs.Stepwise.{entering-refused, then-run}
 use Rattle.model.proofs.Facts.{facts-back}
 

@@ -7,11 +7,11 @@ ghost use Rattle.model.specs.Tables.{lengthTable};
 ghost use Rattle.stages.specs.Parts.{behindRoom, behind, behindOf};
 ghost use Rattle.stages.specs.Stocked.{Found, Slotted, Zeroed};
 use budget::Metering;
+use ending::Staged;
+use ending::answered;
 use model::AnalysisKind;
 use model::VerifierResources;
 use sheet::Sizes;
-use stages::Staged;
-use stages::answered;
 use stages::enter;
 use worklist::propagate;
 

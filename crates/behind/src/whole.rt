@@ -8,16 +8,16 @@ ghost use Rattle.model.specs.Sheet.{codeCount};
 ghost use Rattle.model.specs.Lookup.{ascends};
 ghost use Rattle.model.specs.Tables.{lengthTable};
 ghost use Rattle.stages.specs.Parts.{behindRoom, behind};
-ghost use Rattle.stages.specs.Stage.{roomBy};
+ghost use Rattle.room.specs.Room.{roomBy};
 ghost use Rattle.stages.specs.Ends.{afterClosure, behindIn};
 ghost use Rattle.stages.specs.Stocked.{Found, Slotted, Empty, Roomy};
 use crate::running::run_stage;
+use ending::Staged;
+use ending::at_once;
 use model::AnalysisKind;
 use model::VerifierResources;
+use room::room_for;
 use sheet::Sizes;
-use stages::Staged;
-use stages::at_once;
-use stages::room_for;
 
 // The charges, the first row and the run of the s tracked slots, in the first places of tables and scratch that are zero.
 fn run_front(

@@ -12,6 +12,7 @@ use crate::numbers::u16_at;
 use crate::numbers::u64_at;
 use crate::record::Record;
 use crate::record::RecordedTable;
+use crate::record::table_of;
 use crate::record::value_after;
 
 // What a buffer must hold: what it held before; or so many elements that lie in the record from a place on, and zeros behind them.
@@ -139,13 +140,14 @@ fn wanted(memory: Memory, count: usize, from: usize) -> Want {
 pub fn wrong_table(
     record: &[u8],
     r: Record,
-    table: RecordedTable,
+    which: usize,
     memory: Memory,
     slots: &[u16],
     present: &[u8],
     kinds: &[u8],
     values: &[u64],
 ) -> u64 {
+    let table = table_of(record, r, which);
     let count = cells(r.n, table.s);
     let a = wanted(memory, table.s as usize, table.slots_at);
     let b = wanted(memory, r.n as usize, table.present_at);
@@ -166,7 +168,7 @@ pub fn wrong_table(
 // Scratch holds what it held before, or zeros.
 pub fn wrong_scratch(
     record: &[u8],
-    table: RecordedTable,
+    r: Record,
     memory: Memory,
     marks: &[u8],
     stack: &[u16],
@@ -178,7 +180,7 @@ pub fn wrong_scratch(
     let closure = total(wrong_bytes(record, a, marks), wrong_pairs(record, a, stack));
     let row = total(
         wrong_bytes(record, a, row_kinds),
-        wrong_words(record, a, table, row_values),
+        wrong_words(record, a, table_of(record, r, 0), row_values),
     );
     total(total(closure, row), wrong_pairs(record, a, work_list))
 }

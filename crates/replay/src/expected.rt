@@ -8,9 +8,8 @@ use crate::lengths::WORK_LIST;
 use crate::numbers::cells;
 use crate::numbers::entries;
 use crate::record::Record;
-use crate::record::end_of;
 use crate::record::left_behind;
-use crate::record::table_at;
+use crate::record::table_of;
 use crate::record::tracked;
 use model::Answer;
 use model::Counts;
@@ -153,9 +152,9 @@ fn first_refused(record: &[u8], r: Record, lengths: [usize; 17]) -> usize {
 
 // s and pops of the three tables, and what is left.
 fn analyzed(record: &[u8], r: Record) -> [u64; 12] {
-    let a = table_at(record, r, r.tables_at);
-    let b = table_at(record, r, end_of(record, r, a));
-    let c = table_at(record, r, end_of(record, r, b));
+    let a = table_of(record, r, 0);
+    let b = table_of(record, r, 1);
+    let c = table_of(record, r, 2);
     counted(
         Counts {
             tracked: a.s as u64,

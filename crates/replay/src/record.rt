@@ -116,7 +116,7 @@ fn closure_at(r: Record, which: usize) -> usize {
 }
 
 // The table that begins at a place.
-pub fn table_at(record: &[u8], r: Record, place: usize) -> RecordedTable {
+fn table_at(record: &[u8], r: Record, place: usize) -> RecordedTable {
     let s = u16_at(record, place);
     let slots_at = after(place, 6);
     let present_at = after(slots_at, 2 * s as usize);
@@ -132,7 +132,7 @@ pub fn table_at(record: &[u8], r: Record, place: usize) -> RecordedTable {
 }
 
 // Where a table ends.
-pub fn end_of(record: &[u8], r: Record, table: RecordedTable) -> usize {
+fn end_of(record: &[u8], r: Record, table: RecordedTable) -> usize {
     let count = cells(r.n, table.s);
     let mut place = table.values_at;
     let mut i = 0;
@@ -141,6 +141,19 @@ pub fn end_of(record: &[u8], r: Record, table: RecordedTable) -> usize {
         i += 1;
     }
     place
+}
+
+// The table of an analysis: 0 of constants, 1 of index checks, 2 of containers.
+pub fn table_of(record: &[u8], r: Record, which: usize) -> RecordedTable {
+    let first = table_at(record, r, r.tables_at);
+    if which == 0 {
+        return first;
+    }
+    let second = table_at(record, r, end_of(record, r, first));
+    if which == 1 {
+        return second;
+    }
+    table_at(record, r, end_of(record, r, second))
 }
 
 // Where the value behind that of cell i lies: a cell of kind 0 or 1 has none.

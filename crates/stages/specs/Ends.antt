@@ -9,12 +9,11 @@ use Rattle.model.specs.Charges.{overBudget, noRoom, Spent, ok, stop, unfinished
 use Rattle.model.specs.Fact.{Fact}
 use Rattle.model.specs.Analyses.{Analysed}
 use Rattle.model.specs.Call.{Table, counts, tables, zeros, filled, zeroTable, filledTable}
-use Rattle.model.specs.declared.VerifierResources.{VerifierResources}
 use Rattle.model.specs.declared.AnalysisKind.{AnalysisKind}
 use Rattle.stages.specs.Parts.{behindRoom, Behind, behind}
 use Rattle.stages.specs.Stage.{Scratch, zeroScratch}
-use Rattle.stages.specs.declared.Staged.{Staged}
-use Rattle.stages.specs.declared.Staged.the-variants.{Done, OverBudget, NoRoom}
+use Rattle.ending.specs.declared.Staged.{Staged}
+use Rattle.ending.specs.declared.Staged.the-variants.{Done, OverBudget, NoRoom}
 
 -- ---- behind the closure, whose s slots are the first of the lent ones
 
@@ -22,10 +21,6 @@ use Rattle.stages.specs.declared.Staged.the-variants.{Done, OverBudget, 
 unfoldable pub afterClosure : AnalysisKind → List ℕ → ℕ → List ℕ → Bool → (ℕ → Fact) → Metered Analysed
 afterClosure which sheet s slots true lengthFact left = behindRoom which sheet (take s slots) lengthFact left
 afterClosure which sheet s slots false lengthFact left = stop noRoom left
-
--- "With s or n zero it ends at once, without rows."
-unfoldable pub atOnce : ℕ → VerifierResources → Staged
-atOnce s left = Done (record { tracked = s; pops = 0 }) left
 
 -- The tables at the front and zeros after them; all zero after 7 and 8. Nothing where a loop's fuel was too little, which does not happen.
 unfoldable pub behindIn : List ℕ → List ℕ → List ℕ → List ℕ → List ℕ → List ℕ → Spent Analysed → Option Behind

@@ -8,12 +8,9 @@ use Rattle.model.specs.Charges.{overBudget, noRoom, Spent, ok, stop, unfinished
 use Rattle.model.specs.Fact.{Fact, Row}
 use Rattle.model.specs.Analyses.{Analysed, chargeMatrix, firstRow, propagate}
 use Rattle.model.specs.Call.{counts, tables}
-use Rattle.model.specs.declared.VerifierResources.{VerifierResources}
 use Rattle.model.specs.declared.AnalysisKind.{AnalysisKind}
-use Rattle.worklist.specs.declared.Run.{Run}
-use Rattle.worklist.specs.declared.Run.the-variants.{Finished, Overdrawn}
-use Rattle.stages.specs.declared.Staged.{Staged}
-use Rattle.stages.specs.declared.Staged.the-variants.{Done, OverBudget}
+use Rattle.ending.specs.declared.Staged.{Staged}
+use Rattle.ending.specs.declared.Staged.the-variants.{Done, OverBudget}
 
 -- the matrix charge and the first row, of the tracked slots
 unfoldable pub entering : AnalysisKind → List ℕ → List ℕ → Metered Row
@@ -26,13 +23,6 @@ unfoldable pub behindRoom : AnalysisKind → List ℕ → List ℕ → (ℕ → 
 behindRoom which sheet slots lengthFact = do
   entry ← entering which sheet slots
   propagate which sheet slots lengthFact entry
-
--- ---- what the run's end makes of the answer
-
--- "answers s and the pop count of each analysis"; a refused charge leaves what remains
-unfoldable pub stagedOf : Run → ℕ → VerifierResources → Staged
-stagedOf (Finished pops work) s started = Done (record { tracked = s; pops = pops }) (record { bytes = started .bytes; work = work })
-stagedOf (Overdrawn requested remaining) s started = OverBudget requested remaining (record { bytes = started .bytes; work = remaining })
 
 -- ---- what is answered and left behind question 8
 

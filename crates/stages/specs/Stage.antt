@@ -1,12 +1,9 @@
 -- The lent memory of a stage, and what a stage makes of it.
 -- Assumes nothing.
-use mathlib.Core.Path.{_≡_, refl}
-use mathlib.Core.Bool.{Bool, true, false, _&&_}
+use mathlib.Core.Bool.{Bool, true, false}
 use mathlib.Core.List.{List}
-use Prim.Native.Nat.{ℕ, _*_}
-use lib.Dec.{leb}
-use lib.ListN.{length}
-use Rattle.model.specs.Call.{Table, Lent, zeros, zeroTable, workListRoom, roomFor}
+use Prim.Native.Nat.{ℕ}
+use Rattle.model.specs.Call.{Table, Lent, zeros, zeroTable}
 
 -- the output of one analysis, from its four slices
 abbrev pub table : List ℕ → List ℕ → List ℕ → List ℕ → Table
@@ -45,14 +42,3 @@ zeroScratch old = scratch (zeros (old .marks)) (zeros (old .stack)) (zeros (old 
 unfoldable pub tableIf : Bool → Table → Table
 tableIf true old = zeroTable old
 tableIf false old = old
-
--- question 8, by the lengths of what is lent
-unfoldable pub roomBy : ℕ → ℕ → ℕ → ℕ → ℕ → ℕ → ℕ → ℕ → ℕ → Bool
-roomBy n s slots present kinds values rowKinds rowValues workList =
-    leb s slots && leb s rowKinds && leb s rowValues && leb n present && leb (n * s) kinds && leb (n * s) values && workListRoom n s workList
-
-pub room-by : (n : ℕ) (t : Table) (rowKinds rowValues workList : List ℕ) (s : ℕ)
-    → roomFor n t rowKinds rowValues workList s
-    ≡ roomBy n s (length (t .slots)) (length (t .present)) (length (t .kinds)) (length (t .values)) (length rowKinds) (length rowValues) (length workList)
-unfolding roomFor roomBy
-room-by n t rowKinds rowValues workList s = refl

@@ -1,4 +1,2 @@
--- The laws of this crate. For other crates to cite: Laying, Offers.
-pub mod Laying
-pub mod Offers
+-- The laws of this crate.
 pub mod Stepping

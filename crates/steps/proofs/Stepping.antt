@@ -23,9 +23,9 @@ use Rattle.sheet.specs.Measured.{Accepted}
 use Rattle.sheet.specs.declared.Sizes.{Sizes}
 use Rattle.sheet.proofs.Counted.{counted}
 use Rattle.search.specs.Rows.{Lies, Tracked}
-use Rattle.steps.specs.Laid.{RowsLaid, RowLaid, Following, Follow}
+use Rattle.visits.specs.Laid.{RowsLaid, RowLaid, Following, Follow}
 use Rattle.steps.specs.Stepped.{ranAnalysis, Stepping, Step, Copied}
-use Rattle.steps.proofs.Laying.{row-end, mid-row, rows-are}
+use Rattle.visits.proofs.Laying.{row-end, mid-row, rows-are}
 use Rattle.model.proofs.Facts.{facts-back}
 
 -- the length's fact of one instruction is all that its transfer reads

@@ -1,3 +1,2 @@
--- How the state of a run lies in the lent slices, and what one step makes of it
-pub mod Laid
+-- What one step asks, and what it makes of the state that lies in the lent slices
 pub mod Stepped

@@ -17,7 +17,7 @@ use Rattle.sheet.specs.Measured.{Accepted}
 use Rattle.sheet.specs.declared.Sizes.{Sizes}
 use Rattle.model.specs.declared.AnalysisKind.{AnalysisKind}
 use Rattle.model.specs.Transfer.{transferRow}
-use Rattle.steps.specs.Laid.{StateLaid, RowsLaid, RowLaid}
+use Rattle.visits.specs.Laid.{StateLaid, RowsLaid, RowLaid}
 
 -- the analysis that the loop runs, from its first row
 unfoldable pub ranAnalysis : AnalysisKind → List ℕ → List ℕ → List ℕ → List ℕ → Row → Analysis

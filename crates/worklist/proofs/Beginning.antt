@@ -12,12 +12,12 @@ use Rattle.model.specs.Tables.{factsOf}
 use Rattle.model.specs.Analyses.{analysis}
 use Rattle.model.specs.declared.AnalysisKind.{AnalysisKind}
 use Rattle.sheet.specs.declared.Sizes.{Sizes}
-use Rattle.steps.specs.Laid.{Offer}
+use Rattle.visits.specs.Laid.{Offer}
 use Rattle.steps.specs.Stepped.{ranAnalysis, Lending}
 use Rattle.worklist.specs.Turn.{firstOf, Turn, Ran, Fresh}
-use Rattle.worklist.specs.declared.Run.{Run}
+use Rattle.ending.specs.declared.Run.{Run}
 use Rattle.worklist.proofs.Loop.{start-turn, start-first}
-use Rattle.worklist.specs.Result.{RunResult, finishOf, ranOf}
+use Rattle.ending.specs.Result.{RunResult, finishOf, ranOf}
 use Rattle.worklist.proofs.Finishing.{ends}
 
 module _ (which : AnalysisKind) (sheet : List ℕ) (sizes : Sizes) (firsts starts slots lengthKinds lengthValues : List ℕ) (left : ℕ)

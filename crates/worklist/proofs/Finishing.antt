@@ -8,9 +8,9 @@ use lib.ListN.{length}
 use Rattle.model.specs.Call.{zeros}
 use Rattle.model.specs.Run.{Analysis, bound, run}
 use Rattle.worklist.specs.Turn.{Ran}
-use Rattle.worklist.specs.declared.Run.{Run}
-use Rattle.worklist.specs.declared.Run.the-variants.{Finished, Overdrawn}
-use Rattle.worklist.specs.Result.{runResult, finishOf, ranOf}
+use Rattle.ending.specs.declared.Run.{Run}
+use Rattle.ending.specs.declared.Run.the-variants.{Finished, Overdrawn}
+use Rattle.ending.specs.Result.{runResult, finishOf, ranOf}
 
 result-path : {r : Run} {p k v rk rv l p′ k′ v′ rk′ rv′ l′ : List ℕ} → p ≡ p′ → k ≡ k′ → v ≡ v′ → rk ≡ rk′ → rv ≡ rv′ → l ≡ l′
     → runResult r p k v rk rv l ≡ runResult r p′ k′ v′ rk′ rv′ l′
@@ -24,15 +24,3 @@ unfolding Ran finishOf ranOf zeros
 ends a left (Finished pops work) present kinds values rowKinds rowValues list hp hk hv hrk hrv hl (rows, e, laid, z) =
     rw (hrk, hrv, e) (ap some (result-path (laid .present-are) (laid .kinds-are) (laid .values-are) refl refl z))
 ends a left (Overdrawn requested remaining) present kinds values rowKinds rowValues list hp hk hv hrk hrv hl e = rw (hp, hk, hv, hrk, hrv, hl, e)
-
-module _ (ended : Run) (present kinds values rowKinds rowValues list : List ℕ) (rowKinds′ rowValues′ : List ℕ) where
-  pub finish-finished : {pops work : ℕ} → ended ≡ Finished pops work → rowKinds′ ≡ zeros rowKinds → rowValues′ ≡ zeros rowValues
-      → runResult ended present kinds values rowKinds′ rowValues′ list ≡ finishOf ended present kinds values rowKinds rowValues list
-  unfolding finishOf
-  finish-finished e p q = rw (e, p, q)
-
-  pub finish-overdrawn : {requested remaining : ℕ} (present′ kinds′ values′ list′ : List ℕ) → ended ≡ Overdrawn requested remaining
-      → present′ ≡ zeros present → kinds′ ≡ zeros kinds → values′ ≡ zeros values → rowKinds′ ≡ zeros rowKinds → rowValues′ ≡ zeros rowValues → list′ ≡ zeros list
-      → runResult ended present′ kinds′ values′ rowKinds′ rowValues′ list′ ≡ finishOf ended present kinds values rowKinds rowValues list
-  unfolding finishOf
-  finish-overdrawn present′ kinds′ values′ list′ e a b c p q d = rw (e, a, b, c, p, q, d)

@@ -16,10 +16,10 @@ use Rattle.model.specs.Demand.{Lawful}
 use Rattle.model.specs.declared.AnalysisKind.{AnalysisKind}
 use Rattle.finality.proofs.Lawful.{lawful}
 use Rattle.sheet.specs.declared.Sizes.{Sizes}
-use Rattle.steps.specs.Laid.{RowsLaid, RowLaid, StateLaid, successorAt, Offering, Offer}
+use Rattle.visits.specs.Laid.{RowsLaid, RowLaid, StateLaid, successorAt, Offering, Offer}
 use Rattle.steps.specs.Stepped.{ranAnalysis, Lending, Stepping, Step}
 use Rattle.worklist.specs.Turn.{firstOf, Running, Turn, Ran, Fresh}
-use Rattle.worklist.specs.declared.Run.the-variants.{Finished}
+use Rattle.ending.specs.declared.Run.the-variants.{Finished}
 use Rattle.worklist.proofs.Running as T
 use Rattle.worklist.proofs.Running.{Sizes as TurnSizes, bare}
 

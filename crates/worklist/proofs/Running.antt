@@ -18,8 +18,8 @@ use Rattle.finality.proofs.Invariant.{Good, none-some, rowAt-replicate}
 use Rattle.finality.proofs.Final.{visited-good}
 use Rattle.finality.proofs.Memory.{row-part}
 use Rattle.finality.proofs.Fuel.{run-is}
-use Rattle.steps.specs.Laid.{RowsLaid, StateLaid}
-use Rattle.steps.proofs.Offers.{visits-count, visits-left}
+use Rattle.visits.specs.Laid.{RowsLaid, StateLaid}
+use Rattle.visits.proofs.Offers.{visits-count, visits-left}
 use Rattle.worklist.specs.Turn.{Running}
 use Rattle.model.proofs.Facts.{row-below}
 

@@ -1,3 +1,2 @@
--- The loop between two turns, and what the whole run answers and leaves
+-- The loop between two turns
 pub mod Turn
-pub mod Result

@@ -11,10 +11,10 @@ use Rattle.model.specs.Run.{Analysis, State, finished, overdrawn, bound, run}
 use Rattle.model.specs.Tables.{factsOf, tableRow}
 use Rattle.model.specs.Demand.{Visited}
 use Rattle.model.specs.declared.AnalysisKind.{AnalysisKind}
-use Rattle.steps.specs.Laid.{RowsLaid, StateLaid}
+use Rattle.visits.specs.Laid.{RowsLaid, StateLaid}
 use Rattle.steps.specs.Stepped.{ranAnalysis}
-use Rattle.worklist.specs.declared.Run.{Run}
-use Rattle.worklist.specs.declared.Run.the-variants.{Finished, Overdrawn}
+use Rattle.ending.specs.declared.Run.{Run}
+use Rattle.ending.specs.declared.Run.the-variants.{Finished, Overdrawn}
 
 -- the row of instruction 0, as it lies in the tables
 unfoldable pub firstOf : List ℕ → List ℕ → List ℕ → Row

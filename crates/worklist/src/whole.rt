@@ -7,14 +7,14 @@ ghost use Rattle.model.specs.Sheet.{codeCount};
 ghost use Rattle.model.specs.Tables.{factsOf};
 ghost use Rattle.steps.specs.Stepped.{ranAnalysis, Lending};
 ghost use Rattle.worklist.specs.Turn.{firstOf, Turn, Ran, Fresh};
-ghost use Rattle.worklist.specs.Result.{runResult, ranOf};
-use crate::Run;
-use crate::ending::finish;
+ghost use Rattle.ending.specs.Result.{runResult, ranOf};
+use ending::Run;
+use ending::finish;
 use model::AnalysisKind;
 use model::InstructionSuccessors;
 use sheet::Sizes;
-use steps::offer;
 use steps::step;
+use visits::offer;
 
 // "A step takes the entry added last and counts 1. A copy of that instruction's row goes through its transfer. Then each successor in
 // order", until "The empty list ends the run". The list's first entry is there already.

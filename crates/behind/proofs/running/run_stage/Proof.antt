@@ -8,7 +8,7 @@ use Rattle.behind.proofs.running.run_stage.Tie as tie
 use Rattle.behind.proofs.running.run_stage.Reads as reads
 use Rattle.behind.proofs.running.run_stage.Lts as lts
 use Rattle.stages.proofs.enter.Reads as enter-reads
-use Rattle.stages.proofs.answered.Reads as answered-reads
+use Rattle.ending.proofs.answered.Reads as answered-reads
 use Rattle.worklist.proofs.propagate.Reads as propagate-reads
 
 enter-requires : tie.Need-enter-requires

@@ -12,9 +12,9 @@ use Rattle.behind.proofs.whole.behind_closure.Statement.{statement}
 use Rattle.behind.proofs.whole.behind_closure.Tie as tie
 use Rattle.behind.proofs.whole.behind_closure.Reads as reads
 use Rattle.behind.proofs.whole.behind_closure.Lts as lts
-use Rattle.stages.proofs.at_once.Reads as at-once-reads
+use Rattle.ending.proofs.at_once.Reads as at-once-reads
 use Rattle.behind.proofs.whole.run_front.Reads as run-front-reads
-use Rattle.stages.proofs.room_for.Reads as room-for-reads
+use Rattle.room.proofs.room_for.Reads as room-for-reads
 
 room-for-requires : tie.Need-room-for-requires
 room-for-requires c κs = let start = c .before .before .before .before .before .before .before .before .before .before .before .before in (limited (measured (start .pre .0 .accepted)) .code-count, start .pre .1)

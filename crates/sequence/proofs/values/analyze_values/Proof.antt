@@ -13,7 +13,7 @@ use Rattle.sequence.proofs.values.analyze_values.Tie as tie
 use Rattle.sequence.proofs.values.analyze_values.Reads as reads
 use Rattle.sequence.proofs.values.analyze_values.Lts as lts
 use Rattle.admission.proofs.charge_graph.Reads as charge-graph-reads
-use Rattle.analyses.proofs.store_lengths.Reads as store-lengths-reads
+use Rattle.lengths.proofs.store_lengths.Reads as store-lengths-reads
 use Rattle.analyses.proofs.analyze_next.Reads as analyze-next-reads
 use Rattle.answers.proofs.refuses.Reads as refuses-reads
 use Rattle.starts.proofs.first_ranges.Reads as first-ranges-reads

@@ -7,9 +7,9 @@ use Rattle.worklist.proofs.whole.propagate.Statement.{statement}
 use Rattle.worklist.proofs.whole.propagate.Tie as tie
 use Rattle.worklist.proofs.whole.propagate.Reads as reads
 use Rattle.worklist.proofs.whole.propagate.Lts as lts
-use Rattle.worklist.proofs.ending.finish.Reads as finish-reads
+use Rattle.ending.proofs.finish.Reads as finish-reads
 use Rattle.worklist.proofs.whole.run_list.Reads as run-list-reads
-use Rattle.steps.proofs.offer.Reads as offer-reads
+use Rattle.visits.proofs.offer.Reads as offer-reads
 
 offer-requires : tie.Need-offer-requires
 offer-requires c κs = start-offering (c .before .before .before .before .before .before .before .before .before .before .before .before .before .before .before .before .before .before .args .which) _ _ _ _ _ _ _ _ (c .before .before .before .before .before .before .before .before .before .before .before .before .before .before .before .before .before .before .args .work) (c .before .before .before .before .before .before .before .before .before .before .before .before .before .before .before .before .before .before .pre .0) _ _ _ _ _ _ (c .before .before .before .before .before .before .before .before .before .before .before .before .before .before .before .before .before .before .pre .1) refl

@@ -1,0 +1,3 @@
+-- What a run leaves behind it, and what its stage answers
+pub mod Result
+pub mod Answer

@@ -1,0 +1,2 @@
+-- Question 8
+pub mod Room
