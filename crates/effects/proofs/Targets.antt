@@ -12,7 +12,7 @@ use Rattle.model.specs.Tables.{cellOf}
 use Rattle.model.specs.Transfer.{factFor}
 use Rattle.model.specs.Written.{inRange}
 use Rattle.model.specs.declared.FactCell.{FactCell}
-use Rattle.writes.proofs.InRange.{before, from-start}
+use Rattle.ranges.proofs.InRange.{before, from-start}
 use Rattle.fact_cells.specs.Target.{targetCell}
 use Rattle.effects.specs.Effect.{effectCell}
 use Rattle.effects.specs.declared.Effect.{Effect}

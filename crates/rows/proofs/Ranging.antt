@@ -14,7 +14,7 @@ use Rattle.model.specs.Lookup.{ascends}
 use Rattle.model.specs.Sheet.{rangeStart, rangeLength}
 use Rattle.model.specs.Written.{inRange, inRanges}
 use Rattle.model.specs.declared.FactCell.{FactCell}
-use Rattle.writes.proofs.InRange.{before, from-start}
+use Rattle.ranges.proofs.InRange.{before, from-start}
 use Rattle.search.specs.Rows.{Bound}
 use Rattle.search.proofs.Ascending.{ascends-lt}
 use Rattle.rows.specs.Slots.{rangeCount, rangeOf, names}

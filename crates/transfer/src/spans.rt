@@ -60,7 +60,7 @@ fn instruction_writes(
         };
     }
     if op == SLOT_SET_N {
-        if writes::has_elements(sheet, sizes, pc) {
+        if ranges::has_elements(sheet, sizes, pc) {
             return Written::Span {
                 start: inst.a,
                 count: 65536,
@@ -92,7 +92,7 @@ fn index_check_instruction_writes(
         if 1 < before.kind {
             return Written::Span {
                 start: inst.a,
-                count: writes::span(before.value, 1),
+                count: ranges::span(before.value, 1),
             };
         }
         return instruction_writes(sheet, sizes, firsts, pc, inst);
@@ -102,7 +102,7 @@ fn index_check_instruction_writes(
         if 1 < before.kind {
             return Written::Span {
                 start: inst.a,
-                count: writes::span(before.value, writes::elem_slots(sheet, sizes, pc, inst)),
+                count: ranges::span(before.value, ranges::elem_slots(sheet, sizes, pc, inst)),
             };
         }
         return instruction_writes(sheet, sizes, firsts, pc, inst);

@@ -6,12 +6,12 @@ ghost use Rattle.model.specs.Tables.{factIn};
 ghost use Rattle.model.specs.Written.{indexWritten};
 ghost use Rattle.memory.specs.Front.{Holds};
 ghost use Rattle.sheet.specs.Measured.{Accepted};
-use crate::elements::elem_slots;
-use crate::ranges::in_range;
-use crate::ranges::span;
 use crate::slots::instruction_writes_slot;
 use model::FactCell;
 use model::Instruction;
+use ranges::elem_slots;
+use ranges::in_range;
+use ranges::span;
 use sheet::Sizes;
 
 // "SlotSet and SlotSetN whose b is Checked len write exactly a up to a + len × e"; `before` is b's cell.

@@ -5,9 +5,9 @@ ghost use Rattle.model.specs.Sheet.{instruction, codeCount, firstRange, erred};
 ghost use Rattle.model.specs.Written.{rangesWrite, written};
 ghost use Rattle.memory.specs.Front.{Holds};
 ghost use Rattle.sheet.specs.Measured.{Accepted};
-use crate::elements::has_elements;
-use crate::ranges::in_ranges;
 use model::Instruction;
+use ranges::has_elements;
+use ranges::in_ranges;
 use sheet::Sizes;
 
 // "For all other opcodes the ranges decide .., and an erring visitor writes all."

@@ -7,7 +7,6 @@ use Rattle.stages.specs.Stage.{table, scratch}
 use Rattle.analyses.proofs.Ready.{few-code, few-layouts, found, clean, still-clear}
 use Rattle.analyses.proofs.Constants.{constants-stored}
 use Rattle.analyses.proofs.Two.{values-promise}
-use borrow.Author.Needs.{needs}
 use Rattle.sequence.proofs.values.analyze_values.Statement.{statement}
 use Rattle.sequence.proofs.values.analyze_values.Tie as tie
 use Rattle.sequence.proofs.values.analyze_values.Reads as reads
@@ -40,10 +39,10 @@ charge-graph-requires : tie.Need-charge-graph-requires
 charge-graph-requires c κs = measured (c .before .before .before .before .before .before .before .before .before .before .before .before .before .before .before .before .before .before .before .before .before .before .before .before .before .before .before .before .before .before .before .before .before .before .before .before .pre .0)
 
 slice-aggregate-analyze-next : tie.Need-slice-aggregate-analyze-next
-slice-aggregate-analyze-next c = search needs
+slice-aggregate-analyze-next c = sym (c .before .before .before .before .before .firsts2 .given)
 
 slice-aggregate-analyze-next-2 : tie.Need-slice-aggregate-analyze-next-2
-slice-aggregate-analyze-next-2 c = search needs
+slice-aggregate-analyze-next-2 c = sym (c .before .before .before .starts2 .given)
 
 slice-aggregate-analyze-next-3 : tie.Need-slice-aggregate-analyze-next-3
 slice-aggregate-analyze-next-3 c = refl
@@ -76,10 +75,10 @@ slice-aggregate-analyze-next-6 : tie.Need-slice-aggregate-analyze-next-6
 slice-aggregate-analyze-next-6 c = sym (c .before .before .before .before .before .before .before .before .before .before .before .before .before .before .before .before .before .before .before .before .before .before .before .before .before .before .before .before .before .before .before .before .before .before .before .before .before .before .before .before .before .before .before .before .starts2 .given)
 
 slice-aggregate-analyze-next-7 : tie.Need-slice-aggregate-analyze-next-7
-slice-aggregate-analyze-next-7 c = search needs
+slice-aggregate-analyze-next-7 c = sym (c .before .before .before .before .length-kinds3 .given)
 
 slice-aggregate-analyze-next-8 : tie.Need-slice-aggregate-analyze-next-8
-slice-aggregate-analyze-next-8 c = search needs
+slice-aggregate-analyze-next-8 c = sym (c .before .before .before .before .length-values3 .given)
 
 analyze-next-requires-2 : tie.Need-analyze-next-requires-2
 analyze-next-requires-2 c κs = let start = c .before .before .before .before .before .before .before .before .before .before .before .before .before .before .before .before .before .before .before .before .before .before .before .before .before .before .before .before .before .before .before .before .before .before .before .before .before .before .before .before .before .before .before .before .before .before .before .before .before .before .before .before .before .before .before .before .before .before .before .before .before .before .before .before .before .before .before .before .before .before .before .before .before .before .before .before .before .before .before .before .before .before .before .before .before .before .before .before .before .before .before in (
