@@ -1,3 +1,2 @@
 -- What the functions of this crate answer, by the definitions of `model`
-pub mod Taking
 pub mod Closed

@@ -1,5 +1,4 @@
 // "Budget and closure": the tracked slots of each analysis.
-mod expand;
 mod tracked;
 
 use model::VerifierResources;

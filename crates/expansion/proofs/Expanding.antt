@@ -30,8 +30,8 @@ use Rattle.finality.proofs.Closure.{follow-weight, seeded-weight}
 use Rattle.finality.proofs.Cells.{stacked-top, stacked-pop}
 use Rattle.marks.specs.Marks.{Lies, Lain}
 use Rattle.follow.specs.Sources.{Follows}
-use Rattle.closure.specs.Taking.{Standing, topEdges, topTaken, Takes}
-use Rattle.closure.specs.Closed.{Blank, expandedTo, expandedOf}
+use Rattle.expansion.specs.Taking.{Standing, topEdges, topTaken, Takes}
+use Rattle.expansion.specs.Expanded.{Blank, expandedTo, expandedOf}
 use Rattle.follow.specs.declared.Followed.{Followed}
 use Rattle.marks.proofs.Marking.{some-lain}
 use Rattle.finality.proofs.Lengths.{zeros-same}

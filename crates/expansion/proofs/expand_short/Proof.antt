@@ -1,4 +1,4 @@
--- `closure::expand::expand_short` meets its contract: no instruction is in a chain.
+-- `expansion::expand_short` meets its contract: no instruction is in a chain.
 -- Assumes nothing.
 use mathlib.Core.Path.{refl}
 use native.Mathlib.Omega.{arith}
@@ -6,8 +6,8 @@ use borrow.Author.Needs.{needs}
 use Rattle.finality.proofs.Memory.{zeros-read}
 use Rattle.sheet.proofs.Counted.{counted}
 use Rattle.graph.proofs.Chains.{unlinked}
-use Rattle.closure.proofs.expand.expand_short.Statement.{statement}
-use Rattle.closure.proofs.expand.expand_short.Tie as tie
+use Rattle.expansion.proofs.expand_short.Statement.{statement}
+use Rattle.expansion.proofs.expand_short.Tie as tie
 
 slice-aggregate-expand-along : tie.Need-slice-aggregate-expand-along
 slice-aggregate-expand-along c = search needs

@@ -1,4 +1,4 @@
--- `closure::expand::expand` meets its contract: the chains are those of the graph.
+-- `expansion::expand` meets its contract: the chains are those of the graph.
 -- Assumes nothing.
 use mathlib.Core.Path.{refl}
 use native.Mathlib.Omega.{arith}
@@ -6,8 +6,8 @@ use borrow.Author.Needs.{needs}
 use Rattle.sheet.proofs.Counted.{counted}
 use Rattle.sheet.proofs.Limited.{limited}
 use Rattle.graph.proofs.Chains.{graph-chained}
-use Rattle.closure.proofs.expand.expand.Statement.{statement}
-use Rattle.closure.proofs.expand.expand.Tie as tie
+use Rattle.expansion.proofs.expand.Statement.{statement}
+use Rattle.expansion.proofs.expand.Tie as tie
 
 expand-short-requires : tie.Need-expand-short-requires
 expand-short-requires c κs = search needs

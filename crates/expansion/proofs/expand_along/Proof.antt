@@ -1,4 +1,4 @@
--- `closure::expand::expand_along` meets its contract: from the state that lies in marks and stack the closure goes on with what is left.
+-- `expansion::expand_along` meets its contract: from the state that lies in marks and stack the closure goes on with what is left.
 -- Assumes nothing.
 use mathlib.Core.Path.{ap, _∙_}
 use Rattle.model.specs.Call.{zeros}
@@ -10,9 +10,9 @@ use Rattle.model.specs.Closure.{seeded}
 use Rattle.finality.proofs.Marks.{free}
 use Rattle.finality.proofs.Lengths.{zeros-length, zeros-same}
 use Rattle.marks.proofs.Marking.{some-lain, goes-long}
-use Rattle.closure.proofs.Expanding.{Expanding, blank-lies, lies-room, expanding-begun, expanding-standing, expanding-less, expanding-on, expanding-refused, expanding-done, expanding-empty, refused-end, done-end}
-use Rattle.closure.proofs.expand.expand_along.Statement.{statement}
-use Rattle.closure.proofs.expand.expand_along.Tie as tie
+use Rattle.expansion.proofs.Expanding.{Expanding, blank-lies, lies-room, expanding-begun, expanding-standing, expanding-less, expanding-on, expanding-refused, expanding-done, expanding-empty, refused-end, done-end}
+use Rattle.expansion.proofs.expand_along.Statement.{statement}
+use Rattle.expansion.proofs.expand_along.Tie as tie
 
 abbrev Inv-loop : tie.InvT-loop
 Inv-loop which sheet sizes from heads nexts pcs marks₀ stack₀ top₀ left₀ marks stack top left = Expanding which sheet left₀ (length stack₀) marks stack top left

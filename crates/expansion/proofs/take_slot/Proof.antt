@@ -1,4 +1,4 @@
--- `closure::expand::take_slot` meets its contract: the top is read and cleared, and its edges are followed.
+-- `expansion::take_slot` meets its contract: the top is read and cleared, and its edges are followed.
 -- Assumes nothing.
 use mathlib.Core.Path.{_∙_}
 use Prim.Native.Nat.{_-_}
@@ -6,10 +6,10 @@ use native.Mathlib.Omega.{arith}
 use lib.ListN.{length-set}
 use Rattle.sheet.proofs.Counted.{counted}
 use Rattle.marks.proofs.Marking.{goes-long}
-use Rattle.closure.proofs.Expanding.{standing-below, slot-below, popped-lain, takes}
+use Rattle.expansion.proofs.Expanding.{standing-below, slot-below, popped-lain, takes}
 use borrow.Author.Needs.{needs}
-use Rattle.closure.proofs.expand.take_slot.Statement.{statement}
-use Rattle.closure.proofs.expand.take_slot.Tie as tie
+use Rattle.expansion.proofs.take_slot.Statement.{statement}
+use Rattle.expansion.proofs.take_slot.Tie as tie
 
 sub-at : tie.Need-sub-at
 sub-at c = search needs

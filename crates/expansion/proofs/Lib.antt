@@ -1,0 +1,2 @@
+-- The loop of the closure
+pub mod Expanding
