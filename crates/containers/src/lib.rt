@@ -39,8 +39,7 @@ pub fn analyze_containers(
     first_ranges(sheet, sizes, &mut firsts);
     let mut starts = [0u16; 1024];
     layout_starts(sheet, sizes, &mut starts);
-    let length_kinds = [0u8; 4096];
-    let length_values = [0u16; 4096];
+    // It reads no length facts: the two slices behind `starts` have only to be long enough.
     analyze_next(
         before,
         AnalysisKind::Container,
@@ -48,8 +47,8 @@ pub fn analyze_containers(
         sizes,
         &firsts,
         &starts,
-        &length_kinds,
-        &length_values,
+        sheet,
+        &firsts,
         slots,
         present,
         kinds,

@@ -2,7 +2,7 @@
 -- Assumes nothing.
 use mathlib.Core.Path.{refl, _∙_}
 use Rattle.stages.specs.Stage.{scratch}
-use Rattle.analyses.proofs.Ready.{few-code, few-layouts, found}
+use Rattle.analyses.proofs.Ready.{few-code, few-layouts, found-bare}
 use Rattle.analyses.proofs.Nexting.{containers-next}
 use borrow.Author.Needs.{needs}
 use Rattle.containers.proofs.analyze_containers.Statement.{statement}
@@ -32,13 +32,10 @@ slice-aggregate-analyze-next-2 : tie.Need-slice-aggregate-analyze-next-2
 slice-aggregate-analyze-next-2 c = search needs
 
 slice-aggregate-analyze-next-3 : tie.Need-slice-aggregate-analyze-next-3
-slice-aggregate-analyze-next-3 c = refl
-
-slice-aggregate-analyze-next-4 : tie.Need-slice-aggregate-analyze-next-4
-slice-aggregate-analyze-next-4 c = refl
+slice-aggregate-analyze-next-3 c = search needs
 
 analyze-next-requires : tie.Need-analyze-next-requires
-analyze-next-requires c κs = let start = c .before .before .before .before .before .before .before .before .before .before .before .before .before .before .before .before .before .before .before .before .before .before .before .before .before .before .before .before .before in (found (start .pre .0) _ _ refl refl (c .before .before .before .before .before .before .before .before .before .before .before .before .before .before .before .before .before .first-ranges .ensures) (c .before .before .before .before .before .before .before .before .before .before .before .before .before .before .layout-starts .ensures) refl refl, start .pre .1)
+analyze-next-requires c κs = let start = c .before .before .before .before .before .before .before .before .before .before .before .before .before .before .before .before .before .before .before .before .before .before .before .before .before .before .before .before in (found-bare (start .pre .0) _ _ refl refl (c .before .before .before .before .before .before .before .before .before .before .before .before .before .before .before .before .first-ranges .ensures) (c .before .before .before .before .before .before .before .before .before .before .before .before .before .layout-starts .ensures), start .pre .1)
 
 same-length : tie.Need-same-length
 same-length c = c .before .before .before .before .before .before .before .before .before .before .before .before .before .before .before .before .before .slots .given
@@ -68,7 +65,7 @@ same-length-9 : tie.Need-same-length-9
 same-length-9 c = c .before .list .given
 
 returns : tie.Need-returns
-returns c = let start = c .before .before .before .before .before .before .before .before .before .before .before .before .before .before .before .before .before .before .before .before .before .before .before .before .before .before .before .before .before .before .before .before .before .before .before .before .before .before .before .before .before .before .before .before .before .before .before .before in c .before .before .before .before .before .before .before .before .before .before .before .before .before .before .before .before .before .before .analyze-next .ensures ∙ containers-next _ _ (scratch (start .args .marks .now) (start .args .stack .now) (start .args .row-kinds .now) (start .args .row-values .now) (start .args .list .now)) _ _ (start .args .before)
+returns c = let start = c .before .before .before .before .before .before .before .before .before .before .before .before .before .before .before .before .before .before .before .before .before .before .before .before .before .before .before .before .before .before .before .before .before .before .before .before .before .before .before .before .before .before .before .before .before .before .before in c .before .before .before .before .before .before .before .before .before .before .before .before .before .before .before .before .before .before .analyze-next .ensures ∙ containers-next _ _ (scratch (start .args .marks .now) (start .args .stack .now) (start .args .row-kinds .now) (start .args .row-values .now) (start .args .list .now)) _ _ (start .args .before)
 
 pub analyze-containers-spec : {M : Type 1} → statement M
 analyze-containers-spec =
@@ -81,7 +78,6 @@ analyze-containers-spec =
     slice-aggregate-analyze-next
     slice-aggregate-analyze-next-2
     slice-aggregate-analyze-next-3
-    slice-aggregate-analyze-next-4
     analyze-next-requires
     same-length
     same-length-2
