@@ -43,6 +43,9 @@ module _ {sheet : List ℕ} {sizes : Sizes} (accepted : Accepted sheet sizes) wh
   pub few-layouts : sizes .«layout_count» ≤ 1024
   few-layouts = limited (measured accepted) .layout-count
 
+  few : codeCount sheet ≤ 4096
+  few = omega (arith, few-code, counted (accepted .are) .code-count)
+
   sheet-long : codeCount sheet ≤ length sheet
   sheet-long = let l = laid (measured accepted) in omega (arith, counted (accepted .are) .code-count)
 
@@ -52,11 +55,10 @@ module _ {sheet : List ℕ} {sizes : Sizes} (accepted : Accepted sheet sizes) wh
       → Found sheet sizes firsts starts lengthKinds lengthValues
   unfolding firstRanges layoutStarts
   found-by firsts₀ starts₀ fl sl f s k v =
-      let n : codeCount sheet ≤ 4096 = omega (arith, few-code, counted (accepted .are) .code-count) in
       let y : layoutCount sheet ≤ 1024 = omega (arith, few-layouts, counted (accepted .are) .layout-count) in
       record {
         accepted = accepted;
-        firsts-are = front-holds (firstRange sheet) (codeCount sheet) firsts₀ (omega arith) f;
+        firsts-are = front-holds (firstRange sheet) (codeCount sheet) firsts₀ (omega (arith, few)) f;
         starts-are = front-holds (layoutStart sheet) (layoutCount sheet) starts₀ (omega arith) s;
         length-kinds-length = k;
         length-values-length = v;
@@ -66,16 +68,14 @@ module _ {sheet : List ℕ} {sizes : Sizes} (accepted : Accepted sheet sizes) wh
       → firsts ≡ firstRanges sheet firsts₀ → starts ≡ layoutStarts sheet starts₀ → length lengthKinds ≡ 4096 → length lengthValues ≡ 4096
       → Found sheet sizes firsts starts lengthKinds lengthValues
   found firsts₀ starts₀ fl sl f s k v =
-      let n : codeCount sheet ≤ 4096 = omega (arith, few-code, counted (accepted .are) .code-count) in
-      found-by firsts₀ starts₀ fl sl f s (omega arith) (omega arith)
+      found-by firsts₀ starts₀ fl sl f s (omega (arith, few)) (omega (arith, few))
 
   -- where no length facts are read, the sheet and the first ranges have places enough
   pub found-bare : (firsts₀ starts₀ : List ℕ) {firsts starts : List ℕ} → length firsts₀ ≡ 4096 → length starts₀ ≡ 1024
       → firsts ≡ firstRanges sheet firsts₀ → starts ≡ layoutStarts sheet starts₀ → Found sheet sizes firsts starts sheet firsts
   unfolding firstRanges
   found-bare firsts₀ starts₀ fl sl f s =
-      let n : codeCount sheet ≤ 4096 = omega (arith, few-code, counted (accepted .are) .code-count) in
-      found-by firsts₀ starts₀ fl sl f s sheet-long (front-holds (firstRange sheet) (codeCount sheet) firsts₀ (omega arith) f .long)
+      found-by firsts₀ starts₀ fl sl f s sheet-long (front-holds (firstRange sheet) (codeCount sheet) firsts₀ (omega (arith, few)) f .long)
 
 -- ---- cleared
 
