@@ -26,6 +26,12 @@
 extern "C" {
 #endif
 
+/*
+ * The number of this interface: 1, and one more with each change of a function, of a constant or of what one of them
+ * means. vo_facts_version() is the archive's own number: where the two differ, header and archive do not belong together.
+ */
+#define VO_FACTS_VERSION 1
+
 /* What vo_facts_analyze returns, and answer[0]. 1 to 8 are the numbers of document 01's questions. */
 enum {
     VO_FACTS_ANALYZED = 0,       /* the tables hold the facts */
@@ -38,8 +44,8 @@ enum {
     VO_FACTS_OVER_BUDGET = 7,    /* what is left does not cover a charge */
     VO_FACTS_NO_ROOM = 8,        /* an output, the row scratch or the work list is too short */
     VO_FACTS_DAMAGED = 9,        /* lookups: the tables are not ones that an analysis leaves */
-    VO_FACTS_NONE = 254,         /* lookups: no fact, which is no refusal */
-    VO_FACTS_ANSWER_TOO_SHORT = 255 /* answer has fewer than 12 elements, or out fewer than 2 */
+    VO_FACTS_NONE = 254,         /* lookups: no fact; vo_facts_lowest_layout: no such layout. It is no refusal */
+    VO_FACTS_ANSWER_TOO_SHORT = 255 /* answer has fewer than 12 elements, or out fewer than the function writes */
 };
 
 /* The elements of answer. What an outcome does not have is 0. */
@@ -59,7 +65,22 @@ enum {
     VO_FACTS_ANSWER_LENGTH = 12
 };
 
-/* The kinds of facts in a table. A value is 0 where none is said. */
+/* The elements of out that vo_facts_room writes. */
+enum {
+    VO_FACTS_ROOM_INSTRUCTIONS = 0,    /* n */
+    VO_FACTS_ROOM_CONSTANT_SLOTS = 1,  /* s of each analysis */
+    VO_FACTS_ROOM_INDEX_SLOTS = 2,
+    VO_FACTS_ROOM_CONTAINER_SLOTS = 3,
+    VO_FACTS_ROOM_LENGTH = 4
+};
+
+/*
+ * The kinds of facts in a table. A value is 0 where none is said.
+ *
+ * A container fact names layouts by the numbers that the sheet stored with it. Layouts are equal by content, so equal
+ * layouts may carry different numbers, and facts must not be compared by value: two container facts are the same exactly
+ * where their kinds are equal and vo_facts_lowest_layout gives equal numbers for their layouts, first and second.
+ */
 enum {
     VO_FACTS_UNKNOWN = 0,
     VO_FACTS_CONFLICT = 1,
@@ -101,8 +122,7 @@ enum {
  *   255          answer is too short; nothing lent has changed, answer neither
  * answer[0] to answer[11] are written on every outcome but 255, and what lies behind them is left as it was.
  *
- * No s is told with 8: a caller either lends for s = L, or for as many slots as the code can name (bindings/rust
- * counts them), or lends more and calls again.
+ * No s is told with 8: vo_facts_room tells n and the three s before the call, so that a caller lends what is needed.
  */
 uint8_t vo_facts_analyze(
     const uint8_t *sheet, size_t sheet_length,
@@ -125,6 +145,49 @@ uint8_t vo_facts_analyze(
     uint64_t *row_values, size_t row_values_length,
     uint16_t *work_list, size_t work_list_length,
     uint64_t *answer, size_t answer_length);
+
+/*
+ * How much memory a call needs: n, and the s of each analysis, by its closure alone and without a budget. Whatever budget
+ * a call of vo_facts_analyze ends with facts from, its s are these.
+ *
+ *   sheet        the script
+ *   marks, stack scratch, at least L each: the same that vo_facts_analyze is lent. L is the sheet's seventh number (the
+ *                four bytes from 24 up), at most 65,535
+ *   out          at least 4: the elements named above
+ *
+ * Returns
+ *   0            out[0] to out[3] are written, and what lies behind them is left as it was; marks and stack are 0 over
+ *                their whole length
+ *   1 to 6       the number of the first question that refuses; nothing lent has changed
+ *   255          out is too short; this is asked first, and nothing lent has changed
+ *
+ * There is no budget that would end it early: it follows at most 2 x n x L edges in each analysis.
+ */
+uint8_t vo_facts_room(
+    const uint8_t *sheet, size_t sheet_length,
+    uint8_t *marks, size_t marks_length,
+    uint16_t *stack, size_t stack_length,
+    uint64_t *out, size_t out_length);
+
+/*
+ * The lowest number of a layout with the content of this one: two layouts are equal exactly where it is the same number.
+ * A value v of a container table names the layouts v / 65536 and, but for a queue, v % 65536.
+ *
+ *   sheet        the script
+ *   layout       any number
+ *   out          at least 1
+ *
+ * Returns
+ *   0            out[0] is the lowest number, and what lies behind it is left as it was
+ *   1 to 5       the number of the first question that refuses the sheet
+ *   254          the sheet has no layout of this number
+ *   255          out is too short; this is asked first
+ * But for 0, out is left as it was.
+ */
+uint8_t vo_facts_lowest_layout(
+    const uint8_t *sheet, size_t sheet_length,
+    uint64_t layout,
+    uint64_t *out, size_t out_length);
 
 /*
  * The fact of a slot right before instruction pc, from the tables of one analysis. What is lent are the used parts:
@@ -188,6 +251,9 @@ uint8_t vo_facts_fixed(
  * byte is neither 0 nor 1.
  */
 uint8_t vo_facts_is_reachable(const uint8_t *present, size_t present_length, uint64_t pc);
+
+/* The number of the archive's interface, to be held against VO_FACTS_VERSION. */
+uint64_t vo_facts_version(void);
 
 #ifdef __cplusplus
 }

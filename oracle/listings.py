@@ -91,6 +91,24 @@ def tracking(constants, indexes, containers, n=0):
     return sheet(code, slots=locals_of(201))
 
 
+def short(constants, indexes, containers):
+    """The same in a sheet of which only the first four instructions are reached, so that its listing is short: it writes the first and the last slot."""
+    most = max(constants, indexes, containers)
+    code = [load(0, -7), load(most - 1, 5), check(most - 1, 0), RETURN, *[check(100, slot) for slot in range(1, constants)]]
+    code += [line(facts.SLOT_GET, 200, 0, slot) for slot in range(indexes)] + [line(facts.QUEUE_CLOSE, slot) for slot in range(containers)]
+    return sheet(code, slots=locals_of(201))
+
+
+def widths():
+    """Every width of a row from 9 to 32."""
+    for s in range(9, MOST_TRACKED + 1):
+        yield 's %d of constants' % s, short(s, 0, 0)
+    for s in (9, 16, 31, MOST_TRACKED):
+        yield 's %d of indexes' % s, short(1, s, 0)
+        yield 's %d of containers' % s, short(1, 0, s)
+        yield 's %d of each' % s, short(s, s, s)
+
+
 def spent():
     """4,096 instructions that use up all work before the first closure: with them a call answers 7."""
     return sheet([line(facts.COPY_N, 1, 0, TOP)] * 4095 + [check(0, 1)], slots=locals_of(2))
@@ -108,6 +126,7 @@ def limits():
     yield 'L 65,535 and n 0', sheet(slots=locals_of(TOP))
     most = MOST_TRACKED
     yield 's 32 of each, n 256', tracking(most, most, most, MOST_CODE)
+    yield from widths()
     yield 's 33 of constants', tracking(most + 1, 0, 0)
     yield 's 33 of indexes', tracking(0, most + 1, 0)
     yield 's 33 of containers', tracking(most, most, most + 1)

@@ -77,8 +77,38 @@ static void refusals(void) {
     expect(constant_kinds[1] == 0, "the refusal left a table");
 }
 
+/* A sheet with no code and three layouts, of which the first and the last have the same slot kinds. */
+static const uint8_t layouts[] = {
+    0, 0, 0, 0, 0, 0, 0, 0, 0, 0, 0, 0, 0, 0, 0, 0, 3, 0, 0, 0, 4, 0, 0, 0, 0, 0, 0, 0, 0, 0, 0, 0, 0, 0, 0, 0, 0, 0, 0, 0,
+    2, 0, 0, 0, 2, 0, 4, 5, 4, 5};
+
+/* What a loader asks beside the call. */
+static void loader(void) {
+    static const uint64_t must[5] = {5, 1, 0, 0, 7};
+    uint64_t out[5] = {7, 7, 7, 7, 7};
+    memset(marks, 255, sizeof marks);
+    memset(stack, 255, sizeof stack);
+    expect(vo_facts_room(sheet, 39, marks, 0, stack, 0, out, 3) == VO_FACTS_ANSWER_TOO_SHORT, "an out of three is used");
+    expect(vo_facts_room(sheet, 39, marks, 0, stack, 0, LENT(out)) == VO_FACTS_NO_HEAD, "room for 39 bytes");
+    expect(vo_facts_room(LENT(sheet), marks, 1, LENT(stack), LENT(out)) == VO_FACTS_CLOSURE_ROOM, "one mark is enough");
+    expect(vo_facts_room(LENT(sheet), LENT(marks), stack, 1, LENT(out)) == VO_FACTS_CLOSURE_ROOM, "one entry is enough");
+    expect(marks[0] == 255 && stack[0] == 65535 && out[0] == 7, "a refusal changed what was lent");
+    expect(vo_facts_room(LENT(sheet), LENT(marks), LENT(stack), LENT(out)) == 0, "no room is told");
+    expect(memcmp(out, must, sizeof must) == 0, "another room is told");
+    expect(marks[8] == 0 && stack[3] == 0, "marks or stack are not cleared");
+
+    expect(vo_facts_lowest_layout(sheet, 39, 0, out, 0) == VO_FACTS_ANSWER_TOO_SHORT, "an out of none is used");
+    expect(vo_facts_lowest_layout(sheet, 39, 0, LENT(out)) == VO_FACTS_NO_HEAD, "39 bytes have a layout");
+    expect(vo_facts_lowest_layout(LENT(sheet), 0, LENT(out)) == VO_FACTS_NONE && out[0] == 5, "the sheet has a layout");
+    expect(vo_facts_lowest_layout(LENT(layouts), 3, LENT(out)) == VO_FACTS_NONE && out[0] == 5, "there are four layouts");
+    expect(vo_facts_lowest_layout(LENT(layouts), 2, LENT(out)) == 0 && out[0] == 0, "layout 2 is not layout 0");
+    expect(vo_facts_lowest_layout(LENT(layouts), 1, LENT(out)) == 0 && out[0] == 1 && out[1] == 1, "layout 1 is layout 0");
+    expect(vo_facts_version() == VO_FACTS_VERSION, "header and archive do not belong together");
+}
+
 int main(void) {
     facts();
     refusals();
+    loader();
     return failures != 0;
 }

@@ -70,6 +70,21 @@ pub enum Stage {
 }
 
 impl Refusal {
+    /// The refusal of a sheet by one of the questions 1 to 6, none for 0. The library returns no other number to a
+    /// caller whose memory for the answer is long enough.
+    pub(crate) fn of_sheet(number: u8) -> Option<Refusal> {
+        match number {
+            0 => None,
+            1 => Some(Refusal::NoHead),
+            2 => Some(Refusal::SizeLimit),
+            3 => Some(Refusal::Length),
+            4 => Some(Refusal::Sums),
+            5 => Some(Refusal::Kinds),
+            6 => Some(Refusal::ClosureRoom),
+            _ => unreachable!("a sheet was refused by {number}"),
+        }
+    }
+
     /// Document 01's number.
     pub fn number(&self) -> u8 {
         match self {
@@ -85,10 +100,10 @@ impl Refusal {
     }
 }
 
-impl fmt::Display for Refused {
+impl fmt::Display for Refusal {
     fn fmt(&self, out: &mut fmt::Formatter<'_>) -> fmt::Result {
-        write!(out, "refused {}: ", self.refusal.number())?;
-        match self.refusal {
+        write!(out, "refused {}: ", self.number())?;
+        match self {
             Refusal::NoHead => write!(out, "the sheet has fewer than 40 bytes"),
             Refusal::SizeLimit => write!(out, "a size is past its limit"),
             Refusal::Length => write!(out, "the length is not what the sizes give"),
@@ -103,6 +118,14 @@ impl fmt::Display for Refused {
     }
 }
 
+impl std::error::Error for Refusal {}
+
+impl fmt::Display for Refused {
+    fn fmt(&self, out: &mut fmt::Formatter<'_>) -> fmt::Result {
+        self.refusal.fmt(out)
+    }
+}
+
 impl std::error::Error for Refused {}
 
 /// The answer that the library wrote. It writes no others than those that its header names.
@@ -111,18 +134,14 @@ pub(crate) fn read(answer: &[u64; ANSWER_LENGTH]) -> Result<Analyzed, Refused> {
     let left = Budget { bytes, work };
     let counted = |which: usize| Counts { tracked: counts[2 * which] as usize, pops: counts[2 * which + 1] };
     let refusal = match number {
-        0 => return Ok(Analyzed { constant: counted(0), index: counted(1), container: counted(2), left }),
-        1 => Refusal::NoHead,
-        2 => Refusal::SizeLimit,
-        3 => Refusal::Length,
-        4 => Refusal::Sums,
-        5 => Refusal::Kinds,
-        6 => Refusal::ClosureRoom,
-        7 => Refusal::OverBudget { stage: stage_of(stage), requested, remaining },
-        8 => Refusal::NoRoom,
-        _ => unreachable!("vo_facts_analyze answered {number}"),
+        7 => Some(Refusal::OverBudget { stage: stage_of(stage), requested, remaining }),
+        8 => Some(Refusal::NoRoom),
+        _ => Refusal::of_sheet(number as u8),
     };
-    Err(Refused { refusal, left })
+    match refusal {
+        Some(refusal) => Err(Refused { refusal, left }),
+        None => Ok(Analyzed { constant: counted(0), index: counted(1), container: counted(2), left }),
+    }
 }
 
 fn stage_of(number: u64) -> Stage {

@@ -57,9 +57,9 @@ pub struct Facts<'a> {
 impl Buffers {
     /// Buffers for this sheet that take at most `most_bytes`: questions 6 and 8 will not refuse it.
     ///
-    /// The bound is [`Room::for_sheet`]'s. Scripts take little (300 instructions that name 40 registers: a third of a
-    /// megabyte), but 4,096 instructions with a CopyN of 65,535 registers could take 8 gigabytes, so say how much a
-    /// sheet may cost.
+    /// They are as long as [`Room::for_sheet`] tells, which is exactly what the call needs. Scripts take little (300
+    /// instructions and 40 tracked registers: a third of a megabyte), but 4,096 instructions with a CopyN of 65,535
+    /// registers could take 8 gigabytes, so say how much a sheet may cost.
     pub fn for_sheet(sheet: &[u8], most_bytes: usize) -> Result<Buffers, TooLarge> {
         let mut buffers = Buffers::default();
         buffers.fit(sheet, most_bytes)?;
@@ -82,16 +82,13 @@ impl Buffers {
     }
 
     fn grow(&mut self, room: Room) -> Result<(), TryReserveError> {
-        for output in [&mut self.constant, &mut self.index, &mut self.container] {
-            lengthen(&mut output.slots, room.tracked)?;
-            lengthen(&mut output.present, room.instructions)?;
-            lengthen(&mut output.kinds, room.cells())?;
-            lengthen(&mut output.values, room.cells())?;
-        }
+        self.constant.grow(room.instructions, room.constant)?;
+        self.index.grow(room.instructions, room.index)?;
+        self.container.grow(room.instructions, room.container)?;
         lengthen(&mut self.marks, room.locals)?;
         lengthen(&mut self.stack, room.locals)?;
-        lengthen(&mut self.row_kinds, room.tracked)?;
-        lengthen(&mut self.row_values, room.tracked)?;
+        lengthen(&mut self.row_kinds, room.tracked())?;
+        lengthen(&mut self.row_values, room.tracked())?;
         lengthen(&mut self.work_list, room.work_list())
     }
 
@@ -105,13 +102,13 @@ impl Buffers {
     pub fn analyze(&mut self, sheet: &[u8], budget: Budget) -> Result<Facts<'_>, Refused> {
         let room = self.room;
         let lent = Lent {
-            constant: self.constant.lend(&room),
-            index: self.index.lend(&room),
-            container: self.container.lend(&room),
+            constant: self.constant.lend(room.instructions, room.constant),
+            index: self.index.lend(room.instructions, room.index),
+            container: self.container.lend(room.instructions, room.container),
             marks: &mut self.marks[..room.locals],
             stack: &mut self.stack[..room.locals],
-            row_kinds: &mut self.row_kinds[..room.tracked],
-            row_values: &mut self.row_values[..room.tracked],
+            row_kinds: &mut self.row_kinds[..room.tracked()],
+            row_values: &mut self.row_values[..room.tracked()],
             work_list: &mut self.work_list[..room.work_list()],
         };
         let analyzed = analyze(sheet, budget, lent)?;
@@ -139,12 +136,19 @@ fn lengthen<T: Clone + Default>(buffer: &mut Vec<T>, length: usize) -> Result<()
 }
 
 impl Owned {
-    fn lend(&mut self, room: &Room) -> Output<'_> {
+    fn grow(&mut self, n: usize, s: usize) -> Result<(), TryReserveError> {
+        lengthen(&mut self.slots, s)?;
+        lengthen(&mut self.present, n)?;
+        lengthen(&mut self.kinds, n * s)?;
+        lengthen(&mut self.values, n * s)
+    }
+
+    fn lend(&mut self, n: usize, s: usize) -> Output<'_> {
         Output {
-            slots: &mut self.slots[..room.tracked],
-            present: &mut self.present[..room.instructions],
-            kinds: &mut self.kinds[..room.cells()],
-            values: &mut self.values[..room.cells()],
+            slots: &mut self.slots[..s],
+            present: &mut self.present[..n],
+            kinds: &mut self.kinds[..n * s],
+            values: &mut self.values[..n * s],
         }
     }
 

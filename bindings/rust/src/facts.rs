@@ -1,15 +1,16 @@
 //! The tables of a call, and lookups in them.
 
+use crate::answer::Refusal;
 use crate::raw::{
-    self, vo_facts_constant, vo_facts_container, vo_facts_index_check, vo_facts_is_reachable, Lookup, DAMAGED, NONE,
-    OUT_LENGTH,
+    self, vo_facts_constant, vo_facts_container, vo_facts_index_check, vo_facts_is_reachable, vo_facts_lowest_layout,
+    Lookup, DAMAGED, NONE, OUT_LENGTH,
 };
 use std::fmt;
 
 /// The used parts of an analysis's output: s slots, n present bytes, n × s kinds and values by rows.
 ///
 /// Lookups ask question 9 of it, so it may hold anything.
-#[derive(Clone, Copy, Debug, PartialEq, Eq)]
+#[derive(Clone, Copy, Debug)]
 pub struct Table<'a> {
     pub slots: &'a [u16],
     pub present: &'a [u8],
@@ -45,8 +46,11 @@ pub enum IndexCheckFact {
     Checked { len: u64 },
 }
 
-/// The container in a slot, with the numbers of its layouts in the sheet.
-#[derive(Clone, Copy, Debug, PartialEq, Eq)]
+/// The container in a slot, with the numbers of its layouts as the sheet stores them.
+///
+/// Layouts are equal by content, and equal ones may carry different numbers. So there is no `==` here:
+/// [`ContainerFact::same_content`] compares two facts of one sheet.
+#[derive(Clone, Copy, Debug)]
 pub enum ContainerFact {
     Unknown,
     Conflict,
@@ -55,16 +59,48 @@ pub enum ContainerFact {
     Queue { element: usize },
 }
 
+impl ContainerFact {
+    /// Whether two facts of one sheet are the same: of one kind, with layouts of equal content.
+    pub fn same_content(&self, other: &ContainerFact, sheet: &[u8]) -> Result<bool, Refusal> {
+        let same = |one: usize, two: usize| Ok(lowest_layout(sheet, one)? == lowest_layout(sheet, two)?);
+        match (*self, *other) {
+            (ContainerFact::Unknown, ContainerFact::Unknown) => Ok(true),
+            (ContainerFact::Conflict, ContainerFact::Conflict) => Ok(true),
+            (ContainerFact::Map { key: a, value: b }, ContainerFact::Map { key, value }) => {
+                Ok(same(a, key)? && same(b, value)?)
+            }
+            (ContainerFact::Iterator { key: a, value: b }, ContainerFact::Iterator { key, value }) => {
+                Ok(same(a, key)? && same(b, value)?)
+            }
+            (ContainerFact::Queue { element: a }, ContainerFact::Queue { element }) => same(a, element),
+            _ => Ok(false),
+        }
+    }
+}
+
+/// The lowest number of a layout with the content of this one, none where the sheet has no layout of this number. Two
+/// layouts are equal exactly where it is the same.
+pub fn lowest_layout(sheet: &[u8], layout: usize) -> Result<Option<usize>, Refusal> {
+    let mut out = [0; 1];
+    // Sound: slices have true lengths, and a `&mut` one overlaps with nothing.
+    let number =
+        unsafe { vo_facts_lowest_layout(sheet.as_ptr(), sheet.len(), layout as u64, out.as_mut_ptr(), out.len()) };
+    match number {
+        NONE => Ok(None),
+        _ => Refusal::of_sheet(number).map_or(Ok(Some(out[0] as usize)), Err),
+    }
+}
+
 /// The table of the constant analysis.
-#[derive(Clone, Copy, Debug, PartialEq, Eq)]
+#[derive(Clone, Copy, Debug)]
 pub struct Constants<'a>(pub Table<'a>);
 
 /// The table of the index analysis.
-#[derive(Clone, Copy, Debug, PartialEq, Eq)]
+#[derive(Clone, Copy, Debug)]
 pub struct IndexChecks<'a>(pub Table<'a>);
 
 /// The table of the container analysis.
-#[derive(Clone, Copy, Debug, PartialEq, Eq)]
+#[derive(Clone, Copy, Debug)]
 pub struct Containers<'a>(pub Table<'a>);
 
 impl Constants<'_> {

@@ -1,6 +1,7 @@
 //! Register facts of a routing script, from the proved library `libvo_facts.a`.
 //!
-//! A loader sizes [`Buffers`] from a sheet, calls [`Buffers::analyze`] and reads the [`Facts`]:
+//! A loader makes [`Buffers`] for a sheet, exactly as long as [`Room::for_sheet`] tells, calls [`Buffers::analyze`] and
+//! reads the [`Facts`]:
 //!
 //! ```
 //! use vo_facts::{Budget, Buffers, ConstantFact};
@@ -13,8 +14,17 @@
 //! # Ok::<(), Box<dyn std::error::Error>>(())
 //! ```
 //!
+//! README.md has a loader that keeps its buffers and grants each script a part of them, and one that compares container
+//! facts, which have no `==`: they carry the layout numbers that the sheet stores, and equal layouts may have different
+//! ones.
+//!
 //! A caller with memory of its own lends it as [`Lent`] to [`analyze`]. [`raw`] has the C functions as they are.
 //! "Document 01" is the contract of the project, and "question" one of its numbered questions.
+
+/// The examples of README.md, which `cargo test` compiles and runs.
+#[cfg(doctest)]
+#[doc = include_str!("../README.md")]
+mod readme {}
 
 mod answer;
 mod buffers;
@@ -25,6 +35,8 @@ mod room;
 
 pub use answer::{Analyzed, Budget, Counts, Refusal, Refused, Stage};
 pub use buffers::{Buffers, Facts, TooLarge};
-pub use facts::{ConstantFact, Constants, ContainerFact, Containers, Damaged, IndexCheckFact, IndexChecks, Table};
+pub use facts::{
+    lowest_layout, ConstantFact, Constants, ContainerFact, Containers, Damaged, IndexCheckFact, IndexChecks, Table,
+};
 pub use lent::{analyze, Lent, Output};
 pub use room::Room;

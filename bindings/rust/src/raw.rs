@@ -8,11 +8,15 @@
 
 use crate::facts::Table;
 
+/// The number of the interface that is declared here; [`vo_facts_version`] is the archive's.
+pub const VERSION: u64 = 1;
 /// The elements of `answer` that [`vo_facts_analyze`] writes.
 pub const ANSWER_LENGTH: usize = 12;
 /// The elements of `out` that a lookup writes: kind and value.
 pub const OUT_LENGTH: usize = 2;
-/// A lookup has no fact, which is no refusal.
+/// The elements of `out` that [`vo_facts_room`] writes: n, and s of constant, index and container.
+pub const ROOM_LENGTH: usize = 4;
+/// A lookup has no fact, or a sheet no such layout, which is no refusal.
 pub const NONE: u8 = 254;
 /// A lookup found what no analysis leaves (question 9).
 pub const DAMAGED: u8 = 9;
@@ -81,6 +85,27 @@ extern "C" {
         answer_length: usize,
     ) -> u8;
 
+    /// n and the s of each analysis, by the closures alone: sheet; marks, stack; out.
+    pub fn vo_facts_room(
+        sheet: *const u8,
+        sheet_length: usize,
+        marks: *mut u8,
+        marks_length: usize,
+        stack: *mut u16,
+        stack_length: usize,
+        out: *mut u64,
+        out_length: usize,
+    ) -> u8;
+
+    /// The lowest number of a layout of equal content.
+    pub fn vo_facts_lowest_layout(
+        sheet: *const u8,
+        sheet_length: usize,
+        layout: u64,
+        out: *mut u64,
+        out_length: usize,
+    ) -> u8;
+
     /// The constant fact of a slot before an instruction.
     pub fn vo_facts_constant(
         slots: *const u16,
@@ -146,6 +171,9 @@ extern "C" {
 
     /// 1 where an instruction was reached, 0 where not, 9 where its byte is neither.
     pub fn vo_facts_is_reachable(present: *const u8, present_length: usize, pc: u64) -> u8;
+
+    /// The number of the archive's interface, to be held against [`VERSION`].
+    pub fn vo_facts_version() -> u64;
 }
 
 /// A lookup over the four slices of a table, with what is asked.

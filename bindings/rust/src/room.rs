@@ -1,5 +1,8 @@
 //! How long the buffers of a sheet have to be.
 
+use crate::answer::Refusal;
+use crate::raw::{vo_facts_room, ROOM_LENGTH};
+
 /// Lengths of all buffers follow from these.
 #[derive(Clone, Copy, Debug, Default, PartialEq, Eq)]
 pub struct Room {
@@ -7,122 +10,84 @@ pub struct Room {
     pub instructions: usize,
     /// L
     pub locals: usize,
-    /// s of each analysis, or more.
-    pub tracked: usize,
+    /// s of the constant analysis.
+    pub constant: usize,
+    /// s of the index analysis.
+    pub index: usize,
+    /// s of the container analysis.
+    pub container: usize,
 }
 
-/// "n (at most 4,096)", "L .. (65,535 ..)"
-const MOST_INSTRUCTIONS: usize = 4096;
+/// "L .. (65,535 ..)": the seventh of the ten sizes.
 const MOST_LOCALS: usize = 65535;
-const HEAD: usize = 40;
-const COPY_N: u8 = 4;
+const LOCALS_AT: usize = 24;
+
+/// The L of a sheet, where question 2 does not refuse it.
+fn locals(sheet: &[u8]) -> usize {
+    let told = sheet.get(LOCALS_AT..LOCALS_AT + 4).map(|at| u32::from_le_bytes(at.try_into().unwrap()) as usize);
+    told.filter(|locals| *locals <= MOST_LOCALS).unwrap_or(0)
+}
 
 impl Room {
-    /// Enough for this sheet whatever its closures come to, so that questions 6 and 8 do not refuse it.
+    /// Exactly what a call on this sheet needs, so that questions 6 and 8 do not refuse it. A sheet that one of the
+    /// questions 1 to 5 refuses needs no room: the call will say so.
     ///
-    /// Question 8 does not tell s, so s is bounded from the code: a tracked slot is below L, and an instruction names
-    /// it, as a, b, b + 1 or c, or as one of CopyN's sources, which begin at b and are c. (Every seed of a closure and
-    /// every source of a dependency is one of these, whatever the opcode, so this bound knows no table of opcodes.) One
-    /// pass over the code and one over the slots find it. It is loose where fields hold numbers and not slots.
-    ///
-    /// A sheet that questions 1 to 3 refuse needs no room.
+    /// It takes three bytes for each local slot while it runs; [`Room::told`] is lent them.
     pub fn for_sheet(sheet: &[u8]) -> Room {
-        Room::read(sheet).unwrap_or_default()
+        let locals = locals(sheet);
+        Room::told(sheet, &mut vec![0; locals], &mut vec![0; locals]).unwrap_or_default()
     }
 
-    fn read(sheet: &[u8]) -> Option<Room> {
-        let size = |i: usize| sheet.get(4 * i..4 * i + 4).map(|at| u32::from_le_bytes(at.try_into().unwrap()) as usize);
-        let (instructions, locals) = (size(0)?, size(6)?);
-        if instructions > MOST_INSTRUCTIONS || locals > MOST_LOCALS {
-            return None;
+    /// The same with marks and stack of the caller, at least L entries each, else it is refused by 6. After a refusal
+    /// they are as they were, and else they are 0.
+    pub fn told(sheet: &[u8], marks: &mut [u8], stack: &mut [u16]) -> Result<Room, Refusal> {
+        let mut out = [0; ROOM_LENGTH];
+        // Sound: slices have true lengths, and `&mut` ones overlap with nothing.
+        let number = unsafe {
+            vo_facts_room(
+                sheet.as_ptr(),
+                sheet.len(),
+                marks.as_mut_ptr(),
+                marks.len(),
+                stack.as_mut_ptr(),
+                stack.len(),
+                out.as_mut_ptr(),
+                out.len(),
+            )
+        };
+        match Refusal::of_sheet(number) {
+            Some(refusal) => Err(refusal),
+            None => {
+                let [instructions, constant, index, container] = out.map(|told| told as usize);
+                Ok(Room { instructions, locals: locals(sheet), constant, index, container })
+            }
         }
-        let code = sheet.get(HEAD..HEAD + 8 * instructions)?;
-        Some(Room { instructions, locals, tracked: named(code, locals) })
     }
 
-    /// The cells of one analysis: n × s.
-    pub fn cells(&self) -> usize {
-        self.instructions * self.tracked
+    /// The largest s, which row scratch and work list are made for.
+    pub fn tracked(&self) -> usize {
+        self.constant.max(self.index).max(self.container)
     }
 
     /// "with s and n above zero, the work list n × (1 + 2 × s)"
     pub fn work_list(&self) -> usize {
-        if self.tracked == 0 {
-            0
-        } else {
-            self.instructions * (1 + 2 * self.tracked)
+        match self.tracked() {
+            0 => 0,
+            tracked => self.instructions * (1 + 2 * tracked),
         }
     }
 
     /// The bytes of all buffers together.
     pub fn bytes(&self) -> usize {
-        let output = 2 * self.tracked + self.instructions + 9 * self.cells();
-        3 * output + 3 * self.locals + 9 * self.tracked + 2 * self.work_list()
+        let output = |s: usize| 2 * s + self.instructions + 9 * self.instructions * s;
+        let outputs = output(self.constant) + output(self.index) + output(self.container);
+        outputs + 3 * self.locals + 9 * self.tracked() + 2 * self.work_list()
     }
-}
-
-/// How many slots below `locals` an instruction names.
-fn named(code: &[u8], locals: usize) -> usize {
-    // How many ranges begin at a slot, less those that end before it.
-    let mut change = vec![0i32; locals + 1];
-    let mut name = |first: usize, count: usize| {
-        if first < locals && count > 0 {
-            change[first] += 1;
-            change[locals.min(first + count)] -= 1;
-        }
-    };
-    for line in code.chunks_exact(8) {
-        let [a, b, c] = [2, 4, 6].map(|at| usize::from(u16::from_le_bytes([line[at], line[at + 1]])));
-        name(a, 1);
-        name(b, 2);
-        name(c, 1);
-        if line[0] == COPY_N {
-            name(b, c);
-        }
-    }
-    let mut open = 0;
-    let ranges = change[..locals].iter().map(|by| {
-        open += by;
-        open
-    });
-    ranges.filter(|open| *open > 0).count()
 }
 
 #[cfg(test)]
 mod tests {
     use super::*;
-
-    fn line(op: u8, a: u16, b: u16, c: u16) -> Vec<u8> {
-        let mut line = vec![op, 0];
-        line.extend([a, b, c].iter().flat_map(|field| field.to_le_bytes()));
-        line
-    }
-
-    #[test]
-    fn every_field_names_a_slot_and_b_two() {
-        assert_eq!(named(&line(0, 9, 3, 7), 100), 4);
-        assert_eq!(named(&line(0, 3, 3, 4), 100), 2);
-        assert_eq!(named(&[], 100), 0);
-    }
-
-    #[test]
-    fn slots_from_l_up_are_not_tracked() {
-        assert_eq!(named(&line(0, 9, 3, 7), 8), 3);
-        assert_eq!(named(&line(0, 9, 3, 7), 4), 1);
-        assert_eq!(named(&line(0, 9, 3, 7), 0), 0);
-        assert_eq!(named(&line(0, 65535, 65535, 65535), 65535), 0);
-        assert_eq!(named(&line(0, 65534, 65534, 65534), 65535), 1);
-    }
-
-    #[test]
-    fn copy_n_names_its_sources_and_does_not_wrap() {
-        // a, the sources, and c, which is a field like any other beside its count.
-        assert_eq!(named(&line(COPY_N, 0, 10, 5), 100), 1 + 5 + 1);
-        assert_eq!(named(&line(COPY_N, 0, 90, 60), 100), 1 + 10 + 1);
-        assert_eq!(named(&line(COPY_N, 1, 0, 65535), 65535), 65535);
-        assert_eq!(named(&line(COPY_N, 0, 65000, 65535), 65535), 1 + 535);
-        assert_eq!(named(&line(COPY_N, 0, 10, 0), 100), 3);
-    }
 
     #[test]
     fn a_refused_sheet_needs_no_room() {
@@ -130,15 +95,22 @@ mod tests {
         assert_eq!(Room::for_sheet(&sheet[..39]), Room::default());
         sheet[0] = 1;
         assert_eq!(Room::for_sheet(&sheet), Room::default());
-        sheet[..4].copy_from_slice(&4097u32.to_le_bytes());
-        assert_eq!(Room::for_sheet(&sheet), Room::default());
-        sheet[..4].copy_from_slice(&u32::MAX.to_le_bytes());
+        sheet[LOCALS_AT..LOCALS_AT + 4].copy_from_slice(&u32::MAX.to_le_bytes());
         assert_eq!(Room::for_sheet(&sheet), Room::default());
     }
 
     #[test]
+    fn an_empty_script_needs_its_locals_alone() {
+        let mut sheet = vec![0; 40];
+        assert_eq!(Room::for_sheet(&sheet), Room::default());
+        sheet[LOCALS_AT] = 3;
+        assert_eq!(Room::for_sheet(&sheet), Room { locals: 3, ..Room::default() });
+        assert_eq!(Room::told(&sheet, &mut [7; 3], &mut [7; 2]), Err(Refusal::ClosureRoom));
+    }
+
+    #[test]
     fn the_largest_room_is_a_number() {
-        let room = Room { instructions: 4096, locals: 65535, tracked: 65535 };
+        let room = Room { instructions: 4096, locals: 65535, constant: 65535, index: 65535, container: 65535 };
         assert_eq!(room.work_list(), 4096 * 131071);
         assert!(room.bytes() > 8_000_000_000);
     }

@@ -1,11 +1,13 @@
 //! Every refusal, the budget after it, and the lookups, on the worked sheet of document 01.
 
 use vo_facts::{
-    analyze, Budget, Buffers, ConstantFact, Constants, Counts, Damaged, Lent, Output, Refusal, Refused, Room, Stage,
-    Table, TooLarge,
+    analyze, lowest_layout, raw, Budget, Buffers, ConstantFact, Constants, ContainerFact, Counts, Damaged, Lent,
+    Output, Refusal, Refused, Room, Stage, Table, TooLarge,
 };
 
 const SHEET: &[u8] = include_bytes!("../../../examples/worked.sheet");
+/// Its layouts 1 and 2 have the same slot kinds.
+const FLIGHTS: &[u8] = include_bytes!("../../../examples/flights.sheet");
 const MOST: usize = 1 << 28;
 
 fn refused(sheet: &[u8], budget: Budget) -> Refused {
@@ -66,7 +68,7 @@ fn a_charge_that_is_not_covered_names_its_stage() {
 #[test]
 fn too_little_room_is_refused_by_6_and_8() {
     let whole = Room::for_sheet(SHEET);
-    assert_eq!((whole.instructions, whole.locals), (5, 2));
+    assert_eq!(whole, Room { instructions: 5, locals: 2, constant: 1, index: 0, container: 0 });
     let mut buffers = Buffers::default();
     let mut answer = |room| {
         buffers.fit_room(room, MOST).unwrap();
@@ -74,9 +76,60 @@ fn too_little_room_is_refused_by_6_and_8() {
     };
     assert_eq!(answer(Room { locals: 1, ..whole }).unwrap_err().refusal, Refusal::ClosureRoom);
     let left = Budget { bytes: 268_435_456 - 120 - 6, work: 268_435_456 - 5 };
-    assert_eq!(answer(Room { tracked: 0, ..whole }), Err(Refused { refusal: Refusal::NoRoom, left }));
+    assert_eq!(answer(Room { constant: 0, ..whole }), Err(Refused { refusal: Refusal::NoRoom, left }));
     assert_eq!(answer(Room { instructions: 4, ..whole }).unwrap_err().refusal, Refusal::NoRoom);
-    assert_eq!(answer(Room { tracked: 1, ..whole }), Ok(Counts { tracked: 1, pops: 7 }));
+    assert_eq!(answer(whole), Ok(Counts { tracked: 1, pops: 7 }));
+}
+
+#[test]
+fn room_is_told_by_the_questions_in_order() {
+    let refusal = |sheet: &[u8], marks: usize, stack: usize| {
+        let (mut marks, mut stack) = (vec![9; marks], vec![9; stack]);
+        let told = Room::told(sheet, &mut marks, &mut stack);
+        let kept = marks.iter().all(|mark| *mark == 9) && stack.iter().all(|slot| *slot == 9);
+        let zero = marks.iter().all(|mark| *mark == 0) && stack.iter().all(|slot| *slot == 0);
+        assert!(if told.is_err() { kept } else { zero });
+        told.err()
+    };
+    assert_eq!(refusal(&SHEET[..39], 0, 0), Some(Refusal::NoHead));
+    assert_eq!(refusal(&changed(40 + 8 * 5, 4), 0, 0), Some(Refusal::Kinds));
+    assert_eq!(refusal(SHEET, 1, 2), Some(Refusal::ClosureRoom));
+    assert_eq!(refusal(SHEET, 2, 1), Some(Refusal::ClosureRoom));
+    assert_eq!(refusal(SHEET, 2, 2), None);
+    assert_eq!(refusal(SHEET, 5, 4), None);
+}
+
+#[test]
+fn layouts_are_equal_by_content() {
+    assert_eq!(lowest_layout(SHEET, 0), Ok(None));
+    assert_eq!(lowest_layout(&SHEET[..39], 0), Err(Refusal::NoHead));
+    let lowest: Vec<_> = (0..4).map(|layout| lowest_layout(FLIGHTS, layout)).collect();
+    assert_eq!(lowest, [Ok(Some(0)), Ok(Some(1)), Ok(Some(1)), Ok(None)]);
+    assert_eq!(lowest_layout(FLIGHTS, usize::MAX), Ok(None));
+    let facts = [
+        ContainerFact::Unknown,
+        ContainerFact::Conflict,
+        ContainerFact::Map { key: 0, value: 1 },
+        ContainerFact::Map { key: 1, value: 0 },
+        ContainerFact::Iterator { key: 0, value: 1 },
+        ContainerFact::Iterator { key: 1, value: 0 },
+        ContainerFact::Queue { element: 0 },
+        ContainerFact::Queue { element: 1 },
+    ];
+    for (i, one) in facts.iter().enumerate() {
+        for (j, two) in facts.iter().enumerate() {
+            assert_eq!(one.same_content(two, FLIGHTS), Ok(i == j), "{one:?} {two:?}");
+        }
+    }
+    let other = ContainerFact::Iterator { key: 0, value: 2 };
+    assert_eq!(facts[4].same_content(&other, FLIGHTS), Ok(true));
+    assert_eq!(facts[2].same_content(&other, FLIGHTS), Ok(false));
+    assert_eq!(facts[7].same_content(&ContainerFact::Queue { element: 2 }, FLIGHTS), Ok(true));
+}
+
+#[test]
+fn the_archive_has_this_interface() {
+    assert_eq!(unsafe { raw::vo_facts_version() }, raw::VERSION);
 }
 
 #[test]

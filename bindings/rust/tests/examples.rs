@@ -2,7 +2,7 @@
 
 use std::fmt::Write;
 use std::path::Path;
-use vo_facts::{Budget, Buffers, ConstantFact, ContainerFact, Facts, IndexCheckFact, Table};
+use vo_facts::{lowest_layout, Budget, Buffers, ConstantFact, ContainerFact, Facts, IndexCheckFact, Table};
 
 const NAMES: [&str; 5] = ["worked", "chute", "trays", "flights", "bags"];
 const MOST: usize = 1 << 28;
@@ -10,18 +10,6 @@ const MOST: usize = 1 << 28;
 fn example(file: &str) -> Vec<u8> {
     let folder = Path::new(env!("CARGO_MANIFEST_DIR")).join("../../examples");
     std::fs::read(folder.join(file)).unwrap_or_else(|error| panic!("{file}: {error}"))
-}
-
-/// The content of each layout: "layout lengths (y, 16-bit), then q slot kinds", which end the sheet.
-fn layouts(sheet: &[u8]) -> Vec<&[u8]> {
-    let size = |i: usize| u32::from_le_bytes(sheet[4 * i..4 * i + 4].try_into().unwrap()) as usize;
-    let (lengths, mut kinds) = sheet[sheet.len() - 2 * size(4) - size(5)..].split_at(2 * size(4));
-    let mut content = |length: &[u8]| {
-        let (layout, rest) = kinds.split_at(u16::from_le_bytes([length[0], length[1]]).into());
-        kinds = rest;
-        layout
-    };
-    lengths.chunks_exact(2).map(&mut content).collect()
 }
 
 fn constant(fact: ConstantFact) -> String {
@@ -41,8 +29,8 @@ fn index(fact: IndexCheckFact) -> String {
 }
 
 /// "with the lowest layout number of equal content"
-fn container(layouts: &[&[u8]], fact: ContainerFact) -> String {
-    let lowest = |number: usize| layouts.iter().position(|layout| *layout == layouts[number]).unwrap();
+fn container(sheet: &[u8], fact: ContainerFact) -> String {
+    let lowest = |number: usize| lowest_layout(sheet, number).unwrap().unwrap();
     match fact {
         ContainerFact::Unknown => "unknown".into(),
         ContainerFact::Conflict => "conflict".into(),
@@ -65,7 +53,6 @@ fn rows(out: &mut String, name: &str, table: Table<'_>, pops: u64, fact: impl Fn
 
 fn listing(sheet: &[u8], facts: Facts<'_>) -> String {
     let mut out = String::new();
-    let layouts = layouts(sheet);
     let counts = facts.analyzed;
     rows(&mut out, "constant", facts.constant.0, counts.constant.pops, |pc, slot| {
         facts.constant.fact_for_slot(pc, slot).unwrap().map(constant)
@@ -74,7 +61,7 @@ fn listing(sheet: &[u8], facts: Facts<'_>) -> String {
         facts.index.fact_for_slot(pc, slot).unwrap().map(index)
     });
     rows(&mut out, "container", facts.container.0, counts.container.pops, |pc, slot| {
-        facts.container.fact_for_slot(pc, slot).unwrap().map(|fact| container(&layouts, fact))
+        facts.container.fact_for_slot(pc, slot).unwrap().map(|fact| container(sheet, fact))
     });
     writeln!(out, "left {} {}", counts.left.bytes, counts.left.work).unwrap();
     out

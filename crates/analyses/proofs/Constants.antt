@@ -14,7 +14,7 @@ use Rattle.model.specs.Closure.{stageNumber}
 use Rattle.model.specs.Fact.{Fact, kind, value}
 use Rattle.model.specs.Tables.{presentBytes, cells}
 use Rattle.model.specs.Analyses.{Analysed, stage}
-use Rattle.model.specs.Call.{Table, roomFor, counts, tables, filled, zeroTable, filledTable}
+use Rattle.model.specs.Call.{Table, Scratch, roomFor, counts, tables, filled, zeroTable, filledTable}
 use Rattle.model.specs.declared.VerifierResources.{VerifierResources}
 use Rattle.model.specs.declared.AnalysisKind.{AnalysisKind}
 use Rattle.model.specs.declared.AnalysisKind.the-variants.{Constant, IndexCheck, Container}
@@ -31,7 +31,6 @@ use Rattle.sheet.specs.Measured.{Accepted}
 use Rattle.sheet.proofs.Asked.{measured}
 use Rattle.sheet.proofs.Counted.{counted}
 use Rattle.sheet.proofs.Limited.{limited}
-use Rattle.stages.specs.Stage.{Scratch}
 use Rattle.analysis.proofs.Closing.{few-below}
 use Rattle.answers.specs.Answers as answers
 use Rattle.admission.specs.Begun.{refusedBy}

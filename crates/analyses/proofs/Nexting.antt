@@ -9,14 +9,13 @@ use Rattle.model.specs.Sheet.{codeCount}
 use Rattle.model.specs.Charges.{Spent}
 use Rattle.model.specs.Fact.{Fact, unknown}
 use Rattle.model.specs.Analyses.{Analysed, stage}
-use Rattle.model.specs.Call.{Table, roomFor, zeroTable}
+use Rattle.model.specs.Call.{Table, Scratch, roomFor, zeroTable}
 use Rattle.model.specs.declared.VerifierResources.{VerifierResources}
 use Rattle.model.specs.declared.AnalysisKind.{AnalysisKind}
 use Rattle.model.specs.declared.AnalysisKind.the-variants.{Container}
 use Rattle.model.specs.declared.Counts.{Counts}
 use Rattle.model.specs.declared.Answer.{Answer}
 use Rattle.model.specs.declared.Answer.the-variants.{Analyzed, Invalid, OverBudget, NoRoom}
-use Rattle.stages.specs.Stage.{Scratch}
 use Rattle.stages.specs.Ends.{stageEnd, stageOf}
 use Rattle.ending.specs.declared.Staged.{Staged}
 use Rattle.answers.specs.Answers.{afterStage}

@@ -9,7 +9,7 @@ use lib.ListN.{length}
 use Rattle.model.specs.Sheet.{codeCount, layoutCount, localSlots, firstRange, layoutStart}
 use Rattle.model.specs.Charges.{overBudget, noRoom, Spent, ok, stop, unfinished, Metered}
 use Rattle.model.specs.Analyses.{Analysed}
-use Rattle.model.specs.Call.{Table, Lent, answer, zeroTable, result, analyzed}
+use Rattle.model.specs.Call.{Table, Lent, Scratch, answer, zeroTable, result, analyzed}
 use Rattle.model.specs.declared.VerifierResources.{VerifierResources}
 use Rattle.model.specs.declared.AnalysisKind.{AnalysisKind}
 use Rattle.model.specs.declared.Counts.{Counts}
@@ -26,7 +26,7 @@ use Rattle.sheet.proofs.Asked.{measured}
 use Rattle.sheet.proofs.Counted.{counted}
 use Rattle.sheet.proofs.Laid.{laid}
 use Rattle.sheet.proofs.Limited.{limited}
-use Rattle.stages.specs.Stage.{Scratch, zeroScratch}
+use Rattle.stages.specs.Stage.{zeroScratch}
 use Rattle.stages.specs.Ends.{stageOf}
 use Rattle.stages.specs.Stocked.{Found, Empty, Unmarked}
 use Rattle.analyses.specs.Chain.{next, nextBy, nextOf}

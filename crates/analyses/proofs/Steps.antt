@@ -8,14 +8,14 @@ use native.Mathlib.Omega.{arith}
 use Rattle.model.specs.Charges.{Refusal, overBudget, noRoom, Spent, ok, stop, unfinished, Metered}
 use Rattle.model.specs.Closure.{stageNumber}
 use Rattle.model.specs.Analyses.{Analysed}
-use Rattle.model.specs.Call.{Table, counts, tables, zeroTable, filledTable}
+use Rattle.model.specs.Call.{Table, Scratch, counts, tables, zeroTable, filledTable}
 use Rattle.model.specs.declared.VerifierResources.{VerifierResources}
 use Rattle.model.specs.declared.AnalysisKind.{AnalysisKind}
 use Rattle.model.specs.declared.Counts.{Counts}
 use Rattle.model.specs.declared.Answer.{Answer}
 use Rattle.model.specs.declared.Answer.the-variants.{OverBudget}
 use Rattle.model.proofs.Stages.{Names}
-use Rattle.stages.specs.Stage.{Scratch, zeroScratch}
+use Rattle.stages.specs.Stage.{zeroScratch}
 use Rattle.stages.specs.Ends.{stageOf}
 use Rattle.admission.specs.Begun.{refusedBy}
 use Rattle.answers.specs.Answers.{counted, afterStage, refusing}

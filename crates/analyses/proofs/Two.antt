@@ -11,7 +11,7 @@ use Rattle.model.specs.Charges.{Refusal, Spent, ok, stop, unfinished}
 use Rattle.model.specs.Fact.{Fact, unknown}
 use Rattle.model.specs.Analyses.{Analysed, lengthFacts, stage}
 use Rattle.model.specs.Transfer.{checkedFrom}
-use Rattle.model.specs.Call.{Table, roomFor, counts, tables, zeroTable, filledTable}
+use Rattle.model.specs.Call.{Table, Scratch, roomFor, counts, tables, zeroTable, filledTable}
 use Rattle.model.specs.declared.VerifierResources.{VerifierResources}
 use Rattle.model.specs.declared.AnalysisKind.the-variants.{Constant, IndexCheck}
 use Rattle.model.specs.declared.Counts.{Counts}
@@ -21,7 +21,7 @@ use Rattle.finality.proofs.Lengths.{stage-lengths}
 use Rattle.sheet.specs.declared.Sizes.{Sizes}
 use Rattle.sheet.specs.Measured.{Accepted}
 use Rattle.model.specs.Tables.{lengthTable}
-use Rattle.stages.specs.Stage.{Scratch, zeroScratch, tableIf}
+use Rattle.stages.specs.Stage.{zeroScratch, tableIf}
 use Rattle.admission.specs.Begun.{noCounts, refusedBy, begunOf, chargeGraph}
 use Rattle.answers.specs.Answers.{counted, refusing}
 use Rattle.analyses.specs.Chain.{next, nextOf}

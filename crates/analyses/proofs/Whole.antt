@@ -10,7 +10,7 @@ use Rattle.model.specs.Sheet.{codeCount}
 use Rattle.model.specs.Charges.{Refusal, overBudget, noRoom, Spent, ok, stop, unfinished}
 use Rattle.model.specs.Fact.{unknown}
 use Rattle.model.specs.Analyses.{Analysed, Facts, lengthFacts, stage, analyses}
-use Rattle.model.specs.Call.{Table, Lent, tableOf, roomFor, tableRoom, closureRoom, cleared, callEnd, afterSix, afterFive, call, counts, answer, tables, zeroTable, filledTable, scratchZero, lentAfter, result, resultOf, analyzed}
+use Rattle.model.specs.Call.{Table, Lent, Scratch, lent, tableOf, roomFor, tableRoom, closureRoom, cleared, callEnd, afterSix, afterFive, call, counts, answer, tables, zeroTable, filledTable, scratchZero, lentAfter, result, resultOf, analyzed}
 use Rattle.model.specs.declared.VerifierResources.{VerifierResources}
 use Rattle.model.specs.declared.AnalysisKind.the-variants.{Constant, IndexCheck, Container}
 use Rattle.model.specs.CallDemand.{LentDemand}
@@ -22,7 +22,7 @@ use Rattle.model.specs.declared.Answer.the-variants.{Analyzed}
 use Rattle.finality.proofs.Lengths.{stage-lengths}
 use Rattle.sheet.specs.declared.Sizes.{Sizes}
 use Rattle.sheet.specs.Measured.{Accepted}
-use Rattle.stages.specs.Stage.{Scratch, lent, zeroScratch, tableIf}
+use Rattle.stages.specs.Stage.{zeroScratch, tableIf}
 use Rattle.admission.specs.Admitted.{admission}
 use Rattle.admission.specs.Begun.{noCounts, refusedBy}
 use Rattle.answers.specs.Answers.{counted, refusing}

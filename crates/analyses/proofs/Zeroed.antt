@@ -4,9 +4,9 @@ use mathlib.Core.Path.{_≡_, ap}
 use mathlib.Core.List.{List, _++_}
 use Prim.Native.Nat.{ℕ, _-_}
 use lib.ListN.{length, replicate}
-use Rattle.model.specs.Call.{Table, roomFor, zeros, filled, zeroTable, filledTable}
+use Rattle.model.specs.Call.{Table, Scratch, roomFor, zeros, filled, zeroTable, filledTable}
 use Rattle.finality.proofs.Lengths.{zeros-length, SameLengths, zeros-same}
-use Rattle.stages.specs.Stage.{Scratch, zeroScratch}
+use Rattle.stages.specs.Stage.{zeroScratch}
 
 pub zero-same : (t u : Table) → SameLengths t u → zeroTable t ≡ zeroTable u
 unfolding zeroTable

@@ -3,12 +3,11 @@
 use mathlib.Core.Option.{Option, none, some}
 use Rattle.model.specs.Charges.{Metered}
 use Rattle.model.specs.Analyses.{Analysed}
-use Rattle.model.specs.Call.{Table}
+use Rattle.model.specs.Call.{Table, Scratch}
 use Rattle.model.specs.declared.AnalysisKind.{AnalysisKind}
 use Rattle.model.specs.declared.Counts.{Counts}
 use Rattle.model.specs.declared.Answer.{Answer}
 use Rattle.model.specs.declared.Answer.the-variants.{Analyzed, Invalid, OverBudget, NoRoom}
-use Rattle.stages.specs.Stage.{Scratch}
 use Rattle.stages.specs.Ends.{StageEnd, stageOf}
 use Rattle.answers.specs.Answers.{afterStage}
 

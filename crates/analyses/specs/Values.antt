@@ -10,11 +10,11 @@ use Rattle.model.specs.Sheet.{localSlots}
 use Rattle.model.specs.Charges.{Spent, ok, stop, unfinished, Metered, give, _>>=_, _>>_}
 use Rattle.model.specs.Fact.{unknown}
 use Rattle.model.specs.Analyses.{Analysed, lengthFacts, stage}
-use Rattle.model.specs.Call.{Table, counts, tables, zeros, zeroTable, filledTable}
+use Rattle.model.specs.Call.{Table, Scratch, counts, tables, zeros, zeroTable, filledTable}
 use Rattle.model.specs.declared.AnalysisKind.the-variants.{Constant, IndexCheck}
 use Rattle.model.specs.declared.Answer.{Answer}
 use Rattle.model.specs.declared.Answer.the-variants.{Analyzed}
-use Rattle.stages.specs.Stage.{Scratch, zeroScratch}
+use Rattle.stages.specs.Stage.{zeroScratch}
 use Rattle.admission.specs.Begun.{noCounts, refusedBy, chargeGraph}
 
 -- scratch of zeros, with room for the closure

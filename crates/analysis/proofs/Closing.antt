@@ -16,7 +16,7 @@ use Rattle.model.specs.Closure.{trackedSlots}
 use Rattle.model.specs.Fact.{Fact, Row}
 use Rattle.model.specs.Run.{RunEnd, finished, overdrawn, fuelSpent}
 use Rattle.model.specs.Analyses.{Analysed, ranTo, propagate, stage}
-use Rattle.model.specs.Call.{roomFor, tables, zeros, filled, zeroTable, filledTable}
+use Rattle.model.specs.Call.{table, scratch, roomFor, tables, zeros, filled, zeroTable, filledTable}
 use Rattle.model.specs.Lookup.{ascends}
 use Rattle.model.specs.CallDemand.{TrackedExactly}
 use Rattle.model.specs.declared.VerifierResources.{VerifierResources}
@@ -35,7 +35,7 @@ use Rattle.closure.specs.declared.Closed.{Closed}
 use Rattle.closure.specs.declared.Closed.the-variants.{Tracked, Refused}
 use Rattle.stages.specs.Parts.{behindRoom, Behind, behind}
 use Rattle.room.specs.Room.{roomBy, room-by}
-use Rattle.stages.specs.Stage.{table, scratch, zeroScratch}
+use Rattle.stages.specs.Stage.{zeroScratch}
 use Rattle.stages.specs.Ends.{afterClosure, behindIn, slotsAfter, StageEnd, stageEnd, stageOf}
 use Rattle.stages.specs.Stocked.{Empty, Unmarked}
 use Rattle.ending.specs.declared.Staged.{Staged}

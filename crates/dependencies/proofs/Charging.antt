@@ -1,4 +1,4 @@
--- What the charges of an instruction are.
+-- What the charges of an instruction are, and those of the flow graph.
 -- Assumes nothing.
 use mathlib.Core.Path.{_≡_}
 use mathlib.Core.List.{List}
@@ -6,8 +6,14 @@ use Prim.Native.Nat.{ℕ}
 use Rattle.model.specs.Sheet.{localSlots, instruction}
 use Rattle.model.specs.Charges.{Metered}
 use Rattle.model.specs.Dependencies.{chargeInstruction}
+use Rattle.model.specs.Analyses.{flowOf, chargeFlow}
 use Rattle.model.specs.declared.Instruction.{Instruction}
 use Rattle.model.specs.declared.VerifierResources.{VerifierResources}
+use Rattle.budget.specs.Metering.{asSpent}
+use Rattle.budget.specs.declared.Metering.{Metering}
+use Rattle.sheet.specs.Measured.{Measured}
+use Rattle.sheet.specs.declared.Sizes.{Sizes}
+use Rattle.sheet.proofs.Counted.{counted}
 
 -- the charges of the instruction at pc
 unfoldable pub charges : List ℕ → ℕ → Metered (Unit {0})
@@ -17,3 +23,9 @@ pub same-charge : (sheet : List ℕ) (pc : ℕ) {l : ℕ} {inst : Instruction} (
     → chargeInstruction l inst left ≡ charges sheet pc left
 unfolding charges
 same-charge sheet pc left p q = rw (p, q)
+
+-- the flow graph's charges of a sheet, by its counted n
+pub flow-counted : (sheet : List ℕ) (budget : VerifierResources) {sizes : Sizes} (flow : Metering) → asSpent 1 flow ≡ flowOf (sizes .«code_count») budget → Measured sheet sizes
+    → asSpent 1 flow ≡ chargeFlow sheet budget
+unfolding chargeFlow
+flow-counted sheet budget flow e m = rw (counted (m .are) .code-count) at e

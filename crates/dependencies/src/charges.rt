@@ -1,8 +1,7 @@
 // "Order: flow graph, dependencies, ..": the charges of `FunctionCfg::build` and of `FactDependencyGraph::build`.
 ghost use mathlib.Core.Path.{_≡_};
-ghost use mathlib.Core.List.{List};
-ghost use Prim.Native.Nat.{ℕ, _≤_};
-ghost use Rattle.model.specs.Analyses.{chargeFlow};
+ghost use Prim.Native.Nat.{_≤_};
+ghost use Rattle.model.specs.Analyses.{flowOf};
 ghost use Rattle.model.specs.Dependencies.{chargeInstruction, chargeDependencies};
 ghost use Rattle.budget.specs.Metering.{asSpent};
 ghost use Rattle.sheet.specs.Measured.{Measured};
@@ -21,7 +20,7 @@ use sheet::Sizes;
 // "successor record 24": bytes 24 × n, then work n.
 pub fn charge_flow(sizes: Sizes, resources: VerifierResources) -> Metering
     requires { ⌜ sizes .«code_count» ≤ 4096 ⌝ }
-    ensures { λ r. ⌜ ((sheet : List ℕ) → Measured sheet sizes → asSpent 1 r ≡ chargeFlow sheet resources) ⌝ }
+    ensures { λ r. ⌜ asSpent 1 r ≡ flowOf (sizes .«code_count») resources ⌝ }
 {
     let n = sizes.code_count as u64;
     let records = metered(resources, charge_bytes(resources, n * 24));

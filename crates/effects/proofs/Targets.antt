@@ -39,11 +39,6 @@ one-slot slot a = go (ltb slot a) refl (ltb a slot) refl
         )
 
 module _ (slots : List ℕ) (row : Row) (slot : ℕ) where
-  -- a single slot that is filled
-  pub filled-one : (a : ℕ) (cell r : FactCell) → targetCell (eqb a slot) cell ≡ r → effectCell (Filled a 1 cell) slots row slot ≡ r
-  unfolding effectCell
-  filled-one a cell r e = rw (one-slot slot a) e
-
   module _ (start count : ℕ) where
     outside : slot < start → targetCell (inRange slot start count) ≡ targetCell false
     outside h = ap targetCell (sym (before slot start count h))

@@ -1,11 +1,11 @@
 // What the slots that an instruction writes become.
 ghost use mathlib.Core.Path.{_≡_};
-ghost use Prim.Native.Nat.{ℕ, _+_, _<_};
+ghost use Prim.Native.Nat.{_+_, _<_};
 ghost use Rattle.model.specs.Sheet.{instruction};
-ghost use Rattle.model.specs.Tables.{cellOf, factsOf};
-ghost use Rattle.model.specs.Transfer.{containerRule, containerFact};
+ghost use Rattle.model.specs.Tables.{factsOf};
+ghost use Rattle.model.specs.declared.AnalysisKind.the-variants.{Container};
 ghost use Rattle.sheet.specs.Measured.{Measured};
-ghost use Rattle.effects.specs.Effect.{effectCell, factWritten};
+ghost use Rattle.effects.specs.Effect.{effectCell, effectOf};
 ghost use Rattle.search.specs.Rows.{Tracked};
 use crate::Effect;
 use crate::index::index_check_fact_written_to_slot;
@@ -37,7 +37,7 @@ fn container_effect(
 ) -> Effect
     requires { ⌜ Measured (now sheet) sizes × Tracked (now slots) (now kinds) (now values) × (pc < sizes .«code_count») × (inst ≡ instruction (now sheet) pc) ⌝ }
     requires { ⌜ (inst .op ≡ 4 → ⊥) ⌝ }
-    ensures { λ r. ⌜ ((slot : ℕ) → effectCell r (now (slots .entry)) (factsOf (now (kinds .entry)) (now (values .entry))) slot ≡ cellOf (containerFact (containerRule (inst .op)) (now (sheet .entry)) pc (now (slots .entry)) (factsOf (now (kinds .entry)) (now (values .entry))) slot)) ⌝ }
+    ensures { λ r. ⌜ r ≡ effectOf Container (now (sheet .entry)) pc (now (slots .entry)) (factsOf (now (kinds .entry)) (now (values .entry))) ⌝ }
 {
     if inst.op == MAP_ITER_NEXT {
         let before = fact_for_tracked_source(slots, kinds, values, wide(inst.b));
@@ -66,7 +66,7 @@ pub fn effect_of(
     inst: Instruction,
 ) -> Effect
     requires { ⌜ Measured (now sheet) sizes × Tracked (now slots) (now kinds) (now values) × (pc < sizes .«code_count») × (inst ≡ instruction (now sheet) pc) ⌝ }
-    ensures { λ r. ⌜ ((slot : ℕ) → effectCell r (now (slots .entry)) (factsOf (now (kinds .entry)) (now (values .entry))) slot ≡ cellOf (factWritten which (now (sheet .entry)) pc (now (slots .entry)) (factsOf (now (kinds .entry)) (now (values .entry))) slot)) ⌝ }
+    ensures { λ r. ⌜ r ≡ effectOf which (now (sheet .entry)) pc (now (slots .entry)) (factsOf (now (kinds .entry)) (now (values .entry))) ⌝ }
 {
     if inst.op == COPY_N {
         return Effect::Copied {

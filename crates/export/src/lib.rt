@@ -1,14 +1,15 @@
 // The C interface, which include/vo_facts.h declares: thin functions over `analyze` and the lookups. What C is handed are numbers: document 01's
 // own, 254 for "none", 255 where the memory for the answer is too short.
+mod loading;
+
 ghost use mathlib.Core.Path.{_≡_};
 ghost use mathlib.Core.Option.{some};
 ghost use lib.Dec.{leb};
 ghost use lib.ListN.{length};
 ghost use Rattle.model.specs.Lookup.{factForSlot, isReachable, fixed};
 ghost use Rattle.model.specs.declared.AnalysisKind.the-variants.{Constant, IndexCheck, Container};
-ghost use Rattle.stages.specs.Stage.{table, scratch, lent};
-ghost use Rattle.export.specs.Exported.{exported, exportedOf};
-ghost use Rattle.numbers.specs.Facts.{looked, lookedUp, reachedNumber};
+ghost use Rattle.model.specs.Call.{table, scratch, lent};
+ghost use Rattle.model.specs.Interface.{exported, exportedOf, looked, lookedUp, reachedNumber};
 use lookup::constant_fact_for_slot;
 use lookup::container_fact_for_slot;
 use lookup::fixed_fact;

@@ -5,8 +5,7 @@ use mathlib.Core.List.{List, _++_}
 use Prim.Native.Nat.{ℕ, zero, suc, _+_, _-_, _/_, _%_, _≤_, _<_}
 use native.Mathlib.Omega.{arith}
 use Rattle.model.specs.Tables.{factOf}
-use Rattle.model.specs.Listing.{ascii, digits, decimal, space, lowest, constantText, indexText, containerText}
-use Rattle.fact_text.specs.Facts.{factText}
+use Rattle.model.specs.Listing.{ascii, digits, decimal, space, lowest, constantText, indexText, containerText, factText}
 use Rattle.model.specs.declared.AnalysisKind.{AnalysisKind}
 use Rattle.model.specs.declared.AnalysisKind.the-variants.{Constant, IndexCheck, Container}
 

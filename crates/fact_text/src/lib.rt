@@ -2,10 +2,9 @@
 ghost use mathlib.Core.List.{List, _++_};
 ghost use Prim.Native.Nat.{ℕ, _+_, _≤_};
 ghost use lib.ListN.{length};
-ghost use Rattle.model.specs.Listing.{ascii, decimal, constantText, containerText};
+ghost use Rattle.model.specs.Listing.{ascii, decimal, constantText, containerText, factText};
 ghost use Rattle.model.specs.Tables.{factOf};
 ghost use Rattle.text.specs.Text.{Added};
-ghost use Rattle.fact_text.specs.Facts.{factText};
 ghost use Rattle.layouts.specs.Readable.{Readable};
 use layouts::lowest;
 use model::AnalysisKind;

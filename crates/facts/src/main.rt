@@ -1,17 +1,18 @@
-// Lists the facts of the sheet on standard input.
-ghost use mathlib.Core.Path.{_≡_};
-ghost use lib.ListN.{length};
-use libc::STDIN_FILENO;
-
-// One byte more than the longest sheet that is not too large: of a longer input the rest is left unread.
-fn no_input() -> [u8; 65537]
-    ensures { λ r. ⌜ 65537 ≡ length r ⌝ }
-{
-    [0; 65537]
-}
+// Lists the facts of the sheet on standard input, or nothing where it cannot be read. The listing is written whole, or up to the first write that fails.
+use input::read_input;
+use libc::STDOUT_FILENO;
+use report::list;
+use report::no_sheet;
 
 fn main() {
-    let mut input = no_input();
-    let count = io::read_full(STDIN_FILENO, &mut input);
-    report::list(&input[..count]);
+    let mut sheet = no_sheet();
+    let input = read_input(&mut sheet);
+    let failed = input.failed;
+    if failed {
+        return;
+    }
+    let count = input.count;
+    let mut text = [0u8; 2187530];
+    let length = list(&sheet[..count], &mut text);
+    io::write_all(STDOUT_FILENO, &text[..length]);
 }

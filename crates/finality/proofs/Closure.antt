@@ -14,7 +14,7 @@ use Rattle.model.specs.Count.{collect}
 use Rattle.model.specs.Sheet.{codeCount, localSlots, instruction}
 use Rattle.model.specs.Charges.{Metered, ok, giveUp}
 use Rattle.model.specs.Dependencies.{dependencyBit, FactDependency, edgeIf, edge, Depends, copyEdge, copyNEdges, foldEdges, iterEdge, noEdges, depends, edgesBy, instructionEdges, keepIf, edgesInto, edgesTo, Field, field, seedFields}
-use Rattle.model.specs.Closure.{Marked, mark, markFields, markSeeds, followIf, follow, unmarked, seeded, takeSlot, expand, trackedSlots, places, stageNumber}
+use Rattle.model.specs.Closure.{Marked, mark, markFields, markSeeds, followUnless, follow, unmarked, seeded, takeSlot, expand, trackedSlots, places, stageNumber}
 use Rattle.model.specs.CallDemand.{Tracked, seed, source, TrackedExactly}
 use Rattle.model.specs.declared.VerifierResources.{VerifierResources}
 use Rattle.model.specs.declared.Instruction.{Instruction}
@@ -92,8 +92,8 @@ unfolding markSeeds
 seeds-grow which sheet zero m = grows-self m
 seeds-grow which sheet (suc pc) m = grows-on (seeds-grow which sheet pc m) (fields-grow (instruction sheet pc) _ (markSeeds which sheet pc m))
 
-follow-if-grows : (b : Bool) (slot : ℕ) (m : Marked) → Grows m (followIf b slot m)
-unfolding followIf
+follow-if-grows : (b : Bool) (slot : ℕ) (m : Marked) → Grows m (followUnless b slot m)
+unfolding followUnless
 follow-if-grows true slot m = grows-self m
 follow-if-grows false slot m = mark-grows slot m
 
@@ -141,13 +141,13 @@ seeds-set which sheet (suc i) m pc f h k l = go (λ lt. seeds-set which sheet i 
 -- every source that this analysis follows is marked
 follow-set : (bit : ℕ) (es : List FactDependency) (m : Marked) (e : FactDependency) → Member e es → eqb (bitAnd (e .kinds) bit) 0 ≡ false
     → e .source < length (m .marks) → IsSet (follow bit es m .marks) (e .source)
-unfolding follow followIf
+unfolding follow followUnless
 follow-set bit [] m e k t h = absurd (not-nil k)
 follow-set bit (x ∷ xs) m e k t h =
     go (λ l. follow-set bit xs next e l t (rw (follow-if-grows _ (x .source) m .size) h)) (cases-cons k)
   where
     next : Marked
-    next = followIf (eqb (bitAnd (x .kinds) bit) 0) (x .source) m
+    next = followUnless (eqb (bitAnd (x .kinds) bit) 0) (x .source) m
 
     set-now : e ≡ x → IsSet (next .marks) (e .source)
     set-now w = rw w (rw (ap (λ (d : FactDependency). eqb (bitAnd (d .kinds) bit) 0) (sym w) ∙ t) (mark-sets (x .source) m (rw w at h)))
@@ -183,8 +183,8 @@ module _ (which : AnalysisKind) (sheet : List ℕ) where
   seeds-sound zero h m g = g
   seeds-sound (suc pc) h m g = fields-sound pc (omega arith) _ (λ f k. k) (markSeeds which sheet pc m) (seeds-sound pc (omega arith) m g)
 
-  follow-if-sound : (b : Bool) (slot : ℕ) (m : Marked) → (b ≡ false → Tracked which sheet slot) → Sound m → Sound (followIf b slot m)
-  unfolding followIf
+  follow-if-sound : (b : Bool) (slot : ℕ) (m : Marked) → (b ≡ false → Tracked which sheet slot) → Sound m → Sound (followUnless b slot m)
+  unfolding followUnless
   follow-if-sound true slot m tracked g = g
   follow-if-sound false slot m tracked g = mark-sound slot m (λ below. tracked refl) g
 
@@ -294,8 +294,8 @@ module _ (which : AnalysisKind) (sheet : List ℕ) where
 
   -- ---- its fuel is enough
 
-  follow-if-weight : (b : Bool) (slot : ℕ) (m : Marked) → weight (followIf b slot m) ≡ weight m
-  unfolding followIf
+  follow-if-weight : (b : Bool) (slot : ℕ) (m : Marked) → weight (followUnless b slot m) ≡ weight m
+  unfolding followUnless
   follow-if-weight true slot m = refl
   follow-if-weight false slot m = mark-weight slot m
 

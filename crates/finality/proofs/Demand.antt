@@ -43,6 +43,7 @@ module _ (a : Analysis) (law : Lawful a) where
             more-fuel = λ fuel h. at-once fuel left z ∙ sym e₀;
             pops = λ rows count rest e. let k : 0 ≡ count = cc in omega arith;
             list = λ hn st v. list-fits a law left hn st v .0;
+            fuel-free = λ hn hs. absurd (w hn hs);
             tables = λ hn hs rows count rest e. absurd (w hn hs);
             work = λ rows count rest e. let k : count ≡ 0 = cc in let l : rest ≡ left = cc in rw (k, l) (omega arith);
             refusal = λ requested remaining e. let k : _≡_ {A = ℕ} 0 1 = cc in absurd (omega arith);
@@ -55,6 +56,7 @@ module _ (a : Analysis) (law : Lawful a) where
         more-fuel = λ fuel h. more-fuel a law fuel left h hn hs;
         pops = λ rows count rest e. (rw e at (outcome a law left hn hs)) .1;
         list = λ hn st v. list-fits a law left hn st v .0;
+        fuel-free = λ _ _. ends-at a law left hn hs;
         tables = λ _ _ rows count rest e. (rw e at (outcome a law left hn hs)) .0;
         work = λ rows count rest e. rw e at (ends-paid a law left (start a left) (run a left) (start-paid a law left) (ends-at a law left hn hs));
         refusal = λ requested remaining e. rw e at (outcome a law left hn hs);

@@ -125,5 +125,5 @@ module _ (a : Analysis) (law : Lawful a) where
   visited-good left hn st (then {st = before} v e) = (rw e at (step-fine before (visited-good left hn before v))) .0
 
   -- so its list and its count are never above n × (1 + 2 × s)
-  pub list-fits : (left : ℕ) → 0 < n → (st : State) → Visited a left st → (length (st .list) ≤ bound a) × (st .count ≤ bound a)
+  pub list-fits : (left : ℕ) → 0 < n → (st : State) → Visited a left st → (st .count + length (st .list) ≤ bound a) × (st .count ≤ bound a)
   list-fits left hn st v = let g : Good a [] [] st = visited-good left hn st v in (omega (arith, g .fits), omega (arith, g .fits))

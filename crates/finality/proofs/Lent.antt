@@ -5,10 +5,11 @@ use mathlib.Core.List.{List}
 use mathlib.Core.Option.{Option, none, some}
 use Prim.Native.Nat.{ℕ}
 use native.Mathlib.Omega.{arith}
+use lib.Seq.{take-append-seam}
 use Rattle.model.specs.Charges.{overBudget, noRoom}
 use Rattle.model.specs.Fact.{Fact}
 use Rattle.model.specs.Analyses.{Analysed, Facts, analysis}
-use Rattle.model.specs.Call.{Table, Lent, CallEnd, kept, cleared, completed, call, counts, answer, tables, filledTable, scratchZero, lentAfter, Result, result, resultOf, analyzed}
+use Rattle.model.specs.Call.{Table, Lent, CallEnd, kept, cleared, completed, call, counts, answer, tables, filled, filledTable, scratchZero, lentAfter, Result, result, resultOf, analyzed}
 use Rattle.model.specs.CallDemand.{Demanded, TableDemand, LentDemand}
 use Rattle.model.specs.declared.Counts.{Counts}
 use Rattle.model.specs.declared.Answer.the-variants.{Analyzed}
@@ -18,10 +19,15 @@ use Rattle.finality.proofs.Call.{call-demand}
 
 table-demand : (which : AnalysisKind) (sheet : List ℕ) (lengthFact : ℕ → Fact) (a : Analysed) (old : Table) (given : Counts) (table : Table)
     → Demanded which sheet lengthFact a → counts a ≡ given → filledTable (tables a) old ≡ table → TableDemand which sheet lengthFact a given table
-unfolding counts analysis
+unfolding counts analysis tables filledTable filled
 table-demand which sheet lengthFact a old given table d p q =
     subst (λ (x : Counts). TableDemand which sheet lengthFact a x table) p
-    (subst (λ (y : Table). TableDemand which sheet lengthFact a (counts a) y) q (record { pops = d .pops; final = λ hn hs. d .memory old hn hs }))
+    (subst (λ (y : Table). TableDemand which sheet lengthFact a (counts a) y) q (record {
+      tracked = refl;
+      slots = take-append-seam (a .slots) _;
+      pops = d .pops;
+      final = λ hn hs. d .memory old hn hs;
+    }))
 
 module _ (sheet : List ℕ) (budget : VerifierResources) (before : Lent) (constant index container : Counts) (left : VerifierResources) (after : Lent) where
   lent-demand : (facts : Facts) → call sheet budget before ≡ some (completed facts left)

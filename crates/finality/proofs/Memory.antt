@@ -1,6 +1,7 @@
 -- Demand 3 of a run's rows is demand 3 of its tables as they lie in memory.
 -- Assumes nothing.
 use mathlib.Core.Path.{_≡_, refl, sym, ap, _∙_}
+use mathlib.Core.Logic.{_⊎_, inl, inr}
 use mathlib.Core.List.{List, [], _∷_, _++_, map, List·Memᴰ as Member}
 use mathlib.Core.Option.{Option, none, some}
 use Prim.Native.Nat.{ℕ, zero, suc, _+_, _*_, _≤_, _<_}
@@ -8,7 +9,7 @@ use native.Mathlib.Nat.{mul-le-mul-right}
 use native.Mathlib.Omega.{arith}
 use lib.ListN.{length, getD, take, drop, replicate, length-drop}
 use lib.Seq.{take-append-le, drop-append-le}
-use Rattle.model.specs.Fact.{Fact, kind, value, Row}
+use Rattle.model.specs.Fact.{Fact, kind, value, Row, joinRow}
 use Rattle.model.specs.Run.{Analysis, rowAt}
 use Rattle.model.specs.Tables.{presentByte, presentBytes, rowCells, cells, tableRow}
 use Rattle.model.specs.Demand.{Present, Settled, Final, Shows, SettledTable, FinalTable}
@@ -50,6 +51,15 @@ unfolding presentByte
 shown-row none e = let z : _≡_ {A = ℕ} 0 1 = cc in absurd (omega arith)
 shown-row (some r) e = (r, refl)
 
+-- every present byte is 0 or 1
+byte-of : (o : Option Row) → (presentByte o ≡ 0) ⊎ (presentByte o ≡ 1)
+unfolding presentByte
+byte-of none = inl refl
+byte-of (some r) = inr refl
+
+zero-or-one : (rows : List (Option Row)) (k p : ℕ) → (getD (presentBytes rows ++ replicate k 0) p 0 ≡ 0) ⊎ (getD (presentBytes rows ++ replicate k 0) p 0 ≡ 1)
+zero-or-one rows k p = rw (padded-read (presentBytes rows) k p, present-at rows p) (byte-of (rowAt rows p))
+
 pub row-shown : (rows : List (Option Row)) (k p : ℕ) → Shows (presentBytes rows ++ replicate k 0) p → Present rows p
 row-shown rows k p e = shown-row (rowAt rows p) (sym (padded-read (presentBytes rows) k p ∙ present-at rows p) ∙ e)
 
@@ -82,18 +92,34 @@ module _ (a : Analysis) (rows : List (Option Row)) (f : Final a rows) (k : ℕ) 
   unfolding kinds values
   part = row-part (a .s) rows (f .row-length) ks vs
 
+  part-of : (g : Fact → ℕ) (ys : List ℕ) (q : ℕ) (r : Row) → rowAt rows q ≡ some r → map g r ≡ take (a .s) (drop (q * a .s) (cells g (a .s) rows ++ ys))
+  part-of g ys q r e = sym (cells-at (a .s) rows (f .row-length) ks vs g ys q r e)
+
+  kinds-part : (q : ℕ) (r : Row) → rowAt rows q ≡ some r → map kind r ≡ take (a .s) (drop (q * a .s) kinds)
+  unfolding kinds
+  kinds-part q r e = part-of kind ks q r e
+
+  values-part : (q : ℕ) (r : Row) → rowAt rows q ≡ some r → map value r ≡ take (a .s) (drop (q * a .s) values)
+  unfolding values
+  values-part q r e = part-of value vs q r e
+
   settled-table : (p : ℕ) → Present rows p → (q : ℕ) → Member q (a .successors p) → SettledTable a present kinds values p q
   unfolding present
   settled-table p x q m =
-      let h : Settled a rows p (x .0) q = f .settled p (x .0) (x .1) q m in record {
+      let h : Settled a rows p (x .0) q = f .settled p (x .0) (x .1) q m in
+      let stays : joinRow (a .same) (tableRow (a .s) kinds values q) (a .transfer p (tableRow (a .s) kinds values p)) ≡ tableRow (a .s) kinds values q =
+      rw (part p (x .0) (x .1), part q (h .row) (h .present)) (h .unchanged) in record {
         shows = shown rows k q (h .row) (h .present);
         carried = rw (part p (x .0) (x .1)) (h .carried);
-        unchanged = rw (part p (x .0) (x .1), part q (h .row) (h .present)) (h .unchanged);
+        unchanged = stays;
+        kinds-stay = ap (map kind) (stays ∙ part q (h .row) (h .present)) ∙ kinds-part q (h .row) (h .present);
+        values-stay = ap (map value) (stays ∙ part q (h .row) (h .present)) ∙ values-part q (h .row) (h .present);
       }
 
   pub final-table : FinalTable a (presentBytes rows ++ replicate k 0) (cells kind (a .s) rows ++ ks) (cells value (a .s) rows ++ vs)
   unfolding present kinds values
   final-table = record {
+    zero-or-one = zero-or-one rows k;
     only-reachable = λ p e. f .only-reachable p (row-shown rows k p e);
     all-reachable = λ p w. let x : Present rows p = f .all-reachable p w in shown rows k p (x .0) (x .1);
     settled = λ p e q m. settled-table p (row-shown rows k p e) q m;

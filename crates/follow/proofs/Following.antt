@@ -15,7 +15,7 @@ use borrow.Author.Tests.{lt-ltb, eq-eqb, ne-eqb}
 use Rattle.model.specs.Count.{collect}
 use Rattle.model.specs.Sheet.{codeCount, localSlots, instruction}
 use Rattle.model.specs.Dependencies.{FactDependency, edgeIf, edge, Depends, depends, instructionEdges, keepIf, edgesInto, edgesTo}
-use Rattle.model.specs.Closure.{Marked, mark, followIf, follow}
+use Rattle.model.specs.Closure.{Marked, mark, followUnless, follow}
 use Rattle.model.specs.Opcode.{select}
 use Rattle.model.specs.declared.Instruction.{Instruction}
 use Rattle.dependencies.specs.Rows.{row, rowIf, rows, dependenceBy, dependence}
@@ -128,15 +128,15 @@ module _ (bit : ℕ) where
   module _ (d kinds : ℕ) where
     -- edges of another mask
     passed-over : bitAnd kinds bit ≡ 0 → (ss : List ℕ) (m : Marked) → follow bit (edgesFrom d kinds ss) m ≡ m
-    unfolding follow followIf edgesFrom
+    unfolding follow followUnless edgesFrom
     passed-over h [] m = refl
-    passed-over h (s ∷ ss) m = ap (λ (t : Bool). follow bit (edgesFrom d kinds ss) (followIf t s m)) (eq-eqb (bitAnd kinds bit) 0 h) ∙ passed-over h ss m
+    passed-over h (s ∷ ss) m = ap (λ (t : Bool). follow bit (edgesFrom d kinds ss) (followUnless t s m)) (eq-eqb (bitAnd kinds bit) 0 h) ∙ passed-over h ss m
 
     -- and of this one
     marks-all : (bitAnd kinds bit ≡ 0 → ⊥) → (ss : List ℕ) (m : Marked) → follow bit (edgesFrom d kinds ss) m ≡ markAll ss m
-    unfolding follow followIf edgesFrom markAll
+    unfolding follow followUnless edgesFrom markAll
     marks-all h [] m = refl
-    marks-all h (s ∷ ss) m = ap (λ (t : Bool). follow bit (edgesFrom d kinds ss) (followIf t s m)) (ne-eqb (bitAnd kinds bit) 0 h) ∙ marks-all h ss (mark s m)
+    marks-all h (s ∷ ss) m = ap (λ (t : Bool). follow bit (edgesFrom d kinds ss) (followUnless t s m)) (ne-eqb (bitAnd kinds bit) 0 h) ∙ marks-all h ss (mark s m)
 
   -- no edge at all
   pub followed-nothing : {es : List FactDependency} {marks stack : List ℕ} {from : Followed} → es ≡ [] → Follows bit es marks stack from marks stack from

@@ -1,8 +1,19 @@
-// Bytes and little-endian numbers from standard input, for the programs that read records.
+// Bytes and little-endian numbers from standard input. What comes, and whether a read fails, no contract can say: that of libc's `read` tells only how
+// many bytes it may have moved. So of a buffer the contracts here determine what lies behind the bytes that came, and of an answer of `read` what is
+// made of it (`answered`); that a program hands on the bytes that came, and not others, is what its `read` is believed to do.
 ghost use mathlib.Core.Path.{_≡_};
-ghost use Prim.Native.Nat.{_+_, _*_, _<_};
+ghost use Prim.Native.Nat.{_+_, _*_, _<_, _≤_, min};
+ghost use lib.ListN.{length, take, drop};
 ghost use Rattle.io.specs.Counts.{Counts};
+ghost use Rattle.input.specs.Answered.{answeredOf};
 use libc::STDIN_FILENO;
+use text::put;
+
+// What came: count bytes, and then the input's end or a failed read, unless there was no room for more.
+pub struct Input {
+    pub count: usize,
+    pub failed: bool,
+}
 
 // A byte as a number of 16 bits.
 pub fn wide(x: u8) -> u16
@@ -30,12 +41,73 @@ pub fn u64_of(low: u32, high: u32) -> u64
     low as u64 + 4294967296 * high as u64
 }
 
-// Reads count bytes to the front of the buffer, and answers how many came: fewer where they do not fit or the input ends.
+fn least(a: usize, b: usize) -> usize
+    ensures { λ r. ⌜ (r ≤ a) × (r ≤ b) × (r ≡ min a b) ⌝ }
+{
+    if a < b { a } else { b }
+}
+
+// What `read` answered: how many bytes came, 0 at the end of the input; below 0 it failed. A call that a signal interrupts before it moves a byte
+// counts as one that failed.
+fn answered(got: isize, most: usize) -> Input
+    ensures { λ r. ⌜ (r ≡ answeredOf got most) × (r .count ≤ most) ⌝ }
+{
+    if got < 0 {
+        return Input {
+            count: 0,
+            failed: true,
+        };
+    }
+    Input {
+        count: least(got as usize, most),
+        failed: false,
+    }
+}
+
+// One read into the buffer from a place on, by way of chunk, so that the rest of the buffer stays as it is.
+fn read_to(buffer: &mut [u8], to: usize, chunk: &mut [u8]) -> Input
+    requires { ⌜ to ≤ length (now buffer) ⌝ }
+    ensures { λ r. ⌜ (to + r .count ≤ length (now (buffer .entry))) × (take to (now (buffer .exit)) ≡ take to (now (buffer .entry))) × (drop (to + r .count) (now (buffer .exit)) ≡ drop (to + r .count) (now (buffer .entry))) ⌝ }
+{
+    let n = least(buffer.len() - to, chunk.len());
+    let input = answered(libc::read(STDIN_FILENO, &mut chunk[..n]), n);
+    let count = input.count;
+    put(&chunk[..count], to, buffer);
+    input
+}
+
+// Reads standard input until the buffer is full, the input ends or a read fails. Behind the bytes that came the buffer stays as it was.
+pub fn read_input(buffer: &mut [u8]) -> Input
+    ensures { λ r. ⌜ Counts (r .count) (now (buffer .exit)) × (drop (r .count) (now (buffer .exit)) ≡ drop (r .count) (now (buffer .entry))) ⌝ }
+{
+    let mut space = io::buffer();
+    let chunk: &mut [u8] = &mut space;
+    let mut done = 0;
+    while done < buffer.len() {
+        let input = read_to(buffer, done, chunk);
+        let count = input.count;
+        let failed = input.failed;
+        done += count;
+        if count == 0 {
+            return Input {
+                count: done,
+                failed,
+            };
+        }
+    }
+    Input {
+        count: done,
+        failed: false,
+    }
+}
+
+// Reads count bytes to the front of the buffer, and answers how many came: fewer where the input ends or a read fails, and none where they do not fit.
 pub fn read_front(buffer: &mut [u8], count: usize) -> usize
-    ensures { λ r. ⌜ Counts r (now (buffer .exit)) ⌝ }
+    ensures { λ r. ⌜ Counts r (now (buffer .exit)) × (r ≤ count) × (drop r (now (buffer .exit)) ≡ drop r (now (buffer .entry))) × (length (now (buffer .entry)) < count → r ≡ 0) ⌝ }
 {
     if buffer.len() < count {
         return 0;
     }
-    io::read_full(STDIN_FILENO, &mut buffer[..count])
+    let input = read_input(&mut buffer[..count]);
+    input.count
 }

@@ -2,7 +2,7 @@
 -- Assumes nothing.
 use mathlib.Core.Path.{_≡_, refl, sym, ap, ap₂, _∙_}
 use mathlib.Core.List.{List, [], _∷_, _++_, append-assoc, append-nil}
-use Prim.Native.Nat.{ℕ, zero, suc, _+_, _*_, _<_}
+use Prim.Native.Nat.{ℕ, zero, suc, _+_, _*_, _≤_, _<_}
 use native.Mathlib.Nat.{not-suc-le-zero, le-of-suc-le-suc}
 use native.Mathlib.Numerals.{add-one}
 use native.Mathlib.Omega.{arith}
@@ -13,9 +13,9 @@ use Rattle.model.specs.Fact.{Fact, unknown, Row}
 use Rattle.model.specs.Tables.{factOf, factsOf}
 use Rattle.model.specs.Listing.{decimal, space, newline, rowLines, presentLines}
 use Rattle.model.proofs.Facts.{length-facts}
-use Rattle.text.specs.Text.{Wrote, Added}
+use Rattle.text.specs.Text.{Added}
 use Rattle.listing.specs.Rows.{cellLine, rowIf, tableRowOf}
-use Rattle.text.proofs.Writing.{then, reword, front}
+use Rattle.text.proofs.Writing.{then, reword, nothing}
 
 -- ---- the facts of a row's kinds and values
 
@@ -45,31 +45,34 @@ module _ (text : Fact → List ℕ) (pc : ℕ) where
 
   -- after j cells
   module _ (slots kinds values : List ℕ) where
-    abbrev pub Listed : List ℕ → ℕ → ℕ → List ℕ → Type 0
-    Listed old j at new = Added (89 * j) (first slots (factsOf kinds values) j) 0 old at new
+    abbrev pub Listed : ℕ → List ℕ → ℕ → ℕ → List ℕ → Type 0
+    Listed start old j at new = Added (89 * j) (first slots (factsOf kinds values) j) start old at new
 
-    pub listed-none : (old : List ℕ) → Listed old 0 0 old
+    pub listed-none : (start : ℕ) (old : List ℕ) → start ≤ length old → Listed start old 0 start old
     unfolding rowLines
-    listed-none old = record { counts = refl; short = omega arith; within = omega arith; bytes = refl; long = refl }
+    listed-none start old h = nothing old start h
 
-    pub listed-more : (old mid new : List ℕ) (j at next : ℕ) → length kinds ≡ length slots → length values ≡ length slots → j < length slots → Listed old j at mid
-        → Added 89 (cellLine text pc (getD slots j 0) (factOf (getD kinds j 0) (getD values j 0))) at mid next new → Listed old (j + 1) next new
-    listed-more old mid new j at next hk hv l w v =
+    pub listed-more : (start : ℕ) (old mid new : List ℕ) (j at next : ℕ) → length kinds ≡ length slots → length values ≡ length slots → j < length slots → Listed start old j at mid
+        → Added 89 (cellLine text pc (getD slots j 0) (factOf (getD kinds j 0) (getD values j 0))) at mid next new → Listed start old (j + 1) next new
+    listed-more start old mid new j at next hk hv l w v =
         reword (omega arith)
         (ap (λ (f : Fact). first slots (factsOf kinds values) j ++ cellLine text pc (getD slots j 0) f) (sym (fact-at kinds values j (omega arith) (omega arith)))
         ∙ one-more slots (factsOf kinds values) j l (omega (arith, length-facts kinds values (omega arith)))
         ∙ ap (first slots (factsOf kinds values)) (sym (add-one j)))
         (then w v)
 
+    abbrev pub Row-written : ℕ → ℕ → List ℕ → ℕ → List ℕ → Type 0
+    Row-written byte start old at new = Added (89 * length slots) (presentLines text pc slots (tableRowOf byte kinds values)) start old at new
+
     -- a present row
-    pub listed-all : (old new : List ℕ) (byte j at : ℕ) → length kinds ≡ length slots → length values ≡ length slots → byte ≡ 1 → j ≡ length slots → Listed old j at new
-        → Wrote (89 * length slots) (presentLines text pc slots (tableRowOf byte kinds values)) old at new
+    pub listed-all : (start : ℕ) (old new : List ℕ) (byte j at : ℕ) → length kinds ≡ length slots → length values ≡ length slots → byte ≡ 1 → j ≡ length slots → Listed start old j at new
+        → Row-written byte start old at new
     unfolding presentLines tableRowOf rowIf
-    listed-all old new byte j at hk hv b e w =
+    listed-all start old new byte j at hk hv b e w =
         rw (eq-eqb byte 1 b)
-        (front (reword (omega arith) (ap₂ (rowLines text pc) (take-all j slots (omega arith)) (take-all j (factsOf kinds values) (omega (arith, length-facts kinds values (omega arith))))) w))
+        (reword (omega arith) (ap₂ (rowLines text pc) (take-all j slots (omega arith)) (take-all j (factsOf kinds values) (omega (arith, length-facts kinds values (omega arith))))) w)
 
     -- an absent one
-    pub listed-nothing : (old : List ℕ) (byte : ℕ) → (byte ≡ 1 → ⊥) → Wrote (89 * length slots) (presentLines text pc slots (tableRowOf byte kinds values)) old 0 old
+    pub listed-nothing : (start : ℕ) (old : List ℕ) (byte : ℕ) → start ≤ length old → (byte ≡ 1 → ⊥) → Row-written byte start old start old
     unfolding presentLines tableRowOf rowIf
-    listed-nothing old byte h = rw (ne-eqb byte 1 h) (record { counts = refl; short = omega arith; bytes = refl })
+    listed-nothing start old byte l h = rw (ne-eqb byte 1 h) (reword (omega arith) refl (nothing old start l))

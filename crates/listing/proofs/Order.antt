@@ -1,11 +1,11 @@
--- The lines in order are the listing.
+-- The lines of an analysis in order are those of the listing, and its table holds them.
 -- Assumes nothing.
 use mathlib.Core.Path.{_≡_, refl, sym, ap, ap₂, _∙_}
 use mathlib.Core.List.{List, [], _∷_, _++_, append-assoc, append-nil}
 use mathlib.Core.Option.{Option, none, some}
-use Prim.Native.Nat.{ℕ, zero, suc, _+_, _-_}
+use Prim.Native.Nat.{ℕ, zero, suc, _+_, _*_, _-_, _≤_}
 use native.Mathlib.Omega.{arith}
-use lib.ListN.{length, take, replicate}
+use lib.ListN.{length, take, replicate, length-append}
 use lib.Seq.{take-at}
 use borrow.Author.Tests.{eq-eqb, ne-eqb}
 use Rattle.model.specs.Sheet.{codeCount}
@@ -13,20 +13,15 @@ use Rattle.model.specs.Count.{collect}
 use Rattle.model.specs.Fact.{Fact, kind, value, Row}
 use Rattle.model.specs.Run.{rowAt}
 use Rattle.model.specs.Tables.{presentBytes, cells, tableRow}
-use Rattle.model.specs.Analyses.{Analysed, Facts}
-use Rattle.model.specs.Call.{Lent, Table, tableOf, completed, call, counts, tables, filled, filledTable, scratchZero, lentAfter}
-use Rattle.model.specs.Listing.{presentLines, rowsLines, analysisLines, factsLines}
-use Rattle.model.specs.declared.VerifierResources.{VerifierResources}
+use Rattle.model.specs.Analyses.{Analysed}
+use Rattle.model.specs.Call.{Table, counts, tables, filled, filledTable}
+use Rattle.model.specs.Listing.{factText, presentLines, rowsLines, headLine, analysisLines}
 use Rattle.model.specs.declared.AnalysisKind.{AnalysisKind}
-use Rattle.model.specs.declared.AnalysisKind.the-variants.{Constant, IndexCheck, Container}
 use Rattle.finality.proofs.Invariant.{none-some}
-use Rattle.finality.proofs.Cells.{Sized}
+use Rattle.finality.proofs.Cells.{Sized, length-present, length-cells}
 use Rattle.finality.proofs.Memory.{shown, row-shown, row-part}
-use Rattle.lookup.specs.Run.{analysedOf}
-use Rattle.lookup.proofs.Call.{call-shaped}
-use Rattle.line_text.specs.Lines.{analysisName, headLine}
-use Rattle.fact_text.specs.Facts.{factText}
-use Rattle.listing.specs.Rows.{rowIf, tableRowOf, rowIn, printedAnalysis, printed}
+use Rattle.listing.specs.Rows.{rowIf, tableRowOf, rowOf, rowIn, printedAnalysis}
+use Rattle.listing.specs.Answer.{Listable}
 
 -- ---- what is collected in order
 
@@ -53,7 +48,7 @@ rows-collected text slots pc (o ∷ os) =
 
 module _ (a : Analysed) (sized : Sized (length (a .slots)) (a .rows)) (old : Table) where
   row-is : (pc : ℕ) (o : Option Row) → rowAt (a .rows) pc ≡ o → rowIn (length (a .slots)) (filledTable (tables a) old) pc ≡ o
-  unfolding rowIn tableRowOf rowIf filledTable filled tables tableRow
+  unfolding rowOf tableRowOf rowIf filledTable filled tables tableRow
   row-is pc none e =
       rw (ne-eqb _ 1 (λ k. let p = row-shown (a .rows) (length (old .present) - length (presentBytes (a .rows))) pc k in none-some (p .0) (sym e ∙ p .1)))
   row-is pc (some r) e =
@@ -66,8 +61,8 @@ module _ (a : Analysed) (sized : Sized (length (a .slots)) (a .rows)) (old : Tab
     unfolding filledTable filled tables
     slots-are = take-at (a .slots) (replicate (length (old .slots) - length (a .slots)) 0) (length (a .slots)) refl
 
-    pub analysis-is : printedAnalysis which sheet (counts a) (filledTable (tables a) old) ≡ analysisLines (analysisName which) (factText which sheet) (codeCount sheet) a
-    unfolding printedAnalysis headLine analysisLines counts
+    pub analysis-is : printedAnalysis which sheet (counts a) (filledTable (tables a) old) ≡ analysisLines which sheet a
+    unfolding printedAnalysis analysisLines counts
     analysis-is =
         ap (λ (x : List ℕ). headLine which (codeCount sheet) (length (a .slots)) (a .pops) ++ x)
         (collect-same _ (λ pc. presentLines (factText which sheet) (0 + pc) (a .slots) (rowAt (a .rows) pc)) (codeCount sheet) row
@@ -78,13 +73,18 @@ module _ (a : Analysed) (sized : Sized (length (a .slots)) (a .rows)) (old : Tab
             ≡ presentLines (factText which sheet) (0 + pc) (a .slots) (rowAt (a .rows) pc)
         row pc = let z : 0 + pc ≡ pc = omega arith in rw (z, slots-are, row-is pc (rowAt (a .rows) pc) refl)
 
--- the listing of a successful call, from what it answered and what it left
-pub listing-printed : (sheet : List ℕ) (budget : VerifierResources) (lent : Lent) (facts : Facts) (left : VerifierResources) → call sheet budget lent ≡ some (completed facts left)
-    → printed sheet (counts (facts .constants)) (counts (facts .index)) (counts (facts .containers)) (lentAfter (completed facts left) lent) left ≡ factsLines sheet facts left
-unfolding printed factsLines tableOf lentAfter scratchZero analysisName factText analysedOf
-listing-printed sheet budget lent facts left e =
-    ap₂ _++_ (ap₂ _++_ (ap₂ _++_ (part Constant (lent .constants)) (part IndexCheck (lent .index))) (part Container (lent .containers))) refl
-  where
-    part : (which : AnalysisKind) (old : Table) → printedAnalysis which sheet (counts (analysedOf facts which)) (filledTable (tables (analysedOf facts which)) old)
-        ≡ analysisLines (analysisName which) (factText which sheet) (codeCount sheet) (analysedOf facts which)
-    part which old = let s = call-shaped sheet budget lent facts left e which in analysis-is (analysedOf facts which) (s .0) old which sheet (s .1)
+  -- the table is long enough for n rows of s cells
+  pub listable : (sheet : List ℕ) → length (a .rows) ≡ codeCount sheet → Listable sheet (counts a) (filledTable (tables a) old)
+  unfolding filledTable filled tables counts
+  listable sheet all = record {
+    slots = longer (a .slots) _ (length (a .slots)) refl;
+    present = longer (presentBytes (a .rows)) _ (codeCount sheet) (length-present (a .rows) ∙ all);
+    kinds = longer (cells kind (length (a .slots)) (a .rows)) _ (codeCount sheet * length (a .slots)) (part kind);
+    values = longer (cells value (length (a .slots)) (a .rows)) _ (codeCount sheet * length (a .slots)) (part value);
+  }
+    where
+      longer : (front rest : List ℕ) (n : ℕ) → length front ≡ n → n ≤ length (front ++ rest)
+      longer front rest n e = omega (arith, e, length-append front rest)
+
+      part : (f : Fact → ℕ) → length (cells f (length (a .slots)) (a .rows)) ≡ codeCount sheet * length (a .slots)
+      part f = length-cells f (length (a .slots)) (a .rows) sized ∙ ap (λ (n : ℕ). n * length (a .slots)) all

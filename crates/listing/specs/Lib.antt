@@ -1,2 +1,3 @@
--- What the functions of this crate write, by the definitions of `model`, and the whole listing line after line.
+-- What the functions of this crate write, by the definitions of `model`, line after line.
 pub mod Rows
+pub mod Answer

@@ -1,4 +1,4 @@
--- The line of a cell, rows as they lie in the tables, and the whole listing as a program writes it, line after line.
+-- The line of a cell, rows as they lie in the tables, and an analysis as a program writes it, line after line.
 -- Assumes nothing.
 use mathlib.Core.Bool.{Bool, true, false}
 use mathlib.Core.List.{List, _++_}
@@ -10,14 +10,10 @@ use Rattle.model.specs.Sheet.{codeCount}
 use Rattle.model.specs.Count.{collect}
 use Rattle.model.specs.Fact.{Fact, Row}
 use Rattle.model.specs.Tables.{factsOf}
-use Rattle.model.specs.Call.{Table, Lent, tableOf}
-use Rattle.model.specs.Listing.{decimal, space, newline, presentLines, leftLine}
-use Rattle.model.specs.declared.VerifierResources.{VerifierResources}
+use Rattle.model.specs.Call.{Table}
+use Rattle.model.specs.Listing.{decimal, space, newline, presentLines, factText, headLine}
 use Rattle.model.specs.declared.Counts.{Counts}
 use Rattle.model.specs.declared.AnalysisKind.{AnalysisKind}
-use Rattle.model.specs.declared.AnalysisKind.the-variants.{Constant, IndexCheck, Container}
-use Rattle.fact_text.specs.Facts.{factText}
-use Rattle.line_text.specs.Lines.{headLine}
 
 -- "Cells: pc, slot, fact"
 unfoldable pub cellLine : (Fact → List ℕ) → ℕ → ℕ → Fact → List ℕ
@@ -32,20 +28,18 @@ rowIf false row = none
 unfoldable pub tableRowOf : ℕ → List ℕ → List ℕ → Option Row
 tableRowOf byte kinds values = rowIf (eqb byte 1) (factsOf kinds values)
 
--- ---- the whole listing
+-- ---- an analysis
 
 -- the row of instruction pc, s cells to a row
-unfoldable pub rowIn : ℕ → Table → ℕ → Option Row
-rowIn s table pc = tableRowOf (getD (table .present) pc 0) (take s (drop (pc * s) (table .kinds))) (take s (drop (pc * s) (table .values)))
+unfoldable pub rowOf : ℕ → List ℕ → List ℕ → List ℕ → ℕ → Option Row
+rowOf s present kinds values pc = tableRowOf (getD present pc 0) (take s (drop (pc * s) kinds)) (take s (drop (pc * s) values))
+
+-- the same of a table
+abbrev pub rowIn : ℕ → Table → ℕ → Option Row
+rowIn s table pc = rowOf s (table .present) (table .kinds) (table .values) pc
 
 -- the head of an analysis, and the lines of its n rows in order
 unfoldable pub printedAnalysis : AnalysisKind → List ℕ → Counts → Table → List ℕ
 printedAnalysis which sheet c table =
     headLine which (codeCount sheet) (c .tracked) (c .pops)
     ++ collect (λ pc. presentLines (factText which sheet) pc (take (c .tracked) (table .slots)) (rowIn (c .tracked) table pc)) (codeCount sheet)
-
--- the three, from what a call answered and left, and the last line
-unfoldable pub printed : List ℕ → Counts → Counts → Counts → Lent → VerifierResources → List ℕ
-printed sheet constant index container lent left =
-    printedAnalysis Constant sheet constant (tableOf lent Constant) ++ printedAnalysis IndexCheck sheet index (tableOf lent IndexCheck)
-    ++ printedAnalysis Container sheet container (tableOf lent Container) ++ leftLine left

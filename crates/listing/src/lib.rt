@@ -1,4 +1,6 @@
-// The text of a listing, a row at a time, at the front of a lent buffer.
+// The text of a listing, written from a place of a lent buffer on: what a call answered and left, analysis by analysis, and its last line.
+mod answer;
 mod rows;
 
-pub use rows::row_lines;
+pub use answer::answer_lines;
+pub use answer::last_line;

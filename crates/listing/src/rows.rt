@@ -1,13 +1,13 @@
 // "Cells: pc, slot, fact; present rows ascending, slots ascending."
 ghost use mathlib.Core.Path.{_≡_};
 ghost use Prim.Native.Nat.{_+_, _*_, _≤_};
-ghost use lib.ListN.{length};
-ghost use Rattle.model.specs.Listing.{presentLines};
+ghost use lib.ListN.{length, take};
+ghost use Rattle.model.specs.Count.{collect};
+ghost use Rattle.model.specs.Listing.{presentLines, factText};
 ghost use Rattle.model.specs.Tables.{factOf};
-ghost use Rattle.text.specs.Text.{Added, Wrote};
-ghost use Rattle.fact_text.specs.Facts.{factText};
+ghost use Rattle.text.specs.Text.{Added};
 ghost use Rattle.layouts.specs.Readable.{Readable};
-ghost use Rattle.listing.specs.Rows.{cellLine, tableRowOf};
+ghost use Rattle.listing.specs.Rows.{cellLine, tableRowOf, rowOf};
 use fact_text::put_fact;
 use model::AnalysisKind;
 use sheet::Sizes;
@@ -39,7 +39,7 @@ fn cell_line(
 }
 
 // The lines of the row of pc, from its present byte and its parts of kinds and values: none for an absent row.
-pub fn row_lines(
+fn row_lines(
     which: AnalysisKind,
     sheet: &[u8],
     sizes: Sizes,
@@ -49,18 +49,19 @@ pub fn row_lines(
     present: u8,
     kinds: &[u8],
     values: &[u64],
+    at: usize,
     out: &mut [u8],
 ) -> usize
-    requires { ⌜ Readable (now sheet) sizes (now starts) × (length (now kinds) ≡ length (now slots)) × (length (now values) ≡ length (now slots)) × (89 * length (now slots) ≤ length (now out)) ⌝ }
-    ensures { λ r. ⌜ Wrote (89 * length (now (slots .entry))) (presentLines (factText which (now (sheet .entry))) pc (now (slots .entry)) (tableRowOf present (now (kinds .entry)) (now (values .entry)))) (now (out .entry)) r (now (out .exit)) ⌝ }
+    requires { ⌜ Readable (now sheet) sizes (now starts) × (length (now kinds) ≡ length (now slots)) × (length (now values) ≡ length (now slots)) × (at + 89 * length (now slots) ≤ length (now out)) ⌝ }
+    ensures { λ r. ⌜ Added (89 * length (now (slots .entry))) (presentLines (factText which (now (sheet .entry))) pc (now (slots .entry)) (tableRowOf present (now (kinds .entry)) (now (values .entry)))) at (now (out .entry)) r (now (out .exit)) ⌝ }
 {
     if present != 1 {
-        return 0;
+        return at;
     }
-    let mut at = 0;
+    let mut next = at;
     let mut j = 0;
     while j < slots.len() {
-        at = cell_line(
+        next = cell_line(
             which,
             sheet,
             sizes,
@@ -69,10 +70,52 @@ pub fn row_lines(
             slots[j],
             kinds[j],
             values[j],
-            at,
+            next,
             out,
         );
         j += 1;
     }
-    at
+    next
+}
+
+// "present rows ascending": the lines of n rows of s cells each.
+pub fn rows_lines(
+    which: AnalysisKind,
+    sheet: &[u8],
+    sizes: Sizes,
+    starts: &[u16],
+    n: usize,
+    s: usize,
+    slots: &[u16],
+    present: &[u8],
+    kinds: &[u8],
+    values: &[u64],
+    at: usize,
+    out: &mut [u8],
+) -> usize
+    requires { ⌜ Readable (now sheet) sizes (now starts) × (s ≤ length (now slots)) × (n ≤ length (now present)) × (n * s ≤ length (now kinds)) × (n * s ≤ length (now values)) × (at + n * (89 * s) ≤ length (now out)) ⌝ }
+    ensures { λ r. ⌜ Added (n * (89 * s)) (collect (λ pc. presentLines (factText which (now (sheet .entry))) pc (take s (now (slots .entry))) (rowOf s (now (present .entry)) (now (kinds .entry)) (now (values .entry)) pc)) n) at (now (out .entry)) r (now (out .exit)) ⌝ }
+{
+    let mut next = at;
+    let mut from = 0;
+    let mut pc = 0;
+    while pc < n {
+        let end = from + s;
+        next = row_lines(
+            which,
+            sheet,
+            sizes,
+            starts,
+            pc as u64,
+            &slots[..s],
+            present[pc],
+            &kinds[from..end],
+            &values[from..end],
+            next,
+            out,
+        );
+        from = end;
+        pc += 1;
+    }
+    next
 }

@@ -1,12 +1,12 @@
 // Writes the listing of each sheet on standard input, as `facts` writes it for one, with its name above it. oracle/listings.py makes the sheets and
 // the lines that must come out.
-ghost use mathlib.Core.Path.{_≡_};
-ghost use lib.ListN.{length};
 use input::read_front;
 use input::u16_of;
 use input::u32_of;
 use libc::STDIN_FILENO;
 use libc::STDOUT_FILENO;
+use report::list;
+use report::no_sheet;
 
 // A proved loop has to end, and nothing says that the input does. So the loop counts its turns down, from a number that no run uses up.
 fn main() {
@@ -37,23 +37,20 @@ fn print_name(length: usize) -> bool {
     if count < length {
         return false;
     }
-    io::write_all(STDOUT_FILENO, &name[..count]);
+    if !io::write_all(STDOUT_FILENO, &name[..count]) {
+        return false;
+    }
     io::write_all(STDOUT_FILENO, b":\n")
 }
 
-// Room for a sheet that is one byte too large.
-fn no_sheet() -> [u8; 65537]
-    ensures { λ r. ⌜ 65537 ≡ length r ⌝ }
-{
-    [0; 65537]
-}
-
+// Writes the listing of a sheet. Answers whether the sheet came and all of the listing was written: nothing is written behind a gap.
 fn list_sheet(length: usize) -> bool {
     let mut sheet = no_sheet();
     let count = read_front(&mut sheet, length);
     if count < length {
         return false;
     }
-    report::list(&sheet[..count]);
-    true
+    let mut text = [0u8; 2187530];
+    let end = list(&sheet[..count], &mut text);
+    io::write_all(STDOUT_FILENO, &text[..end])
 }

@@ -1,6 +1,6 @@
 // Lookups in the tables of an analysis, over slices of any length and content: `fact_for_slot` of the three analyses, `is_reachable`, and "fixed".
 ghost use mathlib.Core.Path.{_≡_};
-ghost use Rattle.model.specs.Lookup.{lastKind, factForSlot, isReachable, fixed};
+ghost use Rattle.model.specs.Lookup.{lastKind, factForSlot, isReachable, fixed, factWithNumbers, reachabilityWithNumbers};
 ghost use Rattle.model.specs.declared.AnalysisKind.the-variants.{Constant, IndexCheck, Container};
 use cells::all_named;
 use cells::cell;
@@ -35,7 +35,7 @@ pub fn fact_for_slot(
     pc: u64,
     slot: u16,
 ) -> SlotFact
-    ensures { λ r. ⌜ r ≡ factForSlot which (now (slots .entry)) (now (present .entry)) (now (kinds .entry)) (now (values .entry)) pc slot ⌝ }
+    ensures { λ r. ⌜ factWithNumbers r ≡ factWithNumbers (factForSlot which (now (slots .entry)) (now (present .entry)) (now (kinds .entry)) (now (values .entry)) pc slot) ⌝ }
 {
     if !tables_agree(slots, present, kinds, values) {
         return SlotFact::Damaged;
@@ -58,7 +58,7 @@ pub fn constant_fact_for_slot(
     pc: u64,
     slot: u16,
 ) -> SlotFact
-    ensures { λ r. ⌜ r ≡ factForSlot Constant (now (slots .entry)) (now (present .entry)) (now (kinds .entry)) (now (values .entry)) pc slot ⌝ }
+    ensures { λ r. ⌜ factWithNumbers r ≡ factWithNumbers (factForSlot Constant (now (slots .entry)) (now (present .entry)) (now (kinds .entry)) (now (values .entry)) pc slot) ⌝ }
 {
     fact_for_slot(
         AnalysisKind::Constant,
@@ -80,7 +80,7 @@ pub fn index_check_fact_for_slot(
     pc: u64,
     slot: u16,
 ) -> SlotFact
-    ensures { λ r. ⌜ r ≡ factForSlot IndexCheck (now (slots .entry)) (now (present .entry)) (now (kinds .entry)) (now (values .entry)) pc slot ⌝ }
+    ensures { λ r. ⌜ factWithNumbers r ≡ factWithNumbers (factForSlot IndexCheck (now (slots .entry)) (now (present .entry)) (now (kinds .entry)) (now (values .entry)) pc slot) ⌝ }
 {
     fact_for_slot(
         AnalysisKind::IndexCheck,
@@ -102,7 +102,7 @@ pub fn container_fact_for_slot(
     pc: u64,
     slot: u16,
 ) -> SlotFact
-    ensures { λ r. ⌜ r ≡ factForSlot Container (now (slots .entry)) (now (present .entry)) (now (kinds .entry)) (now (values .entry)) pc slot ⌝ }
+    ensures { λ r. ⌜ factWithNumbers r ≡ factWithNumbers (factForSlot Container (now (slots .entry)) (now (present .entry)) (now (kinds .entry)) (now (values .entry)) pc slot) ⌝ }
 {
     fact_for_slot(
         AnalysisKind::Container,
@@ -117,7 +117,7 @@ pub fn container_fact_for_slot(
 
 // "yes for byte 1, no for 0 or pc from n up, 9 for another byte"
 pub fn is_reachable(present: &[u8], pc: u64) -> Reachability
-    ensures { λ r. ⌜ r ≡ isReachable (now (present .entry)) pc ⌝ }
+    ensures { λ r. ⌜ reachabilityWithNumbers r ≡ reachabilityWithNumbers (isReachable (now (present .entry)) pc) ⌝ }
 {
     match present_at(present, pc) {
         0 => Reachability::No,
@@ -134,7 +134,7 @@ pub fn fixed_fact(
     values: &[u64],
     slot: u16,
 ) -> SlotFact
-    ensures { λ r. ⌜ r ≡ fixed (now (slots .entry)) (now (present .entry)) (now (kinds .entry)) (now (values .entry)) slot ⌝ }
+    ensures { λ r. ⌜ factWithNumbers r ≡ factWithNumbers (fixed (now (slots .entry)) (now (present .entry)) (now (kinds .entry)) (now (values .entry)) slot) ⌝ }
 {
     if !tables_agree(slots, present, kinds, values) {
         return SlotFact::Damaged;

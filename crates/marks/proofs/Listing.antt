@@ -11,17 +11,17 @@ use lib.Dec.{ltb, eqb}
 use lib.ListN.{length, getD, set, take, drop, length-append, length-set, take-append-drop}
 use lib.Seq.{take-suc, take-all, drop-cons, set-at, length-take-le}
 use borrow.Author.Tests.{le-leb, lt-leb, ltb-true, ltb-false}
-use Rattle.model.specs.Closure.{listed, places}
+use Rattle.model.specs.Closure.{listUnless, places}
 use Rattle.marks.specs.Slots.{storedIf, fittedIf, fitted}
 
 places-append : (k : ℕ) (xs ys : List ℕ) → places k (xs ++ ys) ≡ places k xs ++ places (k + length xs) ys
-unfolding places listed
+unfolding places listUnless
 places-append k [] ys = rw (add-zero k)
 places-append k (x ∷ xs) ys =
     let e : k + suc (length xs) ≡ suc k + length xs = omega arith in
     rw e (go _ (eqb x 0) (places-append (suc k) xs ys))
   where
-    go : (zs : List ℕ) (t : Bool) → places (suc k) (xs ++ ys) ≡ places (suc k) xs ++ zs → listed t k (places (suc k) (xs ++ ys)) ≡ listed t k (places (suc k) xs) ++ zs
+    go : (zs : List ℕ) (t : Bool) → places (suc k) (xs ++ ys) ≡ places (suc k) xs ++ zs → listUnless t k (places (suc k) (xs ++ ys)) ≡ listUnless t k (places (suc k) xs) ++ zs
     go zs true h = h
     go zs false h = ap (λ (l : List ℕ). k ∷ l) h
 
@@ -30,7 +30,7 @@ module _ (marks : List ℕ) where
   unfoldable pub placed : ℕ → List ℕ
   placed i = places 0 (take i marks)
 
-  one-more : (i : ℕ) → i < length marks → placed (i + 1) ≡ placed i ++ listed (eqb (getD marks i 0) 0) i []
+  one-more : (i : ℕ) → i < length marks → placed (i + 1) ≡ placed i ++ listUnless (eqb (getD marks i 0) 0) i []
   unfolding placed places
   one-more i h =
       let e : 0 + length (take i marks) ≡ i = omega (arith, length-take-le i marks (omega arith)) in
@@ -57,8 +57,8 @@ module _ (marks : List ℕ) where
       go [] e = sym (append-nil (places 0 (take i marks))) ∙ e
       go (x ∷ xs) e = absurd (omega (arith, ap length e, length-append (places 0 (take i marks)) (x ∷ xs)))
 
-length-listed : (t : Bool) (i j : ℕ) → length (listed t i []) ≡ length (listed t j [])
-unfolding listed
+length-listed : (t : Bool) (i j : ℕ) → length (listUnless t i []) ≡ length (listUnless t j [])
+unfolding listUnless
 length-listed true i j = refl
 length-listed false i j = refl
 
@@ -74,12 +74,12 @@ pub counting-none : (marks : List ℕ) → Counting marks 0 0
 unfolding placed places
 counting-none marks = record { within = omega arith; most = omega arith; is = refl }
 
-pub counting-more : {marks : List ℕ} {count i one : ℕ} → Counting marks count i → i < length marks → one ≡ length (listed (eqb (getD marks i 0) 0) 0 []) → one ≤ 1
+pub counting-more : {marks : List ℕ} {count i one : ℕ} → Counting marks count i → i < length marks → one ≡ length (listUnless (eqb (getD marks i 0) 0) 0 []) → one ≤ 1
     → Counting marks (count + one) (i + 1)
 counting-more {marks} {count} {i} {one} c h e k = record {
   within = omega arith;
   most = omega (arith, c .most);
-  is = omega (arith, c .is, ap length (one-more marks i h), length-append (placed marks i) (listed (eqb (getD marks i 0) 0) i []), length-listed (eqb (getD marks i 0) 0) 0 i);
+  is = omega (arith, c .is, ap length (one-more marks i h), length-append (placed marks i) (listUnless (eqb (getD marks i 0) 0) i []), length-listed (eqb (getD marks i 0) 0) 0 i);
 }
 
 pub counting-all : {marks : List ℕ} {count i : ℕ} → Counting marks count i → length marks ≤ i → count ≡ length (places 0 marks)
@@ -105,19 +105,19 @@ put-next old ps x h =
 
 module _ {marks old out : List ℕ} {at i : ℕ} (w : Writing marks old out at i) (h : i < length marks) (fits : length (places 0 marks) ≤ length old) where
   -- the number of places with the next mark
-  next : length (placed marks (i + 1)) ≡ length (placed marks i) + length (listed (eqb (getD marks i 0) 0) i [])
-  next = ap length (one-more marks i h) ∙ length-append (placed marks i) (listed (eqb (getD marks i 0) 0) i [])
+  next : length (placed marks (i + 1)) ≡ length (placed marks i) + length (listUnless (eqb (getD marks i 0) 0) i [])
+  next = ap length (one-more marks i h) ∙ length-append (placed marks i) (listUnless (eqb (getD marks i 0) 0) i [])
 
   pub writing-within : at ≤ length out
   writing-within = omega (arith, w .at-is, w .long, placed-part marks i)
 
   pub writing-room : eqb (getD marks i 0) 0 ≡ false → at < length out
-  unfolding listed
+  unfolding listUnless
   writing-room e = omega (arith, w .at-is, w .long, placed-part marks (i + 1), rw e at next)
 
-  pub writing-more : {at′ : ℕ} {out′ : List ℕ} → at′ ≡ at + length (listed (eqb (getD marks i 0) 0) i []) → out′ ≡ storedIf (eqb (getD marks i 0) 0) out at i
+  pub writing-more : {at′ : ℕ} {out′ : List ℕ} → at′ ≡ at + length (listUnless (eqb (getD marks i 0) 0) i []) → out′ ≡ storedIf (eqb (getD marks i 0) 0) out at i
       → Writing marks old out′ at′ (i + 1)
-  unfolding storedIf listed
+  unfolding storedIf listUnless
   writing-more {at′} {out′} p q = go (eqb (getD marks i 0) 0) refl
     where
       go : (t : Bool) → eqb (getD marks i 0) 0 ≡ t → Writing marks old out′ at′ (i + 1)

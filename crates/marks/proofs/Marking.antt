@@ -14,7 +14,7 @@ use Rattle.model.specs.Closure.{Marked, marked, mark}
 use Rattle.model.specs.CallDemand.{marking}
 use Rattle.finality.proofs.Marks.{stack-room}
 use Rattle.finality.proofs.Cells.{stacked-push}
-use Rattle.marks.specs.Marks.{Lies, Lain, Goes, firstOf, slotsIn, markAll}
+use Rattle.marks.specs.Marks.{Lies, Lain, Goes, candidates, Holding, firstOf, slotsIn, markAll}
 use Rattle.marks.specs.declared.Candidates.{Candidates}
 
 -- below the length the default does not show
@@ -67,6 +67,21 @@ module _ (slot : ℕ) (marks stack : List ℕ) (top : ℕ) where
 
   pub mark-past : length marks ≤ slot → Goes (mark slot) marks stack top marks stack top
   mark-past h = old (rw (List·getD-eq-default marks 1 h))
+
+-- ---- the slots of a value
+
+module _ {c : Candidates} where
+  pub none-held : c ≡ candidates 0 0 0 → Holding c []
+  unfolding slotsIn firstOf
+  none-held e = rw e (record { are = refl; many = refl })
+
+  pub one-held : {slot : ℕ} → c ≡ candidates slot 0 1 → Holding c (slot ∷ [])
+  unfolding slotsIn firstOf
+  one-held e = rw e (record { are = refl; many = refl })
+
+  pub two-held : {first second : ℕ} → c ≡ candidates first second 2 → Holding c (first ∷ second ∷ [])
+  unfolding slotsIn firstOf
+  two-held e = rw e (record { are = refl; many = refl })
 
 -- ---- several
 

@@ -43,6 +43,10 @@ firstOf (suc (suc n)) slots = getD slots 0 0 ∷ getD slots 1 0 ∷ []
 unfoldable pub slotsIn : Candidates → List ℕ
 slotsIn c = firstOf (c .len) (c .slots)
 
+-- a value of two places
+abbrev pub candidates : ℕ → ℕ → ℕ → Candidates
+candidates first second len = record { slots = first ∷ second ∷ []; len = len }
+
 -- A value holds these slots. (Their number follows where it is at most two.)
 pub record Holding (c : Candidates) (slots : List ℕ) : Type 0 where
   pub are : slotsIn c ≡ slots

@@ -1,11 +1,11 @@
 // Marks and stack of the closure: "mark 1, work slot 2" for each of L.
-ghost use mathlib.Core.List.{[], _∷_};
+ghost use mathlib.Core.Path.{_≡_};
 ghost use Rattle.model.specs.Closure.{mark};
-ghost use Rattle.marks.specs.Marks.{Lain, Goes, Holding, slotsIn, markAll};
+ghost use Rattle.marks.specs.Marks.{Lain, Goes, candidates, slotsIn, markAll};
 use crate::Candidates;
 
 pub fn none() -> Candidates
-    ensures { λ r. ⌜ Holding r [] ⌝ }
+    ensures { λ r. ⌜ r ≡ candidates 0 0 0 ⌝ }
 {
     Candidates {
         slots: [0, 0],
@@ -14,7 +14,7 @@ pub fn none() -> Candidates
 }
 
 pub fn one(slot: usize) -> Candidates
-    ensures { λ r. ⌜ Holding r (slot ∷ []) ⌝ }
+    ensures { λ r. ⌜ r ≡ candidates slot 0 1 ⌝ }
 {
     Candidates {
         slots: [slot, 0],
@@ -23,7 +23,7 @@ pub fn one(slot: usize) -> Candidates
 }
 
 pub fn two(first: usize, second: usize) -> Candidates
-    ensures { λ r. ⌜ Holding r (first ∷ second ∷ []) ⌝ }
+    ensures { λ r. ⌜ r ≡ candidates first second 2 ⌝ }
 {
     Candidates {
         slots: [first, second],

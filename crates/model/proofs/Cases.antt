@@ -1,7 +1,7 @@
--- Document 01's "Proved cases", rows of one table: what the definition gives, and what the document says. Opcodes are decimal bytes here.
+-- Document 01's "Proved cases", rows of one table: what the definition gives, and what the document says. Opcodes are decimal bytes here, and facts on
+-- the right are kinds and values: 0 0 Unknown, 1 0 Conflict, 2 and v known, 3 and 2^64 − 1 for −1.
 -- Assumes nothing.
 use mathlib.Core.Path.{_≡_, refl}
-use mathlib.Core.Bool.{cond}
 use mathlib.Core.List.{List, [], _∷_, _++_, map}
 use mathlib.Core.Option.{Option, none, some}
 use Prim.Native.Nat.{ℕ, _+_, _*_, _/_, _%_}
@@ -10,7 +10,6 @@ use lib.IntN.{pos, negsuc}
 use Rattle.model.specs.Count.{collect}
 use Rattle.model.specs.Successors.{sheetSuccessors}
 use Rattle.model.specs.Fact.{Fact, unknown, conflict, kind, value, Row, equalKnown, join}
-use Rattle.model.specs.Written.{indexWritten}
 use Rattle.model.specs.Transfer.{integer, checked, transferRow}
 use Rattle.model.specs.Analyses.{Analysed, lengthFacts}
 use Rattle.model.specs.Charges.{fresh}
@@ -81,17 +80,14 @@ joins : Fact → List Fact → Fact
 joins f [] = f
 joins f (g ∷ gs) = joins (join (equalKnown Constant []) f g) gs
 
+-- the kinds and values of a row
+cells : Row → List ℕ
+cells [] = []
+cells (h ∷ hs) = cell h ++ cells hs
+
 -- the row of slots 0, 1 and 2 behind an instruction with a 2, b 0 and c 1 that writes slot 2
 folded : ℕ → Fact → Fact → List ℕ
 folded code f g = cells (transferRow Constant (script 3 (writing 2 (op code 2 0 1) ∷ [])) (0 ∷ 1 ∷ 2 ∷ []) (λ pc. unknown) 0 (f ∷ g ∷ unknown ∷ []))
-  where
-    cells : Row → List ℕ
-    cells [] = []
-    cells (h ∷ hs) = cell h ++ cells hs
-
--- that row as document 01 gives it
-foldedTo : Fact → Fact → Fact → List ℕ
-foldedTo f g h = cell f ++ cell g ++ cell h
 
 -- the index fact of slot 0 behind IndexCheck a 0, b 1, where the constant run ended with this fact of slot 1
 indexChecked : Fact → List ℕ
@@ -103,10 +99,6 @@ indexChecked constant = cells (transferRow IndexCheck sheet (0 ∷ []) (lengthFa
     constants : Analysed
     constants = record { slots = 1 ∷ []; entry = unknown ∷ []; started = fresh; rows = some (constant ∷ []) ∷ []; pops = 0 }
 
-    cells : Row → List ℕ
-    cells [] = []
-    cells (h ∷ hs) = cell h ++ cells hs
-
 -- ---- scripts
 
 -- `before` instructions that only fall through, one instruction, and such up to n
@@ -116,9 +108,9 @@ among before code behind = script 0 (lines before ++ (silent code ∷ lines behi
     lines : ℕ → List Line
     lines count = collect (λ i. silent (op 0 0 0 0) ∷ []) count
 
--- the slots below 4 that a SlotSet with a 0 and b 1 writes in the index analysis, under this fact of b
-slotSet : Fact → List ℕ
-slotSet before = collect (λ slot. cond (indexWritten (script 4 (silent (op 6 0 1 0) ∷ [])) 0 before slot) (slot ∷ []) []) 4
+-- the index facts of slots 0 to 3 behind a SlotSet with a 0 and b 1
+slotSet : Row → List ℕ
+slotSet row = cells (transferRow IndexCheck (script 4 (silent (op 6 0 1 0) ∷ [])) (0 ∷ 1 ∷ 2 ∷ 3 ∷ []) (λ pc. unknown) 0 row)
 
 -- "L 2; LoadInt a 0, 7; JumpIfNot a 1, +2; LoadInt a 0, 9; IndexCheck a 1, b 0; Return; ranges (0, 1) for instructions 0 and 2"
 worked : List ℕ
@@ -134,27 +126,27 @@ printed (some text) = text
 pub table : List (List ℕ × List ℕ)
 table =
     -- "Unknown and 7 join to Unknown; 7 and 9 to Conflict; 7, 9, Unknown in turn give Conflict; 7, Unknown, 9 give Unknown"
-    (cell (joins unknown (number 7 ∷ [])), cell unknown)
-    ∷ (cell (joins (number 7) (number 9 ∷ [])), cell conflict)
-    ∷ (cell (joins (number 7) (number 9 ∷ unknown ∷ [])), cell conflict)
-    ∷ (cell (joins (number 7) (unknown ∷ number 9 ∷ [])), cell unknown)
+    (cell (joins unknown (number 7 ∷ [])), 0 ∷ 0 ∷ [])
+    ∷ (cell (joins (number 7) (number 9 ∷ [])), 1 ∷ 0 ∷ [])
+    ∷ (cell (joins (number 7) (number 9 ∷ unknown ∷ [])), 1 ∷ 0 ∷ [])
+    ∷ (cell (joins (number 7) (unknown ∷ number 9 ∷ [])), 0 ∷ 0 ∷ [])
     -- "1 shifted by 63 gives 9223372036854775808, by 64 Unknown"
-    ∷ (folded 53 (number 1) (number 63), foldedTo (number 1) (number 63) (number 9223372036854775808))
-    ∷ (folded 53 (number 1) (number 64), foldedTo (number 1) (number 64) unknown)
+    ∷ (folded 53 (number 1) (number 63), 2 ∷ 1 ∷ 2 ∷ 63 ∷ 2 ∷ 9223372036854775808 ∷ [])
+    ∷ (folded 53 (number 1) (number 64), 2 ∷ 1 ∷ 2 ∷ 64 ∷ 0 ∷ 0 ∷ [])
     -- "−1 Or 0 (the opcode) gives Unknown"
-    ∷ (folded 49 minusOne (number 0), foldedTo minusOne (number 0) unknown)
+    ∷ (folded 49 minusOne (number 0), 3 ∷ 18446744073709551615 ∷ 2 ∷ 0 ∷ 0 ∷ 0 ∷ [])
     -- "IndexCheck of 65,535 is Checked, of 65,536 and −1 Conflict"
-    ∷ (indexChecked (number 65535), cell (checked 65535))
-    ∷ (indexChecked (number 65536), cell conflict)
-    ∷ (indexChecked minusOne, cell conflict)
+    ∷ (indexChecked (number 65535), 2 ∷ 65535 ∷ [])
+    ∷ (indexChecked (number 65536), 1 ∷ 0 ∷ [])
+    ∷ (indexChecked minusOne, 1 ∷ 0 ∷ [])
     -- "ForLoop at 5 of 10 with c 65,533 goes to 6, 3"
     ∷ (sheetSuccessors (among 5 (op 124 0 0 65533) 4) 5, 6 ∷ 3 ∷ [])
     -- "Jump −3 at 2 goes nowhere"
     ∷ (sheetSuccessors (among 2 (op 57 0 65533 65535) 7) 2, [])
     -- "JumpIf +1 at 1 of 3 goes to 2 alone"
     ∷ (sheetSuccessors (among 1 (op 58 0 1 0) 1) 1, 2 ∷ [])
-    -- "SlotSet under Checked 0 writes nothing"
-    ∷ (slotSet (checked 0), [])
+    -- "SlotSet under Checked 0 writes nothing": slot 1 is b
+    ∷ (slotSet (checked 5 ∷ checked 0 ∷ conflict ∷ checked 9 ∷ []), 2 ∷ 5 ∷ 2 ∷ 0 ∷ 1 ∷ 0 ∷ 2 ∷ 9 ∷ [])
     -- "the listing's 7 pops", with all the rest of it
     ∷ (
       printed (listing worked),
@@ -164,5 +156,5 @@ table =
 
 -- Row by row they are the same.
 pub cases : map (λ row. row .0) table ≡ map (λ row. row .1) table
-unfolding bytes2 bytes4 op silent writing each script cell number minusOne joins folded foldedTo indexChecked among slotSet worked printed table listingCompute
+unfolding bytes2 bytes4 op silent writing each script cell number minusOne joins cells folded indexChecked among slotSet worked printed table listingCompute
 cases = refl

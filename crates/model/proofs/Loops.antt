@@ -1,9 +1,7 @@
--- Loops that count up end at the first refusal and at the first test that fails.
+-- Loops that count up end at the first refusal.
 -- Assumes nothing.
 use mathlib.Core.Path.{_≡_}
-use mathlib.Core.Bool.{Bool, false}
 use Prim.Native.Nat.{ℕ, zero, suc, _+_}
-use Rattle.model.specs.Count.{every}
 use Rattle.model.specs.Charges.{Refusal, stop, Metered, continue, _>>_, forEach}
 use Rattle.model.specs.declared.VerifierResources.{VerifierResources}
 
@@ -13,9 +11,3 @@ pub each-stops : (f : ℕ → Metered (Unit {0})) (i more : ℕ) (budget : Verif
 unfolding forEach _>>_ continue
 each-stops f i zero budget refusal left e = rw (native.Mathlib.Nat.zero-add i) e
 each-stops f i (suc more) budget refusal left e = rw (native.Mathlib.Nat.suc-add more i) (rw (each-stops f i more budget refusal left e))
-
--- once a test has failed, all of them together do
-pub every-fails : (f : ℕ → Bool) (i more : ℕ) → every f i ≡ false → every f (more + i) ≡ false
-unfolding every
-every-fails f i zero e = rw (native.Mathlib.Nat.zero-add i) e
-every-fails f i (suc more) e = rw (native.Mathlib.Nat.suc-add more i) (rw (every-fails f i more e))

@@ -8,7 +8,7 @@ use lib.Dec.{eqb}
 use lib.ListN.{length, replicate}
 use Rattle.model.specs.Sheet.{codeCount, instruction, sheetCompute}
 use Rattle.model.specs.Successors.{sheetSuccessors, successorsCompute}
-use Rattle.model.specs.Charges.{overBudget, noRoom, ok, stop, unfinished, Metered, give, _>>=_, _>>_, spendBytes, spendWork, chargesCompute}
+use Rattle.model.specs.Charges.{units, overBudget, noRoom, ok, stop, unfinished, Metered, give, _>>=_, _>>_, spendBytes, spendWork, chargesCompute}
 use Rattle.model.specs.Dependencies.{chargeDependencies, dependenciesCompute}
 use Rattle.model.specs.Closure.{stageNumber, trackedSlots, closureCompute}
 use Rattle.model.specs.Fact.{Fact, unknown, Row, equalKnown}
@@ -27,12 +27,12 @@ unknownRow slots = replicate (length slots) unknown
 
 -- "It is fed the sheet, the tracked slots, .. and, for index, the ended constant run" (`lengthFact pc` is its fact of b before pc), and its first row.
 unfoldable pub analysis : AnalysisKind → List ℕ → List ℕ → (ℕ → Fact) → Row → Analysis
-analysis kind sheet slots lengthFact entry = record {
+analysis which sheet slots lengthFact entry = record {
   n = codeCount sheet;
   s = length slots;
   successors = sheetSuccessors sheet;
-  transfer = transferRow kind sheet slots lengthFact;
-  same = equalKnown kind sheet;
+  transfer = transferRow which sheet slots lengthFact;
+  same = equalKnown which sheet;
   entry = entry;
 }
 
@@ -60,15 +60,15 @@ unfoldable pub askRoom : Bool → Metered (Unit {0})
 askRoom true left = ok tt left
 askRoom false left = stop noRoom left
 
--- "constant fact 32, index fact 4, container fact 40"
+-- the unit of a fact of an analysis
 unfoldable pub factBytes : AnalysisKind → ℕ
-factBytes Constant = 32
-factBytes IndexCheck = 4
-factBytes Container = 40
+factBytes Constant = units .constantFact
+factBytes IndexCheck = units .indexFact
+factBytes Container = units .containerFact
 
 -- "its matrix charge": n × s facts; nothing where s or n is zero
 unfoldable pub chargeMatrix : AnalysisKind → List ℕ → List ℕ → Metered (Unit {0})
-chargeMatrix kind sheet slots = spendBytes (stageNumber kind) (codeCount sheet * length slots * factBytes kind)
+chargeMatrix which sheet slots = spendBytes (stageNumber which) (codeCount sheet * length slots * factBytes which)
 
 -- "for containers with the Parameters facts in it": the parameters' charges, then those of the notes' facts
 unfoldable pub containerRow : Bool → List ℕ → List ℕ → Metered Row
@@ -86,24 +86,24 @@ firstRow Container sheet slots = containerRow (eqb (codeCount sheet) 0 || eqb (l
 
 -- How the run's end goes on in the call: "a refused one ends it with 7".
 unfoldable pub ranTo : RunEnd → AnalysisKind → List ℕ → Row → Metered Analysed
-ranTo (finished rows count left) kind slots entry started =
+ranTo (finished rows count left) which slots entry started =
     ok (record { slots = slots; entry = entry; started = started; rows = rows; pops = count }) (record { bytes = started .bytes; work = left })
-ranTo (overdrawn requested remaining) kind slots entry started =
-    stop (overBudget (stageNumber kind) requested remaining) (record { bytes = started .bytes; work = remaining })
-ranTo fuelSpent kind slots entry started = unfinished
+ranTo (overdrawn requested remaining) which slots entry started =
+    stop (overBudget (stageNumber which) requested remaining) (record { bytes = started .bytes; work = remaining })
+ranTo fuelSpent which slots entry started = unfinished
 
 -- "Charges fall in it as in the Rust": the run spends work only
 unfoldable pub propagate : AnalysisKind → List ℕ → List ℕ → (ℕ → Fact) → Row → Metered Analysed
-propagate kind sheet slots lengthFact entry started = ranTo (run (analysis kind sheet slots lengthFact entry) (started .work)) kind slots entry started
+propagate which sheet slots lengthFact entry started = ranTo (run (analysis which sheet slots lengthFact entry) (started .work)) which slots entry started
 
 -- "Each analysis is asked 8 after its closure, before its matrix charge.": `enough` says whether the lent memory has room for s tracked slots.
 unfoldable pub stage : AnalysisKind → List ℕ → (ℕ → Bool) → (ℕ → Fact) → Metered Analysed
-stage kind sheet enough lengthFact = do
-  slots ← trackedSlots kind sheet
+stage which sheet enough lengthFact = do
+  slots ← trackedSlots which sheet
   askRoom (enough (length slots))
-  chargeMatrix kind sheet slots
-  entry ← firstRow kind sheet slots
-  propagate kind sheet slots lengthFact entry
+  chargeMatrix which sheet slots
+  entry ← firstRow which sheet slots
+  propagate which sheet slots lengthFact entry
 
 -- ---- all three
 
@@ -113,11 +113,15 @@ pub record Facts : Type 0 where
   pub index : Analysed
   pub containers : Analysed
 
--- "successor record 24": `FunctionCfg::build`
+-- `FunctionCfg::build` of n instructions: a successor record for each
+abbrev pub flowOf : ℕ → Metered (Unit {0})
+flowOf n = do
+  spendBytes 1 (n * units .successorRecord)
+  spendWork 1 n
+
+-- "flow graph": the sheet's
 unfoldable pub chargeFlow : List ℕ → Metered (Unit {0})
-chargeFlow sheet = do
-  spendBytes 1 (codeCount sheet * 24)
-  spendWork 1 (codeCount sheet)
+chargeFlow sheet = flowOf (codeCount sheet)
 
 -- "Order: flow graph, dependencies, constants, index, containers." `room` says for each analysis whether there is room for s tracked slots.
 unfoldable pub analyses : List ℕ → (AnalysisKind → ℕ → Bool) → Metered Facts

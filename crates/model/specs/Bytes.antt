@@ -1,4 +1,4 @@
--- Little-endian numbers in a list of bytes. Words in quotes are document 01's, here and in all these files.
+-- Little-endian numbers in a list of bytes. Words in double quotes are document 01's, here and in all these files; those of demand 3 stand between ‘ and ’.
 -- Assumes nothing.
 use mathlib.Core.List.{List}
 use Prim.Native.Nat.{ℕ, _+_, _*_}

@@ -38,6 +38,35 @@ pub record Lent : Type 0 where
   pub rowValues : List ℕ
   pub workList : List ℕ
 
+-- The scratch by itself.
+pub record Scratch : Type 0 where
+  pub marks : List ℕ
+  pub stack : List ℕ
+  pub rowKinds : List ℕ
+  pub rowValues : List ℕ
+  pub workList : List ℕ
+
+-- the output of one analysis, from its four slices
+abbrev pub table : List ℕ → List ℕ → List ℕ → List ℕ → Table
+table slots present kinds values = record { slots = slots; present = present; kinds = kinds; values = values }
+
+-- the scratch, from its five slices
+abbrev pub scratch : List ℕ → List ℕ → List ℕ → List ℕ → List ℕ → Scratch
+scratch marks stack rowKinds rowValues workList = record { marks = marks; stack = stack; rowKinds = rowKinds; rowValues = rowValues; workList = workList }
+
+-- all that is lent, from the three outputs and the scratch
+abbrev pub lent : Table → Table → Table → Scratch → Lent
+lent constants index containers w = record {
+  constants = constants;
+  index = index;
+  containers = containers;
+  marks = w .marks;
+  stack = w .stack;
+  rowKinds = w .rowKinds;
+  rowValues = w .rowValues;
+  workList = w .workList;
+}
+
 -- the output of an analysis
 unfoldable pub tableOf : Lent → AnalysisKind → Table
 tableOf lent Constant = lent .constants
@@ -105,30 +134,36 @@ answer budget (cleared (overBudget stage requested remaining) left) = OverBudget
 answer budget (cleared noRoom left) = NoRoom left
 answer budget (completed facts left) = Analyzed (counts (facts .constants)) (counts (facts .index)) (counts (facts .containers)) left
 
--- "this paper's number and values for each of its cases": a number, and the values that come with it
-pub record Numbered : Type 0 where
+-- "this paper's number and values for each of its cases", of an answer: its number, and its values in three groups, each empty where the case has none.
+pub record AnswerNumbered : Type 0 where
   pub number : ℕ
-  pub given : List ℕ
+  -- "s and the pop count of each analysis", after 0
+  pub counted : List ℕ
+  -- "the budget", of every answer
+  pub budget : List ℕ
+  -- "stage (1 to 5 in charge order), requested, remaining", after 7
+  pub refused : List ℕ
 
--- the two numbers of a budget
-unfoldable pub resources : VerifierResources → List ℕ
-resources left = left .bytes ∷ left .work ∷ []
-
--- the two numbers of an analysis
+-- s and the pop count of one analysis
 unfoldable pub countsGiven : Counts → List ℕ
 countsGiven c = c .tracked ∷ c .pops ∷ []
 
--- 0 with s and pops three times; 1 to 6; "7, with stage (1 to 5 in charge order), requested, remaining"; 8; each with the budget left
-unfoldable pub answerNumbered : Answer → Numbered
+-- "bytes and work"
+unfoldable pub resources : VerifierResources → List ℕ
+resources left = left .bytes ∷ left .work ∷ []
+
+-- 0; the number of the question, 1 to 6; 7; 8
+unfoldable pub answerNumbered : Answer → AnswerNumbered
 answerNumbered (Analyzed constant index container left) =
-    record { number = 0; given = countsGiven constant ++ countsGiven index ++ countsGiven container ++ resources left }
-answerNumbered (Invalid number left) = record { number = number; given = resources left }
-answerNumbered (OverBudget stage requested remaining left) = record { number = 7; given = stage ∷ requested ∷ remaining ∷ resources left }
-answerNumbered (NoRoom left) = record { number = 8; given = resources left }
+    record { number = 0; counted = countsGiven constant ++ countsGiven index ++ countsGiven container; budget = resources left; refused = [] }
+answerNumbered (Invalid number left) = record { number = number; counted = []; budget = resources left; refused = [] }
+answerNumbered (OverBudget stage requested remaining left) =
+    record { number = 7; counted = []; budget = resources left; refused = stage ∷ requested ∷ remaining ∷ [] }
+answerNumbered (NoRoom left) = record { number = 8; counted = []; budget = resources left; refused = [] }
 
 -- ---- what the lent memory holds afterwards
 
--- "The tables" of one analysis
+-- "Tables": those of one analysis
 unfoldable pub tables : Analysed → Table
 tables a = record {
   slots = a .slots;
@@ -182,7 +217,7 @@ lentAfter (completed facts left) old =
 -- What a call leaves: its answer, with the number and values of document 01, and all that was lent.
 pub record Result : Type 0 where
   pub answered : Answer
-  pub numbered : Numbered
+  pub numbered : AnswerNumbered
   pub lent : Lent
 
 -- a result, from the answer and what is lent
@@ -200,6 +235,6 @@ analyzed sheet budget lent = resultOf budget lent (call sheet budget lent)
 
 unfoldable pub callCompute : Unit {0}
 unfolding sheetCompute analysesCompute tablesCompute
-    tableOf closureRoom workListRoom roomFor tableRoom callEnd afterSix afterFive call counts answer resources countsGiven answerNumbered
+    tableOf closureRoom workListRoom roomFor tableRoom callEnd afterSix afterFive call counts answer countsGiven resources answerNumbered
     tables zeros filled zeroTable filledTable scratchZero lentAfter result resultOf analyzed
 callCompute = tt

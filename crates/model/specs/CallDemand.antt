@@ -7,7 +7,7 @@ use mathlib.Core.Option.{some}
 use Prim.Native.Nat.{ℕ, _+_, _*_, _≤_, _<_}
 use lib.Dec.{eqb}
 use lib.Bits.{bitAnd}
-use lib.ListN.{length}
+use lib.ListN.{length, take}
 use Rattle.model.specs.Sheet.{codeCount, localSlots, instruction}
 use Rattle.model.specs.Charges.{ok}
 use Rattle.model.specs.Dependencies.{dependencyBit, FactDependency, edgesTo, Field, field, seedFields, chargeDependencies}
@@ -51,8 +51,8 @@ pub data Passed (sheet : List ℕ) : Marked → Type 0 where
 abbrev pub analysisOf : AnalysisKind → List ℕ → (ℕ → Fact) → Analysed → Analysis
 analysisOf which sheet lengthFact a = analysis which sheet (a .slots) lengthFact (a .entry)
 
--- How an analysis of a call came about, from the budget before it to the budget after it: "its slots are what the closure gave, its first
--- row what the parameters gave, its budget what was left at that point".
+-- How an analysis of a call came about, from the budget before it to the budget after it: its slots are what the closure gave, its first
+-- row what the parameters gave, its budget what was left at that point.
 pub record Made (which : AnalysisKind) (sheet : List ℕ) (lengthFact : ℕ → Fact) (before : VerifierResources) (a : Analysed) (after : VerifierResources) : Type 0 where
   pub closed : VerifierResources
   pub tracked : trackedSlots which sheet before ≡ ok (a .slots) closed
@@ -91,8 +91,11 @@ pub record CallDemand (sheet : List ℕ) (budget : VerifierResources) (facts : F
 
 -- ---- the lent memory
 
--- Demand 3 of one analysis' answer and output: the bound on pops always, and with n and s above zero the lent tables are final.
+-- Demand 3 of one analysis' answer and output: s and the slots are the analysis' own, the bound on pops holds always, and with n and s above zero the
+-- lent tables are final.
 pub record TableDemand (which : AnalysisKind) (sheet : List ℕ) (lengthFact : ℕ → Fact) (a : Analysed) (given : Counts) (table : Table) : Type 0 where
+  pub tracked : given .tracked ≡ length (a .slots)
+  pub slots : take (given .tracked) (table .slots) ≡ a .slots
   pub pops : given .pops ≤ codeCount sheet * (1 + 2 * given .tracked)
   pub final : 0 < codeCount sheet → 0 < given .tracked → FinalTable (analysisOf which sheet lengthFact a) (table .present) (table .kinds) (table .values)
 

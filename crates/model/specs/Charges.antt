@@ -11,6 +11,21 @@ use Rattle.model.specs.declared.Charge.the-variants.{Covered, Refused}
 abbrev pub fresh : VerifierResources
 fresh = record { bytes = 268435456; work = 268435456 }
 
+-- The bytes of one of each thing that is charged by number.
+pub record ByteUnits : Type 0 where
+  pub successorRecord : ℕ
+  pub dependency : ℕ
+  pub constantFact : ℕ
+  pub indexFact : ℕ
+  pub containerFact : ℕ
+  pub mark : ℕ
+  pub workSlot : ℕ
+  pub slotKind : ℕ
+
+-- "Byte units: successor record 24, dependency 4, constant fact 32, index fact 4, container fact 40, mark 1, work slot 2, slot kind 1"
+abbrev pub units : ByteUnits
+units = record { successorRecord = 24; dependency = 4; constantFact = 32; indexFact = 4; containerFact = 40; mark = 1; workSlot = 2; slotKind = 1 }
+
 -- ---- one charge
 
 -- "7. Does what is left cover the charge?" "A refused charge takes nothing."

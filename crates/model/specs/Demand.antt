@@ -1,13 +1,14 @@
--- What demand 3 says of a defined run, and of its tables as they lie in memory. Words in quotes are the demand's or document 01's.
+-- What demand 3 says of a defined run, and of its tables as they lie in memory. Words between ‘ and ’ are
+-- demand 3's own.
 -- Assumes nothing.
 use mathlib.Core.Path.{_≡_}
 use mathlib.Core.Bool.{true}
 use mathlib.Core.Logic.{_⊎_}
-use mathlib.Core.List.{List, List·Memᴰ}
+use mathlib.Core.List.{List, map, List·Memᴰ}
 use mathlib.Core.Option.{Option, none, some}
 use Prim.Native.Nat.{ℕ, _+_, _*_, _≤_, _<_}
-use lib.ListN.{length, getD, replicate}
-use Rattle.model.specs.Fact.{Row, joinRow}
+use lib.ListN.{length, getD, replicate, take, drop}
+use Rattle.model.specs.Fact.{Row, kind, value, joinRow}
 use Rattle.model.specs.Run.{Analysis, State, RunEnd, finished, overdrawn, fuelSpent, next, ended, rowAt, step, start, bound, runWith, run}
 use Rattle.model.specs.Tables.{tableRow}
 
@@ -30,7 +31,7 @@ pub data Reachable (a : Analysis) : ℕ → Type 0 where
 abbrev pub Present : List (Option Row) → ℕ → Type 0
 Present rows p = (r : Row) × (rowAt rows p ≡ some r)
 
--- q has a row; what p carries from its row r has s facts; "joining it into a successor changes no fact there, neither kind nor value".
+-- q has a row; what p carries from its row r has s facts; ‘joining it into a successor changes no fact there, neither kind nor value’.
 pub record Settled (a : Analysis) (rows : List (Option Row)) (p : ℕ) (r : Row) (q : ℕ) : Type 0 where
   pub row : Row
   pub present : rowAt rows q ≡ some row
@@ -39,10 +40,10 @@ pub record Settled (a : Analysis) (rows : List (Option Row)) (p : ℕ) (r : Row)
 
 -- The rows that a run ends with.
 pub record Final (a : Analysis) (rows : List (Option Row)) : Type 0 where
-  -- "exactly the instructions reachable from 0 have a state"
+  -- ‘exactly the instructions reachable from 0 have a state’
   pub only-reachable : (p : ℕ) → Present rows p → Reachable a p
   pub all-reachable : (p : ℕ) → Reachable a p → Present rows p
-  -- "carrying it through an instruction and joining it into a successor changes no fact there"
+  -- ‘carrying it through an instruction and joining it into a successor changes no fact there’
   pub settled : (p : ℕ) (r : Row) → rowAt rows p ≡ some r → (q : ℕ) → List·Memᴰ q (a .successors p) → Settled a rows p r q
   pub row-length : (p : ℕ) (r : Row) → rowAt rows p ≡ some r → length r ≡ a .s
   pub size : length rows ≡ a .n
@@ -59,14 +60,16 @@ pub data Ends (a : Analysis) : State → RunEnd → Type 0 where
 
 -- Demand 3 of one run, whatever n, s and the work units left.
 pub record Demand3 (a : Analysis) (left : ℕ) : Type 0 where
-  -- "every call ends", and more fuel changes nothing
+  -- ‘every call ends’, and more fuel changes nothing
   pub ends : run a left ≡ fuelSpent → ⊥
   pub more-fuel : (fuel : ℕ) → bound a ≤ fuel → runWith a fuel left ≡ run a left
-  -- "takes at most n × (1 + 2 × s) entries from its work list"
+  -- ‘takes at most n × (1 + 2 × s) entries from its work list’
   pub pops : (rows : List (Option Row)) (count rest : ℕ) → run a left ≡ finished rows count rest → count ≤ bound a
-  -- and the list never holds more
-  pub list : 0 < a .n → (st : State) → Visited a left st → length (st .list) ≤ bound a
-  -- "With n and s above zero exactly the instructions reachable from 0 have a state .."
+  -- and in every state that the run passes through, ended by 7 or not, what was taken and what is listed are together no more
+  pub list : 0 < a .n → (st : State) → Visited a left st → st .count + length (st .list) ≤ bound a
+  -- the run with fuel is the run without
+  pub fuel-free : 0 < a .n → 0 < a .s → Ends a (start a left) (run a left)
+  -- ‘With n and s above zero exactly the instructions reachable from 0 have a state ..’
   pub tables : 0 < a .n → 0 < a .s → (rows : List (Option Row)) (count rest : ℕ) → run a left ≡ finished rows count rest → Final a rows
   -- each entry taken is charged s, and a refused charge takes nothing
   pub work : (rows : List (Option Row)) (count rest : ℕ) → run a left ≡ finished rows count rest → rest + count * a .s ≡ left
@@ -80,14 +83,19 @@ pub record Demand3 (a : Analysis) (left : ℕ) : Type 0 where
 abbrev pub Shows : List ℕ → ℕ → Type 0
 Shows present p = getD present p 0 ≡ 1
 
--- `Settled`, of the rows of p and q as parts of kinds and values
+-- `Settled`, of the rows of p and q as parts of kinds and values; ‘neither kind nor value’ is said of the bytes themselves: what the join gives is what
+-- is stored, also where a kind byte would be read as another fact
 pub record SettledTable (a : Analysis) (present kinds values : List ℕ) (p q : ℕ) : Type 0 where
   pub shows : Shows present q
   pub carried : length (a .transfer p (tableRow (a .s) kinds values p)) ≡ a .s
   pub unchanged : joinRow (a .same) (tableRow (a .s) kinds values q) (a .transfer p (tableRow (a .s) kinds values p)) ≡ tableRow (a .s) kinds values q
+  pub kinds-stay : map kind (joinRow (a .same) (tableRow (a .s) kinds values q) (a .transfer p (tableRow (a .s) kinds values p))) ≡ take (a .s) (drop (q * a .s) kinds)
+  pub values-stay : map value (joinRow (a .same) (tableRow (a .s) kinds values q) (a .transfer p (tableRow (a .s) kinds values p))) ≡ take (a .s) (drop (q * a .s) values)
 
 -- `Final`, of present bytes, kinds and values
 pub record FinalTable (a : Analysis) (present kinds values : List ℕ) : Type 0 where
+  -- "present bytes (n, 0 or 1)"
+  pub zero-or-one : (p : ℕ) → (getD present p 0 ≡ 0) ⊎ (getD present p 0 ≡ 1)
   pub only-reachable : (p : ℕ) → Shows present p → Reachable a p
   pub all-reachable : (p : ℕ) → Reachable a p → Shows present p
   pub settled : (p : ℕ) → Shows present p → (q : ℕ) → List·Memᴰ q (a .successors p) → SettledTable a present kinds values p q

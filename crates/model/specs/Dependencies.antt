@@ -9,7 +9,7 @@ use Rattle.model.specs.Count.{collect, countCompute}
 use Rattle.model.specs.Sheet.{codeCount, localSlots, instruction, sheetCompute}
 use Rattle.model.specs.Opcode as O
 use Rattle.model.specs.Opcode.{select, opcodeCompute}
-use Rattle.model.specs.Charges.{Metered, _>>=_, _>>_, spendBytes, spendWork, forEach, chargesCompute}
+use Rattle.model.specs.Charges.{units, Metered, _>>=_, _>>_, spendBytes, spendWork, forEach, chargesCompute}
 use Rattle.model.specs.declared.Instruction.{Instruction}
 use Rattle.model.specs.declared.AnalysisKind.{AnalysisKind}
 use Rattle.model.specs.declared.AnalysisKind.the-variants.{Constant, IndexCheck, Container}
@@ -37,7 +37,7 @@ unfoldable pub edgeIf : Bool → ℕ → ℕ → ℕ → List FactDependency
 edgeIf true destination source kinds = record { destination = destination; source = source; kinds = kinds } ∷ []
 edgeIf false destination source kinds = []
 
--- an edge "with both ends below L" (L is l here): `FactDependencyGraph::push`
+-- an edge whose ends are both below L (l here): `FactDependencyGraph::push`
 unfoldable pub edge : ℕ → ℕ → ℕ → ℕ → List FactDependency
 edge l destination source kinds = edgeIf (ltb destination l && ltb source l) destination source kinds
 
@@ -85,11 +85,11 @@ copyWork foldEdges inst = 0
 copyWork iterEdge inst = 0
 copyWork noEdges inst = 0
 
--- "dependency 4": each edge is charged by itself. (A charge of 0 always passes, so that others than CopyN charge no work.)
+-- Each edge is charged by itself. (A charge of 0 always passes, so that others than CopyN charge no work.)
 unfoldable pub chargeInstruction : ℕ → Instruction → Metered (Unit {0})
 chargeInstruction l inst = do
   spendWork 2 (copyWork (depends (inst .op)) inst)
-  forEach (λ i. spendBytes 2 4) (length (instructionEdges l inst))
+  forEach (λ i. spendBytes 2 (units .dependency)) (length (instructionEdges l inst))
 
 -- the instructions' charges, in code order
 unfoldable pub chargeDependencies : List ℕ → Metered (Unit {0})

@@ -20,6 +20,9 @@ pub mod Tables
 pub mod Call
 pub mod Lookup
 pub mod Listing
+-- The C interface; what it tells a loader beside the call
+pub mod Interface
+pub mod Room
 -- What demand 3 says: of a run, and of a call
 pub mod Demand
 pub mod CallDemand

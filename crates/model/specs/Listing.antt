@@ -14,6 +14,8 @@ use Rattle.model.specs.Fact.{Fact, unknown, conflict, known, Row, equalL
 use Rattle.model.specs.Analyses.{Analysed, Facts}
 use Rattle.model.specs.Call.{Lent, Table, CallEnd, kept, cleared, completed, call, callCompute}
 use Rattle.model.specs.declared.VerifierResources.{VerifierResources}
+use Rattle.model.specs.declared.AnalysisKind.{AnalysisKind}
+use Rattle.model.specs.declared.AnalysisKind.the-variants.{Constant, IndexCheck, Container}
 
 -- ---- text
 
@@ -73,6 +75,12 @@ containerText sheet (known zero v) = ascii "map " ++ decimal (lowest sheet (v / 
 containerText sheet (known (suc zero) v) = ascii "iter " ++ decimal (lowest sheet (v / 65536)) ++ space ++ decimal (lowest sheet (v % 65536))
 containerText sheet (known (suc (suc k)) v) = ascii "queue " ++ decimal (lowest sheet (v / 65536))
 
+-- the text of a fact of an analysis
+unfoldable pub factText : AnalysisKind → List ℕ → Fact → List ℕ
+factText Constant sheet = constantText sheet
+factText IndexCheck sheet = indexText sheet
+factText Container sheet = containerText sheet
+
 -- ---- lines
 
 -- "Cells: pc, slot, fact; .. slots ascending."
@@ -91,10 +99,19 @@ unfoldable pub rowsLines : (Fact → List ℕ) → ℕ → List ℕ → List (Op
 rowsLines text pc slots [] = []
 rowsLines text pc slots (row ∷ rows) = presentLines text pc slots row ++ rowsLines text (suc pc) slots rows
 
+-- "Heads: analysis": its word
+unfoldable pub analysisName : AnalysisKind → List ℕ
+analysisName Constant = ascii "constant"
+analysisName IndexCheck = ascii "index"
+analysisName Container = ascii "container"
+
 -- "Heads: analysis, n, s, pops."
-unfoldable pub analysisLines : List ℕ → (Fact → List ℕ) → ℕ → Analysed → List ℕ
-analysisLines name text n a =
-    name ++ space ++ decimal n ++ space ++ decimal (length (a .slots)) ++ space ++ decimal (a .pops) ++ newline ++ rowsLines text 0 (a .slots) (a .rows)
+unfoldable pub headLine : AnalysisKind → ℕ → ℕ → ℕ → List ℕ
+headLine which n s pops = analysisName which ++ space ++ decimal n ++ space ++ decimal s ++ space ++ decimal pops ++ newline
+
+-- an analysis: its head, and behind it its rows
+unfoldable pub analysisLines : AnalysisKind → List ℕ → Analysed → List ℕ
+analysisLines which sheet a = headLine which (codeCount sheet) (length (a .slots)) (a .pops) ++ rowsLines (factText which sheet) 0 (a .slots) (a .rows)
 
 -- "Last: bytes and work left"
 unfoldable pub leftLine : VerifierResources → List ℕ
@@ -103,9 +120,7 @@ leftLine left = ascii "left " ++ decimal (left .bytes) ++ space ++ decimal (left
 -- the three analyses and the last line
 unfoldable pub factsLines : List ℕ → Facts → VerifierResources → List ℕ
 factsLines sheet facts left =
-    analysisLines (ascii "constant") (constantText sheet) (codeCount sheet) (facts .constants)
-    ++ analysisLines (ascii "index") (indexText sheet) (codeCount sheet) (facts .index)
-    ++ analysisLines (ascii "container") (containerText sheet) (codeCount sheet) (facts .containers)
+    analysisLines Constant sheet (facts .constants) ++ analysisLines IndexCheck sheet (facts .index) ++ analysisLines Container sheet (facts .containers)
     ++ leftLine left
 
 -- "Refusals print only `refused` and the number."
@@ -166,6 +181,6 @@ listing sheet = fits (leb (length sheet) 65536) sheet
 
 unfoldable pub listingCompute : Unit {0}
 unfolding sheetCompute factCompute callCompute
-    ascii digits decimal space newline constantText indexText lowestFrom lowest containerText rowLines presentLines rowsLines analysisLines leftLine
+    ascii digits decimal space newline constantText indexText lowestFrom lowest containerText factText rowLines presentLines rowsLines analysisName headLine analysisLines leftLine
     factsLines refusedLine tooLarge endLines callLines listingTable listingLent sized asked fits listing
 listingCompute = tt

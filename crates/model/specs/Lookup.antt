@@ -7,7 +7,6 @@ use Prim.Native.Nat.{ℕ, zero, suc, _+_, _*_, _-_}
 use lib.Dec.{leb, ltb, eqb}
 use lib.ListN.{length, getD}
 use Rattle.model.specs.Count.{every, countCompute}
-use Rattle.model.specs.Call.{Numbered}
 use Rattle.model.specs.declared.AnalysisKind.{AnalysisKind}
 use Rattle.model.specs.declared.AnalysisKind.the-variants.{Constant, IndexCheck, Container}
 use Rattle.model.specs.declared.SlotFact.{SlotFact}
@@ -128,6 +127,11 @@ fixed slots present kinds values slot =
 
 -- ---- numbers
 
+-- "this paper's number and values for each of its cases", of a lookup's answer
+pub record Numbered : Type 0 where
+  pub number : ℕ
+  pub given : List ℕ
+
 -- "the cell's kind and value"; ""none", which is no refusal", with no values; 9
 unfoldable pub slotFactNumbered : SlotFact → Numbered
 slotFactNumbered (Cell k v) = record { number = 0; given = k ∷ v ∷ [] }
@@ -140,7 +144,15 @@ reachabilityNumbered Yes = record { number = 0; given = 1 ∷ [] }
 reachabilityNumbered No = record { number = 0; given = 0 ∷ [] }
 reachabilityNumbered Unreadable = record { number = 9; given = [] }
 
-unfoldable pub lookupCompute : Unit {0}
-unfolding countCompute lastKind ascends placeFrom place tablesAgree cellAt kindNamed rowNamed cell orDamaged factForSlot reachedBy isReachable
-    show showIf fixedFact shown fixedAt fixed slotFactNumbered reachabilityNumbered
-lookupCompute = tt
+-- What a lookup promises: its answer, with the number and values of document 01. "The promises use that definition."
+pub record WithNumbers (A : Type 0) : Type 0 where
+  pub answered : A
+  pub numbered : Numbered
+
+-- the answer of `fact_for_slot` or of the lookup of "fixed", so
+abbrev pub factWithNumbers : SlotFact → WithNumbers SlotFact
+factWithNumbers answered = record { answered = answered; numbered = slotFactNumbered answered }
+
+-- the answer of `is_reachable`, so
+abbrev pub reachabilityWithNumbers : Reachability → WithNumbers Reachability
+reachabilityWithNumbers answered = record { answered = answered; numbered = reachabilityNumbered answered }

@@ -7,7 +7,7 @@ use Prim.Native.Nat.{ℕ, zero, suc, _+_, _*_, _/_, _%_}
 use lib.Dec.{ltb, eqb}
 use Rattle.model.specs.Sheet.{codeCount, paramCount, paramSlots, recvSlots, isClosure, paramWidth, paramKind, paramA, paramB, layoutLength, sheetCompute}
 use Rattle.model.specs.Count.{sum, countCompute}
-use Rattle.model.specs.Charges.{Metered, give, _>>=_, _>>_, spendBytes, forEach, chargesCompute}
+use Rattle.model.specs.Charges.{units, Metered, give, _>>=_, _>>_, spendBytes, forEach, chargesCompute}
 use Rattle.model.specs.Fact.{Fact, unknown, conflict, known, Row}
 use Rattle.model.specs.Transfer.{put, mapFact, queueFact, instructionFact, transferCompute}
 
@@ -57,9 +57,9 @@ paramFactBy (suc (suc (suc k))) sheet i = none
 unfoldable pub paramFact : List ℕ → ℕ → Option Fact
 paramFact sheet i = paramFactBy (paramKind sheet i) sheet i
 
--- "slot kind 1": `shared_container_layout`
+-- `shared_container_layout`: "layout bytes are charged", a slot kind each
 unfoldable pub chargeLayout : List ℕ → ℕ → Metered (Unit {0})
-chargeLayout sheet i = spendBytes 5 (layoutLength sheet i * 1)
+chargeLayout sheet i = spendBytes 5 (layoutLength sheet i * units .slotKind)
 
 -- a map charges its key layout, then its value layout; a queue its one. Notes and parameters bring no other facts.
 unfoldable pub chargeLayouts : List ℕ → Fact → Metered (Unit {0})

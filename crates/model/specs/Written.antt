@@ -64,7 +64,7 @@ indexWrittenBy slotSetN unknown sheet pc slot = written sheet pc slot
 indexWrittenBy slotSetN conflict sheet pc slot = written sheet pc slot
 indexWrittenBy byRanges before sheet pc slot = written sheet pc slot
 
--- Whether instruction pc writes the slot "in the index analysis".
+-- Whether instruction pc writes the slot in the index analysis.
 unfoldable pub indexWritten : List ℕ → ℕ → Fact → ℕ → Bool
 indexWritten sheet pc before slot = indexWrittenBy (writes (instruction sheet pc .op)) before sheet pc slot
 

@@ -1,3 +1,2 @@
--- What the numbers say of a call and of a lookup.
+-- What the functions that put numbers say of each other.
 pub mod Numbers
-pub mod Facts

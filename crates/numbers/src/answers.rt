@@ -1,11 +1,11 @@
-// The 12 numbers of a call's answer: "the number; s and pops of constant, index, container; bytes and work left; stage, requested, remaining; what
-// an outcome does not have is 0".
+// The twelve numbers of a call's answer, as C is handed them.
 ghost use mathlib.Core.Path.{_≡_};
 ghost use mathlib.Core.List.{_++_};
 ghost use Prim.Native.Nat.{_≤_};
 ghost use lib.ListN.{length, drop};
 ghost use Rattle.model.specs.Call.{answerNumbered};
-ghost use Rattle.numbers.specs.Numbers.{twelve, nothing, answerNumbers};
+ghost use Rattle.model.specs.Interface.{twelve};
+ghost use Rattle.numbers.specs.Numbers.{entries, nothing};
 use model::Answer;
 use model::Counts;
 use model::VerifierResources;
@@ -23,7 +23,7 @@ fn put_twelve(
     out: &mut [u64],
 )
     requires { ⌜ 12 ≤ length (now out) ⌝ }
-    ensures { λ r. ⌜ now (out .exit) ≡ twelve number constant index container left stage requested remaining ++ drop 12 (now (out .entry)) ⌝ }
+    ensures { λ r. ⌜ now (out .exit) ≡ entries number constant index container left stage requested remaining ++ drop 12 (now (out .entry)) ⌝ }
 {
     out[0] = number as u64;
     out[1] = constant.tracked;
@@ -49,7 +49,7 @@ fn put_refusal(
     out: &mut [u64],
 ) -> u8
     requires { ⌜ 12 ≤ length (now out) ⌝ }
-    ensures { λ r. ⌜ (now (out .exit) ≡ twelve number nothing nothing nothing left stage requested remaining ++ drop 12 (now (out .entry))) × (r ≡ number) ⌝ }
+    ensures { λ r. ⌜ (now (out .exit) ≡ entries number nothing nothing nothing left stage requested remaining ++ drop 12 (now (out .entry))) × (r ≡ number) ⌝ }
 {
     let none = Counts {
         tracked: 0,
@@ -72,7 +72,7 @@ fn put_refusal(
 // The answer's numbers at the front of out, which has at least 12 entries and keeps those behind them; the first of them is the result.
 pub fn put_answer(answer: Answer, out: &mut [u64]) -> u8
     requires { ⌜ 12 ≤ length (now out) ⌝ }
-    ensures { λ r. ⌜ (now (out .exit) ≡ answerNumbers answer ++ drop 12 (now (out .entry))) × (r ≡ answerNumbered answer .number) ⌝ }
+    ensures { λ r. ⌜ (now (out .exit) ≡ twelve (answerNumbered answer) ++ drop 12 (now (out .entry))) × (r ≡ answerNumbered answer .number) ⌝ }
 {
     match answer {
         Answer::Analyzed {

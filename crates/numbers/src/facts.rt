@@ -2,7 +2,7 @@
 ghost use mathlib.Core.Path.{_≡_};
 ghost use lib.Dec.{leb};
 ghost use lib.ListN.{length};
-ghost use Rattle.numbers.specs.Facts.{looked, lookedUp, reachedNumber};
+ghost use Rattle.model.specs.Interface.{looked, lookedUp, reachedNumber};
 use model::Reachability;
 use model::SlotFact;
 

@@ -8,10 +8,11 @@ ghost use Rattle.model.specs.Lookup.{place};
 ghost use Rattle.model.specs.Sheet.{paramCount};
 ghost use Rattle.model.specs.Tables.{cellOf};
 ghost use Rattle.model.specs.Parameters.{paramStart, paramFact, seedParam, seedParams, paramRow};
+ghost use Rattle.model.specs.Analyses.{unknownRow};
 ghost use Rattle.budget.specs.Metering.{asSpent};
 ghost use Rattle.sheet.specs.Measured.{Measured};
 ghost use Rattle.search.specs.Rows.{Lies};
-ghost use Rattle.parameters.specs.First.{Rowed, setAt, first, firstOf};
+ghost use Rattle.parameters.specs.First.{Rowed, Blank, setAt, first, firstOf};
 use crate::params::ParamStart;
 use crate::params::param_fact;
 use crate::params::param_start;
@@ -124,7 +125,7 @@ fn seed_params(
     Metering::Covered { left }
 }
 
-// The row with the parameters' facts in it, if there is a start.
+// "for containers with the Parameters facts in it": a row that is zero, with these facts in it if there is a start.
 pub fn param_row(
     sheet: &[u8],
     sizes: Sizes,
@@ -133,8 +134,8 @@ pub fn param_row(
     row_kinds: &mut [u8],
     row_values: &mut [u64],
 ) -> Metering
-    requires { ⌜ Measured (now sheet) sizes × Rowed (now slots) (now «row_kinds») (now «row_values») ⌝ }
-    ensures { λ r. ⌜ ((row : Row) → Lies row (now («row_kinds» .entry)) (now («row_values» .entry)) → first (asSpent 5 r) (now («row_kinds» .exit)) (now («row_values» .exit)) ≡ firstOf (length (now (slots .entry))) (paramRow (now (sheet .entry)) (now (slots .entry)) (paramStart (now (sheet .entry))) row resources)) ⌝ }
+    requires { ⌜ Measured (now sheet) sizes × Blank (now slots) (now «row_kinds») (now «row_values») ⌝ }
+    ensures { λ r. ⌜ first (asSpent 5 r) (now («row_kinds» .exit)) (now («row_values» .exit)) ≡ firstOf (length (now (slots .entry))) (paramRow (now (sheet .entry)) (now (slots .entry)) (paramStart (now (sheet .entry))) (unknownRow (now (slots .entry))) resources) ⌝ }
 {
     let ParamStart::At(start) = param_start(sheet, sizes) else {
         return Metering::Covered { left: resources };

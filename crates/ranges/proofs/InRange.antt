@@ -2,7 +2,7 @@
 -- Assumes nothing.
 use mathlib.Core.Path.{_≡_, refl, sym, ap, _∙_}
 use mathlib.Core.Bool.{Bool, true, false, _&&_}
-use Prim.Native.Nat.{ℕ, zero, suc, _+_, _*_, _-_, _≤_, _<_}
+use Prim.Native.Nat.{ℕ, zero, suc, _+_, _*_, _-_, _≤_, _<_, min}
 use native.Mathlib.Nat.{mul-zero, mul-le-mul-left}
 use native.Mathlib.Omega.{arith}
 use lib.Dec.{leb, ltb}
@@ -24,10 +24,18 @@ from-start slot start count h = rw (le-leb start slot h) (by (ltb (slot - start)
     by false e = sym (le-ltb slot (start + count) (omega (arith, ltb-false (slot - start) count e)))
 
 -- 65,536 elements reach as far as any more of them: to every slot, or nowhere
-pub enough : (slot start len elem : ℕ) → slot < 65536 → 65536 ≤ len → inRange slot start (65536 * elem) ≡ inRange slot start (len * elem)
+enough : (slot start len elem : ℕ) → slot < 65536 → 65536 ≤ len → inRange slot start (65536 * elem) ≡ inRange slot start (len * elem)
 unfolding inRange
 enough slot start len zero h k = rw (mul-zero len)
 enough slot start len (suc elem) h k =
     ap (λ (t : Bool). leb start slot && t)
     (lt-ltb slot (start + 65536 * suc elem) (omega arith)
     ∙ sym (lt-ltb slot (start + len * suc elem) (omega (arith, mul-le-mul-left {m = 1} {n = suc elem} len (omega arith)))))
+
+-- and so as far as all of them
+pub span-reaches : {count : ℕ} (len elem : ℕ) → count ≡ min len 65536 * elem → (slot start : ℕ) → slot < 65536 → inRange slot start count ≡ inRange slot start (len * elem)
+span-reaches len elem e slot start h = rw e (by (ltb len 65536) refl)
+  where
+    by : (t : Bool) → ltb len 65536 ≡ t → inRange slot start (min len 65536 * elem) ≡ inRange slot start (len * elem)
+    by true q = let few : min len 65536 ≡ len = omega (arith, ltb-true len 65536 q) in rw few
+    by false q = let many : min len 65536 ≡ 65536 = omega (arith, ltb-false len 65536 q) in rw many (enough slot start len elem h (ltb-false len 65536 q))

@@ -1,6 +1,6 @@
 // Ranges of slots, in whole numbers.
 ghost use mathlib.Core.Path.{_≡_};
-ghost use Prim.Native.Nat.{ℕ, _+_, _*_, _<_, _≤_};
+ghost use Prim.Native.Nat.{_+_, _*_, _<_, _≤_, min};
 ghost use Rattle.model.specs.Written.{inRange, inRanges};
 ghost use Rattle.model.specs.Sheet.{rangeStart, rangeLength};
 ghost use Rattle.sheet.specs.Measured.{Measured};
@@ -17,10 +17,10 @@ pub fn in_range(slot: u16, start: u16, count: u64) -> bool
     (offset as u64) < count
 }
 
-// As many slots as len elements of elem_slots each have, or so many that all slots from any start are among them: len may be any number,
-// and from 65,536 elements up, none of them empty, they reach past every slot.
+// As many slots as len elements of elem_slots each have, but of no more than 65,536 elements: len may be any number, and so many, none of
+// them empty, reach past every slot from any start.
 pub fn span(len: u64, elem_slots: u16) -> u64
-    ensures { λ r. ⌜ ((slot start : ℕ) → slot < 65536 → inRange slot start r ≡ inRange slot start (len * «elem_slots»)) ⌝ }
+    ensures { λ r. ⌜ r ≡ min len 65536 * «elem_slots» ⌝ }
 {
     if len < 65536 {
         return len * elem_slots as u64;

@@ -1,9 +1,9 @@
 // Calls `analyze` on every recorded sheet and budget and compares the answer, the tables, the budget and every lent element with the record, which the
 // Rust gave: with buffers that are as long as needed, longer, and each one short. Standard input is what oracle/README.md describes as records.
 use input::read_front;
+use input::read_input;
 use input::u16_of;
 use input::u32_of;
-use libc::STDIN_FILENO;
 
 mod call;
 mod calls;
@@ -36,6 +36,7 @@ fn main() {
             records: 0,
             calls: 0,
             differences: 0,
+            has_failed: false,
         },
         is_there: true,
     };
@@ -47,9 +48,15 @@ fn main() {
     print_tally(turn.tally);
 }
 
-fn end(tally: Tally) -> Turn {
+// The input's end, or a record that did not come whole.
+fn end(tally: Tally, has_failed: bool) -> Turn {
     Turn {
-        tally,
+        tally: Tally {
+            records: tally.records,
+            calls: tally.calls,
+            differences: tally.differences,
+            has_failed: tally.has_failed || has_failed,
+        },
         is_there: false,
     }
 }
@@ -57,14 +64,16 @@ fn end(tally: Tally) -> Turn {
 // Reads a record behind its length and replays it.
 fn replay_next(tally: Tally) -> Turn {
     let mut head = [0u8; 4];
-    if io::read_full(STDIN_FILENO, &mut head) < 4 {
-        return end(tally);
+    let input = read_input(&mut head);
+    let came = input.count;
+    if came < 4 {
+        return end(tally, input.failed || 0 < came);
     }
     let length = u32_of(u16_of(head[0], head[1]), u16_of(head[2], head[3])) as usize;
     let mut record = room::record();
     let count = read_front(&mut record, length);
     if count < length {
-        return end(tally);
+        return end(tally, true);
     }
     replay_whole(&record[..count], tally)
 }
@@ -79,6 +88,7 @@ fn replay_whole(record: &[u8], tally: Tally) -> Turn {
                 records: one_more(tally.records),
                 calls: tally.calls,
                 differences: tally.differences,
+                has_failed: tally.has_failed,
             },
         ),
         is_there: true,

@@ -12,30 +12,32 @@ pub struct Seen {
     pub scratch: u64,
 }
 
-// Records and calls so far, and calls in which something was wrong.
+// Records and calls so far, and calls in which something was wrong; whether a read or a write failed: nothing is written any more then.
 pub struct Tally {
     pub records: u64,
     pub calls: u64,
     pub differences: u64,
+    pub has_failed: bool,
 }
 
 // Only so many calls that differ are printed.
 const PRINTED: u64 = 20;
 
-fn number(text: &[u8], n: u64) {
-    io::write_all(STDOUT_FILENO, text);
-    io::print_decimal(STDOUT_FILENO, n);
+// Answers whether all was written.
+fn number(text: &[u8], n: u64) -> bool {
+    io::write_all(STDOUT_FILENO, text) && io::print_decimal(STDOUT_FILENO, n)
 }
 
-fn print_seen(record: u64, call: usize, seen: Seen) {
-    number(b"record ", record);
-    number(b" call ", call as u64);
-    number(b": answer ", seen.numbers);
-    number(b", constant ", seen.constant);
-    number(b", index ", seen.index);
-    number(b", container ", seen.container);
-    number(b", scratch ", seen.scratch);
-    io::write_all(STDOUT_FILENO, b"\n");
+// The same.
+fn print_seen(record: u64, call: usize, seen: Seen) -> bool {
+    number(b"record ", record)
+        && number(b" call ", call as u64)
+        && number(b": answer ", seen.numbers)
+        && number(b", constant ", seen.constant)
+        && number(b", index ", seen.index)
+        && number(b", container ", seen.container)
+        && number(b", scratch ", seen.scratch)
+        && io::write_all(STDOUT_FILENO, b"\n")
 }
 
 fn differs(seen: Seen) -> bool {
@@ -51,21 +53,26 @@ pub fn counted(tally: Tally, call: usize, seen: Seen) -> Tally {
             records: tally.records,
             calls,
             differences: tally.differences,
+            has_failed: tally.has_failed,
         };
     }
-    if tally.differences < PRINTED {
-        print_seen(tally.records, call, seen);
-    }
+    let is_printed = !tally.has_failed && tally.differences < PRINTED;
+    let is_written = !is_printed || print_seen(tally.records, call, seen);
     Tally {
         records: tally.records,
         calls,
         differences: one_more(tally.differences),
+        has_failed: tally.has_failed || !is_written,
     }
 }
 
+// The last line: only where every record was read and every line before it written.
 pub fn print_tally(tally: Tally) {
-    number(b"records ", tally.records);
-    number(b", calls ", tally.calls);
-    number(b", differences ", tally.differences);
-    io::write_all(STDOUT_FILENO, b"\n");
+    if !tally.has_failed
+        && number(b"records ", tally.records)
+        && number(b", calls ", tally.calls)
+        && number(b", differences ", tally.differences)
+    {
+        io::write_all(STDOUT_FILENO, b"\n");
+    }
 }

@@ -1,18 +1,23 @@
-// The call, and what is written of its answer: nothing before all three analyses have ended.
+// The call, and the text of what it answered and left.
 ghost use Prim.Native.Nat.{_≤_};
+ghost use lib.ListN.{length};
+ghost use Rattle.model.specs.Charges.{fresh};
+ghost use Rattle.model.specs.Call.{call};
+ghost use Rattle.model.specs.Listing.{callLines, listingLent};
 ghost use Rattle.layouts.specs.Readable.{Readable};
-use crate::lines;
+ghost use Rattle.text.specs.Text.{Shows};
 use crate::room;
-use crate::rows;
+use listing::answer_lines;
+use listing::last_line;
 use model::AnalysisKind;
-use model::Answer;
 use model::VerifierResources;
 use sheet::Sizes;
 use verifier::analyze;
 
-// "for s over 32 in question 8's [place]": 8 is all that is left to refuse, as n and L have room and the budget is above what they can need.
-pub fn list_facts(sheet: &[u8], sizes: Sizes, starts: &[u16])
-    requires { ⌜ Readable (now sheet) sizes (now starts) × (sizes .«code_count» ≤ 256) ⌝ }
+// "for s over 32 in question 8's [place]": what is lent has room for 32 tracked slots.
+pub fn list_facts(sheet: &[u8], sizes: Sizes, starts: &[u16], out: &mut [u8]) -> usize
+    requires { ⌜ Readable (now sheet) sizes (now starts) × (sizes .«code_count» ≤ 256) × (2187530 ≤ length (now out)) ⌝ }
+    ensures { λ r. ⌜ Shows (callLines (now (sheet .entry)) (call (now (sheet .entry)) fresh listingLent)) (now (out .entry)) r (now (out .exit)) ⌝ }
 {
     let mut constant_slots = room::slots();
     let mut constant_present = room::present();
@@ -52,7 +57,8 @@ pub fn list_facts(sheet: &[u8], sizes: Sizes, starts: &[u16])
         &mut row_values,
         &mut work_list,
     );
-    list_answer(
+    let a = answer_lines(
+        AnalysisKind::Constant,
         answer,
         sheet,
         sizes,
@@ -61,87 +67,34 @@ pub fn list_facts(sheet: &[u8], sizes: Sizes, starts: &[u16])
         &constant_present,
         &constant_kinds,
         &constant_values,
+        0,
+        out,
+    );
+    let b = answer_lines(
+        AnalysisKind::IndexCheck,
+        answer,
+        sheet,
+        sizes,
+        starts,
         &index_slots,
         &index_present,
         &index_kinds,
         &index_values,
+        a,
+        out,
+    );
+    let c = answer_lines(
+        AnalysisKind::Container,
+        answer,
+        sheet,
+        sizes,
+        starts,
         &container_slots,
         &container_present,
         &container_kinds,
         &container_values,
+        b,
+        out,
     );
-}
-
-// The three analyses and what is left, or the one line that stands for them.
-fn list_answer(
-    answer: Answer,
-    sheet: &[u8],
-    sizes: Sizes,
-    starts: &[u16],
-    constant_slots: &[u16; 32],
-    constant_present: &[u8; 256],
-    constant_kinds: &[u8; 8192],
-    constant_values: &[u64; 8192],
-    index_slots: &[u16; 32],
-    index_present: &[u8; 256],
-    index_kinds: &[u8; 8192],
-    index_values: &[u64; 8192],
-    container_slots: &[u16; 32],
-    container_present: &[u8; 256],
-    container_kinds: &[u8; 8192],
-    container_values: &[u64; 8192],
-)
-    requires { ⌜ Readable (now sheet) sizes (now starts) × (sizes .«code_count» ≤ 256) ⌝ }
-{
-    match answer {
-        Answer::Analyzed {
-            constant,
-            index,
-            container,
-            left,
-        } => {
-            rows::analysis(
-                AnalysisKind::Constant,
-                sheet,
-                sizes,
-                starts,
-                constant,
-                constant_slots,
-                constant_present,
-                constant_kinds,
-                constant_values,
-            );
-            rows::analysis(
-                AnalysisKind::IndexCheck,
-                sheet,
-                sizes,
-                starts,
-                index,
-                index_slots,
-                index_present,
-                index_kinds,
-                index_values,
-            );
-            rows::analysis(
-                AnalysisKind::Container,
-                sheet,
-                sizes,
-                starts,
-                container,
-                container_slots,
-                container_present,
-                container_kinds,
-                container_values,
-            );
-            lines::left(left);
-        }
-        Answer::Invalid { number, left: _ } => lines::refused(number),
-        Answer::OverBudget {
-            stage: _,
-            requested: _,
-            remaining: _,
-            left: _,
-        } => lines::refused(7),
-        Answer::NoRoom { left: _ } => lines::too_large(),
-    }
+    last_line(answer, c, out)
 }

@@ -16,7 +16,7 @@ use Rattle.search.proofs.Ascending.{ascends-lt}
 use Rattle.rows.specs.Wrote.{Wrote}
 use Rattle.rows.proofs.Writing.{partly-start, partly-more, partly-all, wrote}
 
-module _ (slots : List ℕ) (below : (k : ℕ) → k < length slots → getD slots k 0 < 65536) (asc : ascends slots ≡ true) (slot at : ℕ) (b : Bound slots slot at)
+module _ (slots : List ℕ) (asc : ascends slots ≡ true) (slot at : ℕ) (b : Bound slots slot at)
     (cell : FactCell) (kinds values : List ℕ) (nk : length kinds ≡ length slots) (nv : length values ≡ length slots) where
   abbrev is : ℕ → Bool
   is t = eqb t slot
@@ -29,7 +29,7 @@ module _ (slots : List ℕ) (below : (k : ℕ) → k < length slots → getD slo
 
   nowhere : ((k : ℕ) → k < length slots → is (getD slots k 0) ≡ false) → Wrote slots is (λ t. cell) kinds values kinds values
   nowhere h =
-      wrote slots below is (λ t. cell) kinds values nk nv kinds values refl refl
+      wrote slots is (λ t. cell) kinds values nk nv kinds values refl refl
       (λ k l. rw (h k (omega arith)))
       (λ k l. rw (h k (omega arith)))
 
@@ -49,6 +49,6 @@ module _ (slots : List ℕ) (below : (k : ℕ) → k < length slots → getD slo
       let hit : is (getD slots at 0) ≡ true = eq-eqb (getD slots at 0) slot e in
       let pk = partly-more (λ k. is (getD slots k 0)) (λ k. cell .kind) kinds (partly-start _ _ kinds at before) {v = cell .kind} (omega arith) hit refl in
       let pv = partly-more (λ k. is (getD slots k 0)) (λ k. cell .value) values (partly-start _ _ values at before) {v = cell .value} (omega arith) hit refl in
-      wrote slots below is (λ t. cell) kinds values nk nv (set kinds at (cell .kind)) (set values at (cell .value)) (pk .long) (pv .long)
+      wrote slots is (λ t. cell) kinds values nk nv (set kinds at (cell .kind)) (set values at (cell .value)) (pk .long) (pv .long)
       (partly-all _ _ kinds pk (λ k l u. behind h k l (omega arith)))
       (partly-all _ _ values pv (λ k l u. behind h k l (omega arith)))

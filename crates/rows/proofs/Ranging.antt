@@ -65,31 +65,30 @@ module _ (slots : List ℕ) (start count : ℕ) (cell : ℕ → FactCell) (kinds
           values-partly = pv;
         }
 
-    module _ (below : (k : ℕ) → k < length slots → getD slots k 0 < 65536) where
-      done : ((k : ℕ) → j ≤ k → k < length slots → inRange (getD slots k 0) start count ≡ false) → Wrote slots (λ slot. inRange slot start count) cell kinds values kinds′ values′
-      done h =
-          wrote slots below (λ slot. inRange slot start count) cell kinds values (w .long .0) (w .long .1) kinds′ values′
-          (w .kinds-partly .long)
-          (w .values-partly .long)
-          (partly-all _ _ kinds (w .kinds-partly) (λ k m u. h k m (omega (arith, w .long))))
-          (partly-all _ _ values (w .values-partly) (λ k m u. h k m (omega (arith, w .long))))
+    done : ((k : ℕ) → j ≤ k → k < length slots → inRange (getD slots k 0) start count ≡ false) → Wrote slots (λ slot. inRange slot start count) cell kinds values kinds′ values′
+    done h =
+        wrote slots (λ slot. inRange slot start count) cell kinds values (w .long .0) (w .long .1) kinds′ values′
+        (w .kinds-partly .long)
+        (w .values-partly .long)
+        (partly-all _ _ kinds (w .kinds-partly) (λ k m u. h k m (omega (arith, w .long))))
+        (partly-all _ _ values (w .values-partly) (λ k m u. h k m (omega (arith, w .long))))
 
-      pub written-all : length slots ≤ j → Wrote slots (λ slot. inRange slot start count) cell kinds values kinds′ values′
-      written-all h = done (λ k m u. absurd (omega arith))
+    pub written-all : length slots ≤ j → Wrote slots (λ slot. inRange slot start count) cell kinds values kinds′ values′
+    written-all h = done (λ k m u. absurd (omega arith))
 
-      pub written-range : ascends slots ≡ true → j < length slots → count ≤ getD slots j 0 - start → Wrote slots (λ slot. inRange slot start count) cell kinds values kinds′ values′
-      written-range asc h l = done (λ k m u. sym (from-start (getD slots k 0) start count (w .from k m u)) ∙ le-ltb _ _ (later k u (eq-or-lt-of-le m)))
-        where
-          later : (k : ℕ) → k < length slots → (j ≡ k) ⊎ (j < k) → count ≤ getD slots k 0 - start
-          later k u (inl q) = rw (sym q) l
-          later k u (inr q) = omega (arith, ascends-lt slots asc j k q u)
+    pub written-range : ascends slots ≡ true → j < length slots → count ≤ getD slots j 0 - start → Wrote slots (λ slot. inRange slot start count) cell kinds values kinds′ values′
+    written-range asc h l = done (λ k m u. sym (from-start (getD slots k 0) start count (w .from k m u)) ∙ le-ltb _ _ (later k u (eq-or-lt-of-le m)))
+      where
+        later : (k : ℕ) → k < length slots → (j ≡ k) ⊎ (j < k) → count ≤ getD slots k 0 - start
+        later k u (inl q) = rw (sym q) l
+        later k u (inr q) = omega (arith, ascends-lt slots asc j k q u)
 
 -- a range behind all slots
-pub wrote-beyond : (slots : List ℕ) → ((k : ℕ) → k < length slots → getD slots k 0 < 65536) → (start count : ℕ) (cell : ℕ → FactCell) (kinds values : List ℕ)
+pub wrote-beyond : (slots : List ℕ) (start count : ℕ) (cell : ℕ → FactCell) (kinds values : List ℕ)
     → length kinds ≡ length slots → length values ≡ length slots → ((k : ℕ) → k < length slots → getD slots k 0 < start)
     → Wrote slots (λ slot. inRange slot start count) cell kinds values kinds values
-wrote-beyond slots below start count cell kinds values nk nv h =
-    wrote slots below (λ slot. inRange slot start count) cell kinds values nk nv kinds values refl refl
+wrote-beyond slots start count cell kinds values nk nv h =
+    wrote slots (λ slot. inRange slot start count) cell kinds values nk nv kinds values refl refl
     (λ k l. rw (← before (getD slots k 0) start count (h k (omega arith))))
     (λ k l. rw (← before (getD slots k 0) start count (h k (omega arith))))
 
@@ -97,7 +96,7 @@ wrote-beyond slots below start count cell kinds values nk nv h =
 pub wrote-nowhere : (slots : List ℕ) (writes : ℕ → Bool) (cell : ℕ → FactCell) (kinds values : List ℕ) → length slots ≡ 0 → length kinds ≡ length slots → length values ≡ length slots
     → Wrote slots writes cell kinds values kinds values
 wrote-nowhere slots writes cell kinds values none nk nv =
-    wrote slots (λ k l. absurd (omega arith)) writes cell kinds values nk nv kinds values refl refl (λ k l. absurd (omega arith)) (λ k l. absurd (omega arith))
+    wrote slots writes cell kinds values nk nv kinds values refl refl (λ k l. absurd (omega arith)) (λ k l. absurd (omega arith))
 
 -- so, where the last slot lies before it
 pub last-below : (slots : List ℕ) (start : ℕ) → ascends slots ≡ true → getD slots (length slots - 1) 0 < start → (k : ℕ) → k < length slots → getD slots k 0 < start
@@ -155,13 +154,13 @@ pub record Ranging (w : Written) (sheet slots : List ℕ) (cell : ℕ → FactCe
   pub kinds-long : length kinds ≡ length slots
   pub is : Wrote slots (among w sheet i) cell kinds values kinds′ values′
 
-module _ (w : Written) (sheet slots : List ℕ) (below : (k : ℕ) → k < length slots → getD slots k 0 < 65536) (cell : ℕ → FactCell) (kinds values : List ℕ) where
+module _ (w : Written) (sheet slots : List ℕ) (cell : ℕ → FactCell) (kinds values : List ℕ) where
   pub ranging-start : length kinds ≡ length slots → length values ≡ length slots → Ranging w sheet slots cell kinds values kinds values 0
   unfolding among
   ranging-start nk nv = record {
     within = omega arith;
     kinds-long = nk;
-    is = wrote-none slots below (among w sheet 0) cell kinds values nk nv (λ slot. refl);
+    is = wrote-none slots (among w sheet 0) cell kinds values nk nv (λ slot. refl);
   }
 
   module _ {kinds′ values′ : List ℕ} {i : ℕ} (r : Ranging w sheet slots cell kinds values kinds′ values′ i) where
@@ -171,7 +170,7 @@ module _ (w : Written) (sheet slots : List ℕ) (below : (k : ℕ) → k < lengt
     ranging-more h e u = record {
       within = omega arith;
       kinds-long = r .kinds-long;
-      is = wrote-both (among w sheet (i + 1)) below (r .kinds-long) (λ slot. rw (add-one i, e)) (r .is) u;
+      is = wrote-both (among w sheet (i + 1)) (λ slot. rw (add-one i, e)) (r .is) u;
     }
 
     pub ranging-all : rangeCount w ≤ i → Wrote slots (names w sheet) cell kinds values kinds′ values′

@@ -1,6 +1,6 @@
 -- Facts written into a row, slot by slot.
 -- Assumes nothing.
-use mathlib.Core.Path.{_≡_, refl, sym, ap, subst, _∙_}
+use mathlib.Core.Path.{_≡_, refl, sym, ap, _∙_}
 use mathlib.Core.Bool.{Bool, true, false, cond, _||_}
 use mathlib.Core.List.{List, [], _∷_, map}
 use mathlib.Core.Logic.{_⊎_, inl, inr}
@@ -65,16 +65,6 @@ module _ (cell : ℕ → Fact → Fact) where
   each-at (t ∷ ts) (f ∷ fs) zero n l = refl
   each-at (t ∷ ts) (f ∷ fs) (suc k) n l = each-at ts fs k (omega arith) (le-of-suc-le-suc l)
 
--- a row whose facts are these
-pub each-is : (cell : ℕ → Fact → Fact) (slots : List ℕ) (row goal : Row) → length row ≡ length slots → length goal ≡ length slots
-    → ((k : ℕ) → k < length slots → cell (getD slots k 0) (getD row k unknown) ≡ getD goal k unknown) → eachCell cell slots row ≡ goal
-each-is cell slots row goal n m h =
-    ext-getD unknown (eachCell cell slots row) goal (length-each cell slots row n ∙ sym m)
-    (λ k l. let u : k < length slots = omega (arith, length-each cell slots row n) in each-at cell slots row k n u ∙ h k u)
-
-pub lies-long : {row : Row} {kinds values : List ℕ} → Lies row kinds values → length row ≡ length kinds
-lies-long {row} l = omega (arith, ap length (l .kinds-are), length-map row kind)
-
 -- ---- what is written, as a row
 
 chosen : (f : Fact → ℕ) (t : Bool) (old new : Fact) → cond t (f new) (f old) ≡ f (replaced t old new)
@@ -121,62 +111,62 @@ module _ (f : Fact → ℕ) (none : f unknown ≡ 0) (g : FactCell → ℕ) (agr
           )
           (chosen f (test (getD slots k 0)) (getD row k unknown) (fact (getD slots k 0)))
 
-module _ (slots : List ℕ) (below : (k : ℕ) → k < length slots → getD slots k 0 < 65536) (writes : ℕ → Bool) (cell : ℕ → FactCell) (kinds values : List ℕ)
+module _ (slots : List ℕ) (writes : ℕ → Bool) (cell : ℕ → FactCell) (kinds values : List ℕ)
     (nk : length kinds ≡ length slots) (nv : length values ≡ length slots) where
   -- both tables, by their places
   pub wrote : (kinds′ values′ : List ℕ) → length kinds′ ≡ length kinds → length values′ ≡ length values
       → ((k : ℕ) → k < length kinds → getD kinds′ k 0 ≡ cond (writes (getD slots k 0)) (cell (getD slots k 0) .kind) (getD kinds k 0))
       → ((k : ℕ) → k < length values → getD values′ k 0 ≡ cond (writes (getD slots k 0)) (cell (getD slots k 0) .value) (getD values k 0))
       → Wrote slots writes cell kinds values kinds′ values′
-  unfolding kind value cellOf
   wrote kinds′ values′ mk mv hk hv = record {
-    row = λ row test fact l same cells. record {
-      kinds-are = table-is kind refl (λ c. c .kind) (λ x. refl) slots writes cell row test fact below same cells kinds kinds′ (l .kinds-are) nk mk hk;
-      values-are = table-is value refl (λ c. c .value) (λ x. refl) slots writes cell row test fact below same cells values values′ (l .values-are) nv mv hv;
-    };
     kinds-long = mk ∙ nk;
     values-long = mv ∙ nv;
+    kinds-are = λ k l. hk k (omega arith);
+    values-are = λ k l. hv k (omega arith);
   }
 
   -- nothing
   pub wrote-none : ((slot : ℕ) → writes slot ≡ false) → Wrote slots writes cell kinds values kinds values
   wrote-none h = wrote kinds values refl refl (λ k l. rw (h (getD slots k 0))) (λ k l. rw (h (getD slots k 0)))
 
+  -- Whatever facts the cells stand for, and whatever test holds of the same slots, this is the row that `eachCell` gives. No slot lies past 65,535.
+  pub wrote-row : {kinds′ values′ : List ℕ} → Wrote slots writes cell kinds values kinds′ values′ → ((k : ℕ) → k < length slots → getD slots k 0 < 65536)
+      → (row : Row) (test : ℕ → Bool) (fact : ℕ → Fact) → Lies row kinds values → ((slot : ℕ) → slot < 65536 → writes slot ≡ test slot)
+      → ((slot : ℕ) → cell slot ≡ cellOf (fact slot)) → Lies (eachCell (λ slot f. replaced (test slot) f (fact slot)) slots row) kinds′ values′
+  unfolding kind value cellOf
+  wrote-row {kinds′} {values′} w below row test fact l same cells = record {
+    kinds-are =
+        table-is kind refl (λ c. c .kind) (λ x. refl) slots writes cell row test fact below same cells kinds kinds′ (l .kinds-are) nk
+        (w .kinds-long ∙ sym nk)
+        (λ k h. w .kinds-are k (omega arith));
+    values-are =
+        table-is value refl (λ c. c .value) (λ x. refl) slots writes cell row test fact below same cells values values′ (l .values-are) nv
+        (w .values-long ∙ sym nv)
+        (λ k h. w .values-are k (omega arith));
+  }
+
 -- where another test holds of the same slots
 pub wrote-as : {slots : List ℕ} {writes test : ℕ → Bool} {cell : ℕ → FactCell} {kinds values kinds′ values′ : List ℕ} → ((slot : ℕ) → writes slot ≡ test slot)
     → Wrote slots writes cell kinds values kinds′ values′ → Wrote slots test cell kinds values kinds′ values′
-wrote-as e w = record {
-  row = λ row other fact l same cells. w .row row other fact l (λ slot h. e slot ∙ same slot h) cells;
+wrote-as {slots} e w = record {
   kinds-long = w .kinds-long;
   values-long = w .values-long;
+  kinds-are = λ k h. rw (← e (getD slots k 0)) (w .kinds-are k h);
+  values-are = λ k h. rw (← e (getD slots k 0)) (w .values-are k h);
 }
 
 -- first where one test holds, then where another does
-both : (s t : Bool) (x y : Fact) → replaced t (replaced s x y) y ≡ replaced (s || t) x y
-unfolding replaced
+both : (s t : Bool) (x y : ℕ) → cond t y (cond s y x) ≡ cond (s || t) y x
 both true true x y = refl
 both true false x y = refl
 both false t x y = refl
 
 pub wrote-both : {slots : List ℕ} {first second : ℕ → Bool} {cell : ℕ → FactCell} {kinds values kinds′ values′ kinds″ values″ : List ℕ} (all : ℕ → Bool)
-    → ((k : ℕ) → k < length slots → getD slots k 0 < 65536) → length kinds ≡ length slots → ((slot : ℕ) → all slot ≡ first slot || second slot)
+    → ((slot : ℕ) → all slot ≡ first slot || second slot)
     → Wrote slots first cell kinds values kinds′ values′ → Wrote slots second cell kinds′ values′ kinds″ values″ → Wrote slots all cell kinds values kinds″ values″
-wrote-both {slots} {first} {second} {cell} {kinds} {values} {kinds′} {values′} {kinds″} {values″} all below n is u w = record {
-  row = λ row test fact l same cells.
-      subst (λ (r : Row). Lies r kinds″ values″) (twice row test fact (lies-long l ∙ n) same)
-      (w .row _ second fact (u .row row first fact l (λ slot h. refl) cells) (λ slot h. refl) cells);
+wrote-both {slots} {first} {second} all is u w = record {
   kinds-long = w .kinds-long;
   values-long = w .values-long;
+  kinds-are = λ k h. rw (w .kinds-are k h, u .kinds-are k h, is (getD slots k 0)) (both (first (getD slots k 0)) (second (getD slots k 0)) _ _);
+  values-are = λ k h. rw (w .values-are k h, u .values-are k h, is (getD slots k 0)) (both (first (getD slots k 0)) (second (getD slots k 0)) _ _);
 }
-  where
-    step : (ℕ → Bool) → (ℕ → Fact) → ℕ → Fact → Fact
-    step test fact slot x = replaced (test slot) x (fact slot)
-
-    twice : (row : Row) (test : ℕ → Bool) (fact : ℕ → Fact) → length row ≡ length slots → ((slot : ℕ) → slot < 65536 → all slot ≡ test slot)
-        → eachCell (step second fact) slots (eachCell (step first fact) slots row) ≡ eachCell (step test fact) slots row
-    twice row test fact m same =
-        each-is (step second fact) slots (eachCell (step first fact) slots row) (eachCell (step test fact) slots row)
-        (length-each (step first fact) slots row m) (length-each (step test fact) slots row m)
-        (λ k l.
-        rw (each-at (step first fact) slots row k m l, each-at (step test fact) slots row k m l, ← same (getD slots k 0) (below k l), is (getD slots k 0))
-        (both (first (getD slots k 0)) (second (getD slots k 0)) (getD row k unknown) (fact (getD slots k 0))))

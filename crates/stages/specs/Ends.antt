@@ -8,10 +8,10 @@ use lib.ListN.{take}
 use Rattle.model.specs.Charges.{overBudget, noRoom, Spent, ok, stop, unfinished, Metered}
 use Rattle.model.specs.Fact.{Fact}
 use Rattle.model.specs.Analyses.{Analysed}
-use Rattle.model.specs.Call.{Table, counts, tables, zeros, filled, zeroTable, filledTable}
+use Rattle.model.specs.Call.{Table, Scratch, counts, tables, zeros, filled, zeroTable, filledTable}
 use Rattle.model.specs.declared.AnalysisKind.{AnalysisKind}
 use Rattle.stages.specs.Parts.{behindRoom, Behind, behind}
-use Rattle.stages.specs.Stage.{Scratch, zeroScratch}
+use Rattle.stages.specs.Stage.{zeroScratch}
 use Rattle.ending.specs.declared.Staged.{Staged}
 use Rattle.ending.specs.declared.Staged.the-variants.{Done, OverBudget, NoRoom}
 

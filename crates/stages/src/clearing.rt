@@ -1,7 +1,7 @@
 // Clearing of what is lent, over its whole length.
 ghost use mathlib.Core.Path.{_≡_};
-ghost use Rattle.model.specs.Call.{zeroTable};
-ghost use Rattle.stages.specs.Stage.{table, scratch, zeroScratch, tableIf};
+ghost use Rattle.model.specs.Call.{table, scratch, zeroTable};
+ghost use Rattle.stages.specs.Stage.{zeroScratch, tableIf};
 use memory::clear_u8;
 use memory::clear_u16;
 use memory::clear_u64;

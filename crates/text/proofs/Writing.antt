@@ -1,13 +1,14 @@
 -- A text in a buffer: how a loop writes it, and how one text is written behind another.
 -- Assumes nothing.
-use mathlib.Core.Path.{_≡_, sym, ap, ap₂, _∙_}
-use mathlib.Core.List.{List, _++_, append-assoc}
+use mathlib.Core.Path.{_≡_, refl, sym, ap, ap₂, _∙_}
+use mathlib.Core.List.{List, [], _++_, append-assoc, append-nil}
+use mathlib.Core.Option.{some}
 use Prim.Native.Nat.{ℕ, _+_, _≤_, _<_}
 use native.Mathlib.Numerals.{add-one}
 use native.Mathlib.Omega.{arith}
-use lib.ListN.{length, getD, take, drop, set, length-append}
-use lib.Seq.{paste, paste-suc, length-paste, drop-append-add, drop-drop, length-take-le, take-all, take-at}
-use Rattle.text.specs.Text.{Wrote, Added}
+use lib.ListN.{length, getD, take, drop, set, length-append, take-append-drop}
+use lib.Seq.{paste, paste-suc, length-paste, drop-append-add, drop-drop, length-take-le, take-all, take-at, drop-at}
+use Rattle.text.specs.Text.{Added, Shows}
 
 -- ---- a loop that writes a text
 
@@ -67,6 +68,20 @@ pub then-two : {m k : ℕ} {first old mid new : List ℕ} {at a next : ℕ} (sec
     → Added k (second ++ third) a mid next new → Added (m + k) (first ++ second ++ third) at old next new
 then-two {first} second third w v = rw (append-assoc first second third) (then w v)
 
+-- no text
+pub nothing : (old : List ℕ) (at : ℕ) → at ≤ length old → Added 0 [] at old at old
+nothing old at h = record {
+  counts = omega arith;
+  short = omega arith;
+  within = h;
+  bytes = sym (ap (λ (x : List ℕ). x ++ drop at old) (append-nil (take at old)) ∙ take-append-drop at old);
+  long = refl;
+}
+
 -- from the front on
-pub front : {m : ℕ} {text old new : List ℕ} {next : ℕ} → Added m text 0 old next new → Wrote m text old next new
-front w = record { counts = omega (arith, w .counts); short = omega (arith, w .short); bytes = w .bytes }
+pub shows : {m : ℕ} {text old new : List ℕ} {next : ℕ} → Added m text 0 old next new → Shows (some text) old next new
+shows {text} {old} {new} {next} w = record {
+  within = omega (arith, w .within, w .long);
+  front = ap some (sym (ap (take next) (w .bytes) ∙ take-at text (drop next old) next (omega (arith, w .counts))));
+  rest = ap (drop next) (w .bytes) ∙ drop-at text (drop next old) next (omega (arith, w .counts));
+}

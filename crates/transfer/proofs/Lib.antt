@@ -1,3 +1,4 @@
 -- The laws of this crate.
 pub mod Named
+pub mod Found
 pub mod Through

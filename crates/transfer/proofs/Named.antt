@@ -1,33 +1,27 @@
 -- The slots that an instruction writes, as one range or several.
 -- Assumes nothing.
-use mathlib.Core.Path.{_≡_, refl, ap, _∙_}
-use mathlib.Core.Logic.{_≢_}
-use mathlib.Core.Bool.{Bool, true, false}
+use mathlib.Core.Path.{_≡_, refl, _∙_}
+use mathlib.Core.Bool.{Bool, true, false, _&&_}
 use mathlib.Core.List.{List}
-use Prim.Native.Nat.{ℕ, _+_, _*_, _≤_, _<_}
+use Prim.Native.Nat.{ℕ, _+_, _*_, _≤_, _<_, min}
 use native.Mathlib.Omega.{arith}
 use lib.Dec.{leb}
-use lib.ListN.{getD}
 use borrow.Author.Tests.{lt-ltb, le-ltb, le-leb}
-use Rattle.model.specs.Fact.{Fact, kind, value, Row}
-use Rattle.model.specs.Sheet.{instruction, codeCount, firstRange, writeCount, erred}
-use Rattle.model.specs.Tables.{factIn, factOf, cellOf}
+use Rattle.model.specs.Fact.{Fact, unknown, conflict, known, Row}
+use Rattle.model.specs.Sheet.{instruction, writeCount, erred, rangesOf, firstRange}
 use Rattle.model.specs.Transfer.{factFor}
-use Rattle.model.specs.Written.{inRange, rangesWrite, slotLayoutNote, hasElements, noteElemSlots, written, indexWritten}
-use Rattle.model.specs.declared.FactCell.{FactCell}
-use Rattle.model.specs.declared.Instruction.{Instruction}
+use Rattle.model.specs.Written.{inRange, rangesWrite, slotLayoutNote, hasElements, Writes, slotSet, slotSetN, byRanges, writes, writtenBy, written, noteElemSlots, indexWrittenBy, indexWritten}
 use Rattle.model.specs.declared.AnalysisKind.{AnalysisKind}
 use Rattle.model.specs.declared.AnalysisKind.the-variants.{Constant, IndexCheck, Container}
-use Rattle.memory.specs.Front.{Holds}
+use Rattle.model.proofs.Tests.{and-true}
 use Rattle.sheet.specs.Measured.{Accepted}
 use Rattle.sheet.specs.declared.Sizes.{Sizes}
-use Rattle.writes.proofs.Rules.{all-written, ranges-inside, by-ranges, set-written, elements-written, nothing-written, ranges-written, not-checked, as-others, set-checked, setn-checked}
-use Rattle.fact_cells.proofs.Facts.{read}
+use Rattle.sheet.proofs.Asked.{ranges-fit}
+use Rattle.ranges.proofs.InRange.{span-reaches}
 use Rattle.rows.specs.Slots.{names, lastRange, Names}
-use Rattle.rows.specs.declared.Written.{Written}
-use Rattle.rows.specs.declared.Written.the-variants.{Span, Ranges}
+use Rattle.rows.specs.declared.Written.the-variants.{Span}
 use Rattle.transfer.specs.Analysis.{slotWritten}
-use Rattle.model.proofs.Tests.{and-true}
+use Rattle.transfer.specs.Spans.{rangeSpans, elementSpans, spansBy, spans, indexSpansBy, indexSpans, slotsWritten}
 
 -- 65,536 slots from a on are all from a up
 from-up : (slot a : ℕ) → slot < 65536 → inRange slot a 65536 ≡ leb a slot
@@ -43,84 +37,46 @@ module _ (sheet : List ℕ) (sizes : Sizes) where
   unfolding names lastRange
   span-names start count test h = record { slots = h; fits = omega arith }
 
-  -- another test of the same slots
-  pub renamed : {r : Written} {test other : ℕ → Bool} → Names r sheet sizes test → ((slot : ℕ) (t : Bool) → t ≡ test slot → t ≡ other slot) → Names r sheet sizes other
-  renamed {r} n h = record { slots = λ slot l. h slot (names r sheet slot) (n .slots slot l); fits = n .fits }
+  element-names : (pc : ℕ) (has : Bool) → Names (elementSpans has sheet pc) sheet sizes (λ slot. has && leb (instruction sheet pc .a) slot)
+  unfolding elementSpans
+  element-names pc true = span-names (instruction sheet pc .a) 65536 _ (λ slot l. from-up slot (instruction sheet pc .a) l)
+  element-names pc false = span-names 0 0 _ (λ slot l. none-in slot)
 
--- ---- by ranges
+module _ {sheet : List ℕ} {sizes : Sizes} (a : Accepted sheet sizes) (pc : ℕ) (h : pc < sizes .«code_count») where
+  inside : erred sheet pc ≡ false → firstRange sheet pc + writeCount sheet pc ≤ sizes .«range_count»
+  unfolding rangesOf
+  inside q = rw q at (ranges-fit a pc h)
 
-module _ {sheet : List ℕ} {sizes : Sizes} (a : Accepted sheet sizes) {firsts : List ℕ} (t : Holds (firstRange sheet) (codeCount sheet) firsts)
-    (pc : ℕ) (h : pc < sizes .«code_count») (count : ℕ) (is : count ≡ writeCount sheet pc) where
-  pub erred-names : count ≡ 65535 → Names (Span 0 65536) sheet sizes (rangesWrite (erred sheet pc) sheet pc)
-  erred-names e = span-names sheet sizes 0 65536 _ (λ slot l. from-up slot 0 l ∙ le-leb 0 slot (omega arith) ∙ all-written a t pc h count is e slot)
+  range-names : (e : Bool) → erred sheet pc ≡ e → Names (rangeSpans e sheet pc) sheet sizes (rangesWrite e sheet pc)
+  unfolding rangeSpans rangesWrite names lastRange
+  range-names true q = span-names sheet sizes 0 65536 _ (λ slot l. from-up slot 0 l ∙ le-leb 0 slot (omega arith))
+  range-names false q = record { slots = λ slot l. refl; fits = inside q }
 
-  pub ranges-names : count ≢ 65535 → {first n : ℕ} → first ≡ getD firsts pc 0 → n ≡ count → Names (Ranges first n) sheet sizes (rangesWrite (erred sheet pc) sheet pc)
-  unfolding names lastRange
-  ranges-names e p q = rw (p, q) record {
-    slots = λ slot l. by-ranges a t pc h count is e slot _ refl;
-    fits = ranges-inside a t pc h count is e;
-  }
+  names-by : (w : Writes) → Names (spansBy w sheet pc) sheet sizes (writtenBy w sheet pc)
+  unfolding spansBy writtenBy
+  names-by slotSet = span-names sheet sizes (instruction sheet pc .a) 65536 _ (λ slot l. from-up slot (instruction sheet pc .a) l)
+  names-by slotSetN = element-names sheet sizes pc (hasElements (slotLayoutNote sheet pc) sheet pc)
+  names-by byRanges = range-names (erred sheet pc) refl
 
--- ---- by the opcode
+  spans-name : Names (spans sheet pc) sheet sizes (written sheet pc)
+  unfolding spans written
+  spans-name = names-by (writes (instruction sheet pc .op))
 
-module _ (sheet : List ℕ) (sizes : Sizes) (pc : ℕ) (inst : Instruction) (e : inst ≡ instruction sheet pc) where
-  pub set-names : inst .op ≡ 6 → Names (Span (inst .a) 65536) sheet sizes (written sheet pc)
-  set-names h = span-names sheet sizes (inst .a) 65536 _ (λ slot l. from-up slot (inst .a) l ∙ set-written sheet pc slot inst e h)
+  index-names-by : (w : Writes) (before : Fact) → Names (indexSpansBy w before sheet pc) sheet sizes (indexWrittenBy w before sheet pc)
+  unfolding indexSpansBy indexWrittenBy
+  index-names-by slotSet (known k len) = span-names sheet sizes (instruction sheet pc .a) (min len 65536 * 1) _ (λ slot l. span-reaches len 1 refl slot (instruction sheet pc .a) l)
+  index-names-by slotSet unknown = spans-name
+  index-names-by slotSet conflict = spans-name
+  index-names-by slotSetN (known k len) =
+      let elem = noteElemSlots (slotLayoutNote sheet pc) sheet pc in
+      span-names sheet sizes (instruction sheet pc .a) (min len 65536 * elem) _ (λ slot l. span-reaches len elem refl slot (instruction sheet pc .a) l)
+  index-names-by slotSetN unknown = spans-name
+  index-names-by slotSetN conflict = spans-name
+  index-names-by byRanges before = spans-name
 
-  module _ (h : inst .op ≡ 8) {has : Bool} (is : has ≡ hasElements (slotLayoutNote sheet pc) sheet pc) where
-    pub elements-names : has ≡ true → Names (Span (inst .a) 65536) sheet sizes (written sheet pc)
-    elements-names q = span-names sheet sizes (inst .a) 65536 _ (λ slot l. from-up slot (inst .a) l ∙ elements-written sheet pc slot inst e h has is q)
-
-    pub nothing-names : has ≡ false → Names (Span 0 0) sheet sizes (written sheet pc)
-    nothing-names q = span-names sheet sizes 0 0 _ (λ slot l. none-in slot ∙ nothing-written sheet pc slot inst e h has is q)
-
-  pub other-names : inst .op ≢ 6 → inst .op ≢ 8 → {r : Written} → Names r sheet sizes (rangesWrite (erred sheet pc) sheet pc) → Names r sheet sizes (written sheet pc)
-  other-names h k n = renamed sheet sizes n (λ slot t q. ranges-written sheet pc slot inst e h k t q)
-
-  -- ---- "In the index analysis", with b's cell
-
-  module _ (fact : Fact) {cell : FactCell} (is : cell ≡ cellOf fact) where
-    fact-is : factOf (cell .kind) (cell .value) ≡ fact
-    unfolding factIn
-    fact-is = read fact is
-
-    pub unchecked-names : cell .kind ≤ 1 → {r : Written} → Names r sheet sizes (written sheet pc) → Names r sheet sizes (indexWritten sheet pc fact)
-    unchecked-names l n =
-        renamed sheet sizes n (λ slot t q. not-checked sheet pc slot inst e (cell .kind) (cell .value) l t q ∙ ap (λ (f : Fact). indexWritten sheet pc f slot) fact-is)
-
-    module _ (l : 1 < cell .kind) {count : ℕ} where
-      pub checked-names : inst .op ≡ 6 → ((slot start : ℕ) → slot < 65536 → inRange slot start count ≡ inRange slot start (cell .value * 1))
-          → Names (Span (inst .a) count) sheet sizes (indexWritten sheet pc fact)
-      checked-names h q =
-          span-names sheet sizes (inst .a) count _
-          (λ slot u.
-          set-checked sheet pc slot inst e u count _ refl (cell .kind) (cell .value) l h q ∙ ap (λ (f : Fact). indexWritten sheet pc f slot) fact-is)
-
-      pub checked-n-names : inst .op ≡ 8 → (elem : ℕ) → elem ≡ noteElemSlots (slotLayoutNote sheet pc) sheet pc
-          → ((slot start : ℕ) → slot < 65536 → inRange slot start count ≡ inRange slot start (cell .value * elem))
-          → Names (Span (inst .a) count) sheet sizes (indexWritten sheet pc fact)
-      checked-n-names h elem p q =
-          span-names sheet sizes (inst .a) count _
-          (λ slot u.
-          setn-checked sheet pc slot inst e u count _ refl (cell .kind) (cell .value) elem l h p q ∙ ap (λ (f : Fact). indexWritten sheet pc f slot) fact-is)
-
-  pub as-others-names : (fact : Fact) → inst .op ≢ 6 → inst .op ≢ 8 → {r : Written} → Names r sheet sizes (written sheet pc) → Names r sheet sizes (indexWritten sheet pc fact)
-  unfolding factIn cellOf
-  as-others-names fact h k n =
-      renamed sheet sizes n
-      (λ slot t q. as-others sheet pc slot inst e (kind fact) (value fact) h k t q ∙ ap (λ (f : Fact). indexWritten sheet pc f slot) (read fact refl))
-
--- ---- by the analysis
-
-module _ (sheet : List ℕ) (sizes : Sizes) (pc : ℕ) (inst : Instruction) (e : inst ≡ instruction sheet pc) (slots : List ℕ) (row : Row) {which : AnalysisKind} {r : Written} where
-  pub constant-names : which ≡ Constant → Names r sheet sizes (written sheet pc) → Names r sheet sizes (slotWritten which sheet pc slots row)
-  unfolding slotWritten
-  constant-names w n = rw w n
-
-  pub container-names : which ≡ Container → Names r sheet sizes (written sheet pc) → Names r sheet sizes (slotWritten which sheet pc slots row)
-  unfolding slotWritten
-  container-names w n = rw w n
-
-  pub index-names : which ≡ IndexCheck → Names r sheet sizes (indexWritten sheet pc (factFor slots row (inst .b))) → Names r sheet sizes (slotWritten which sheet pc slots row)
-  unfolding slotWritten
-  index-names w n = rw w (renamed sheet sizes n (λ slot t q. q ∙ ap (λ (x : Instruction). indexWritten sheet pc (factFor slots row (x .b)) slot) e))
+  -- they are the slots that the instruction writes in an analysis
+  pub written-names : (which : AnalysisKind) (slots : List ℕ) (row : Row) → Names (slotsWritten which sheet pc slots row) sheet sizes (slotWritten which sheet pc slots row)
+  unfolding slotsWritten slotWritten indexSpans indexWritten
+  written-names Constant slots row = spans-name
+  written-names IndexCheck slots row = index-names-by (writes (instruction sheet pc .op)) (factFor slots row (instruction sheet pc .b))
+  written-names Container slots row = spans-name

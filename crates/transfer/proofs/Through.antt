@@ -3,8 +3,9 @@
 use mathlib.Core.Path.{_≡_, refl, subst}
 use mathlib.Core.Bool.{Bool, true, false}
 use mathlib.Core.List.{List}
-use Prim.Native.Nat.{ℕ}
+use Prim.Native.Nat.{ℕ, _<_}
 use lib.Dec.{eqb}
+use lib.ListN.{length, getD}
 use Rattle.model.specs.Fact.{Fact, Row}
 use Rattle.model.specs.Sheet.{instruction}
 use Rattle.model.specs.Tables.{cellOf}
@@ -15,19 +16,24 @@ use Rattle.model.specs.declared.AnalysisKind.{AnalysisKind}
 use Rattle.model.specs.declared.AnalysisKind.the-variants.{Constant, IndexCheck, Container}
 use Rattle.sheet.specs.declared.Sizes.{Sizes}
 use Rattle.search.specs.Rows.{Lies}
-use Rattle.effects.specs.Effect.{factWritten}
+use Rattle.effects.specs.Effect.{effectCell, factWritten, effectOf}
+use Rattle.effects.specs.declared.Effect.{Effect}
+use Rattle.effects.proofs.Rules.{effect-cells}
 use Rattle.rows.specs.Slots.{names, Names}
 use Rattle.rows.specs.Wrote.{Wrote}
 use Rattle.rows.specs.declared.Written.{Written}
+use Rattle.rows.proofs.Writing.{wrote-row}
 use Rattle.transfer.specs.Analysis.{slotWritten, checksIndex}
 
 -- ---- IndexCheck
 
 module _ (inst : Instruction) (slots : List ℕ) (fact : Fact) {test : Bool} {kinds values : List ℕ} (row : Row) (l : Lies row kinds values) where
   pub index-checked : {t : Bool} → t ≡ test → t ≡ true → {slot : ℕ} → slot ≡ inst .a → {cell : FactCell} → cell ≡ cellOf fact → {kinds′ values′ : List ℕ}
+      → length kinds ≡ length slots → length values ≡ length slots → ((k : ℕ) → k < length slots → getD slots k 0 < 65536)
       → Wrote slots (λ t. eqb t slot) (λ t. cell) kinds values kinds′ values′ → Lies (indexChecked test inst slots fact row) kinds′ values′
   unfolding indexChecked put
-  index-checked p q s e w = rw (← p, q) (w .row row (λ t. eqb t (inst .a)) (λ t. fact) l (λ t h. rw s) (λ t. e))
+  index-checked p q s e nk nv below w =
+      rw (← p, q) (wrote-row slots _ _ kinds values nk nv w below row (λ t. eqb t (inst .a)) (λ t. fact) l (λ t h. rw s) (λ t. e))
 
   pub not-checked : {t : Bool} → t ≡ test → t ≡ false → Lies (indexChecked test inst slots fact row) kinds values
   unfolding indexChecked
@@ -47,12 +53,15 @@ module _ (sheet : List ℕ) (pc : ℕ) (slots : List ℕ) (row : Row) where
   transfer-is Container f = refl
 
   pub transferred : (which : AnalysisKind) (fact : Fact) (inst : Instruction) → inst ≡ instruction sheet pc → {kinds values copied-kinds copied-values : List ℕ} → Lies row kinds values
-      → copied-kinds ≡ kinds → copied-values ≡ values → (w : Written) (sizes : Sizes) → Names w sheet sizes (slotWritten which sheet pc slots row)
-      → (cell : ℕ → FactCell) → ((slot : ℕ) → cell slot ≡ cellOf (factWritten which sheet pc slots row slot))
-      → {kinds′ values′ kinds″ values″ : List ℕ} → Wrote slots (names w sheet) cell copied-kinds copied-values kinds′ values′
+      → copied-kinds ≡ kinds → copied-values ≡ values → length kinds ≡ length slots → length values ≡ length slots → ((k : ℕ) → k < length slots → getD slots k 0 < 65536)
+      → (w : Written) (sizes : Sizes) → Names w sheet sizes (slotWritten which sheet pc slots row)
+      → (effect : Effect) → effect ≡ effectOf which sheet pc slots row
+      → {kinds′ values′ kinds″ values″ : List ℕ} → Wrote slots (names w sheet) (effectCell effect slots row) copied-kinds copied-values kinds′ values′
       → ((r : Row) → Lies r kinds′ values′ → Lies (indexChecked (checksIndex which (inst .op)) inst slots (checkedFrom fact) r) kinds″ values″)
       → Lies (transferRow which sheet slots (λ p. fact) pc row) kinds″ values″
   unfolding written-row
-  transferred which fact inst e l ck cv w sizes n cell cells {kinds″ = ks} {values″ = vs} wr check =
+  transferred which fact inst e l ck cv nk nv below w sizes n effect is {kinds″ = ks} {values″ = vs} wr check =
       subst (λ (r : Row). Lies r ks vs) (transfer-is which (λ p. fact))
-      (rw e at (check (written-row which) (wr .row row (slotWritten which sheet pc slots row) (factWritten which sheet pc slots row) (rw (ck, cv) l) (n .slots) cells)))
+      (rw e at (check (written-row which)
+      (wrote-row slots _ _ _ _ (rw ck nk) (rw cv nv) wr below row (slotWritten which sheet pc slots row) (factWritten which sheet pc slots row) (rw (ck, cv) l) (n .slots)
+      (λ slot. rw is (effect-cells sheet pc slots row slot which)))))

@@ -4,12 +4,10 @@ ghost use Prim.Native.Nat.{_<_};
 ghost use Rattle.model.specs.Sheet.{instruction, codeCount, firstRange, erred};
 ghost use Rattle.model.specs.Tables.{factsOf};
 ghost use Rattle.model.specs.Transfer.{factFor};
-ghost use Rattle.model.specs.Written.{rangesWrite, written, indexWritten};
 ghost use Rattle.memory.specs.Front.{Holds};
 ghost use Rattle.sheet.specs.Measured.{Accepted};
 ghost use Rattle.search.specs.Rows.{Tracked};
-ghost use Rattle.rows.specs.Slots.{Names};
-ghost use Rattle.transfer.specs.Analysis.{slotWritten};
+ghost use Rattle.transfer.specs.Spans.{rangeSpans, spans, indexSpans, slotsWritten};
 use model::AnalysisKind;
 use model::Instruction;
 use rows::Written;
@@ -25,7 +23,7 @@ const SLOT_SET_N: u8 = 8;
 // "For all other opcodes the ranges decide .., and an erring visitor writes all."
 fn ranges_written(sheet: &[u8], sizes: Sizes, firsts: &[u16], pc: usize) -> Written
     requires { ⌜ Accepted (now sheet) sizes × Holds (firstRange (now sheet)) (codeCount (now sheet)) (now firsts) × (pc < sizes .«code_count») ⌝ }
-    ensures { λ r. ⌜ Names r (now (sheet .entry)) sizes (rangesWrite (erred (now (sheet .entry)) pc) (now (sheet .entry)) pc) ⌝ }
+    ensures { λ r. ⌜ r ≡ rangeSpans (erred (now (sheet .entry)) pc) (now (sheet .entry)) pc ⌝ }
 {
     let count = code::write_count_at(sheet, sizes, pc);
     if count == 65535 {
@@ -50,7 +48,7 @@ fn instruction_writes(
 ) -> Written
     requires { ⌜ Accepted (now sheet) sizes × Holds (firstRange (now sheet)) (codeCount (now sheet)) (now firsts) × (pc < sizes .«code_count») ⌝ }
     requires { ⌜ inst ≡ instruction (now sheet) pc ⌝ }
-    ensures { λ r. ⌜ Names r (now (sheet .entry)) sizes (written (now (sheet .entry)) pc) ⌝ }
+    ensures { λ r. ⌜ r ≡ spans (now (sheet .entry)) pc ⌝ }
 {
     let op = inst.op;
     if op == SLOT_SET {
@@ -84,7 +82,7 @@ fn index_check_instruction_writes(
 ) -> Written
     requires { ⌜ Accepted (now sheet) sizes × Holds (firstRange (now sheet)) (codeCount (now sheet)) (now firsts) × (pc < sizes .«code_count») ⌝ }
     requires { ⌜ (inst ≡ instruction (now sheet) pc) × Tracked (now slots) (now kinds) (now values) ⌝ }
-    ensures { λ r. ⌜ Names r (now (sheet .entry)) sizes (indexWritten (now (sheet .entry)) pc (factFor (now (slots .entry)) (factsOf (now (kinds .entry)) (now (values .entry))) (inst .b))) ⌝ }
+    ensures { λ r. ⌜ r ≡ indexSpans (now (sheet .entry)) pc (factFor (now (slots .entry)) (factsOf (now (kinds .entry)) (now (values .entry))) (inst .b)) ⌝ }
 {
     let op = inst.op;
     if op == SLOT_SET {
@@ -124,7 +122,7 @@ pub fn slots_written(
 ) -> Written
     requires { ⌜ Accepted (now sheet) sizes × Holds (firstRange (now sheet)) (codeCount (now sheet)) (now firsts) × (pc < sizes .«code_count») ⌝ }
     requires { ⌜ (inst ≡ instruction (now sheet) pc) × Tracked (now slots) (now kinds) (now values) ⌝ }
-    ensures { λ r. ⌜ Names r (now (sheet .entry)) sizes (slotWritten which (now (sheet .entry)) pc (now (slots .entry)) (factsOf (now (kinds .entry)) (now (values .entry)))) ⌝ }
+    ensures { λ r. ⌜ r ≡ slotsWritten which (now (sheet .entry)) pc (now (slots .entry)) (factsOf (now (kinds .entry)) (now (values .entry))) ⌝ }
 {
     match which {
         AnalysisKind::Constant => instruction_writes(sheet, sizes, firsts, pc, inst),

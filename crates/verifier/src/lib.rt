@@ -1,12 +1,11 @@
 // The call: questions 1 to 8, all charges, and the three analyses, on any bytes and any lent buffers.
 ghost use mathlib.Core.Path.{_≡_};
 ghost use mathlib.Core.Option.{some};
-ghost use Rattle.model.specs.Call.{result, analyzed};
+ghost use Rattle.model.specs.Call.{table, scratch, lent, result, analyzed};
 ghost use Rattle.model.specs.CallDemand.{LentDemand};
 ghost use Rattle.model.specs.declared.Answer.the-variants.{Analyzed};
 ghost use Rattle.model.specs.declared.Counts.{Counts};
 ghost use Rattle.model.specs.declared.VerifierResources.{VerifierResources};
-ghost use Rattle.stages.specs.Stage.{table, scratch, lent};
 use admission::Admission;
 use admission::admit;
 use answers::refuses;

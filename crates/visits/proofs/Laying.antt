@@ -188,10 +188,10 @@ module _ {sheet : List ℕ} {sizes : Sizes} {starts : List ℕ} {q : ℕ} {rowKi
       → Encoded (midOf (q * length rowKinds) (q * length rowKinds + length rowKinds - q * length rowKinds) kinds)
       (midOf (q * length rowKinds) (q * length rowKinds + length rowKinds - q * length rowKinds) values)
   visiting-row v e =
-      let t : RowsLaid (length rowKinds) (v .laid .0) present kinds values = v .laid .1 in
-      let found : (o : Row) × (rowAt (v .laid .0) q ≡ some o) = there (rowAt (v .laid .0) q) (λ z. e (rw (t .present-are) (present-at (v .laid .0) q ∙ z))) in
-      let h : q < length (v .laid .0) = omega (arith, v .below, ap length (t .present-are) ∙ length-present (v .laid .0)) in
-      encoded (length rowKinds) q (v .laid .0) present kinds values t h (found .0) (found .1)
+      let t = v .laid in
+      let found : (o : Row) × (rowAt (v .rows) q ≡ some o) = there (rowAt (v .rows) q) (λ z. e (rw (t .present-are) (present-at (v .rows) q ∙ z))) in
+      let h : q < length (v .rows) = omega (arith, v .below, rows-are (length rowKinds) (v .rows) present kinds values t) in
+      encoded (length rowKinds) q (v .rows) present kinds values t h (found .0) (found .1)
 
   -- and as long as the row to join
   pub visiting-lengths : Visiting sheet sizes starts q rowKinds rowValues present kinds values
@@ -212,5 +212,8 @@ offering-visit o h = record {
   row-values-length = o .row-values-length;
   kinds-length = o .kinds-length;
   values-length = o .values-length;
-  laid = o .laid;
+  rows = o .st .rows;
+  copy = o .copy;
+  laid = o .laid .rows-laid;
+  row-laid = o .row-laid;
 }

@@ -164,7 +164,10 @@ module _ {same : ℕ → ℕ → ℕ → ℕ → Bool} {sheet : List ℕ} {sizes
       row-values-length = f .row-values-length;
       kinds-length = f .kinds-length;
       values-length = f .values-length;
-      laid = (f .st .rows, f .laid .rows-laid);
+      st = f .st;
+      copy = f .copy;
+      laid = f .laid;
+      row-laid = f .row-laid;
     }
 
     pub second-offering : (present′ kinds′ values′ list′ : List ℕ) (top′ : ℕ)
@@ -186,7 +189,10 @@ module _ {same : ℕ → ℕ → ℕ → ℕ → Bool} {sheet : List ℕ} {sizes
           row-values-length = f .row-values-length;
           kinds-length = rw (hk, hp) (f .kinds-length);
           values-length = rw (hv, hp) (f .values-length);
-          laid = (_, l .rows-laid);
+          st = visits same (f .copy) (at (sheetSuccessors sheet p) 0) (f .st);
+          copy = f .copy;
+          laid = rw hl l;
+          row-laid = f .row-laid;
         }
 
     pub followed : (present′ kinds′ values′ list′ : List ℕ) (top′ : ℕ) (present″ kinds″ values″ list″ : List ℕ) (top″ : ℕ)

@@ -28,10 +28,6 @@ pub record RowsLaid (s : ℕ) (rows : List (Option Row)) (present kinds values :
   pub kinds-are : kinds ≡ cells kind s rows
   pub values-are : values ≡ cells value s rows
 
--- some rows lie there
-abbrev pub Laid : ℕ → List ℕ → List ℕ → List ℕ → Type 0
-Laid s present kinds values = (rows : List (Option Row)) × RowsLaid s rows present kinds values
-
 -- one row lies in two slices
 pub record RowLaid (s : ℕ) (r : Row) (kinds values : List ℕ) : Type 0 where
   pub sized : length r ≡ s
@@ -44,7 +40,8 @@ pub record StateLaid (s room : ℕ) (st : State) (present kinds values list : Li
   pub list-is : list ≡ stacked room (st .list)
   pub top-is : top ≡ length (st .list)
 
--- What a visit asks: the sheet and where its layouts begin, a row to copy or to join, and tables in which rows lie.
+-- What a visit asks: the sheet and where its layouts begin, tables in which rows lie, and a row to copy or to join. (The lengths follow
+-- from what lies there; arithmetic reads them.)
 pub record Visiting (sheet : List ℕ) (sizes : Sizes) (starts : List ℕ) (q : ℕ) (rowKinds rowValues present kinds values : List ℕ) : Type 0 where
   pub accepted : Accepted sheet sizes
   pub starts-are : Holds (layoutStart sheet) (layoutCount sheet) starts
@@ -52,7 +49,10 @@ pub record Visiting (sheet : List ℕ) (sizes : Sizes) (starts : List ℕ) (q : 
   pub row-values-length : length rowValues ≡ length rowKinds
   pub kinds-length : length kinds ≡ length present * length rowKinds
   pub values-length : length values ≡ length present * length rowKinds
-  pub laid : Laid (length rowKinds) present kinds values
+  pub rows : List (Option Row)
+  pub copy : Row
+  pub laid : RowsLaid (length rowKinds) rows present kinds values
+  pub row-laid : RowLaid (length rowKinds) copy rowKinds rowValues
 
 -- What a visit of q makes of whatever rows lie in the tables: the row is the copy or is joined with it, and the answer says whether there is news.
 unfoldable pub Visit : (ℕ → ℕ → ℕ → ℕ → Bool) → ℕ → ℕ → List ℕ → List ℕ → List ℕ → List ℕ → List ℕ → List ℕ → List ℕ → List ℕ → Bool → Type 0
@@ -64,7 +64,8 @@ Visit same s q rowKinds rowValues present kinds values present′ kinds′ value
 unfoldable pub successorAt : InstructionSuccessors → ℕ → List ℕ
 successorAt successors k = cond (ltb k (successors .len)) (getD (successors .pcs) k 0 ∷ []) []
 
--- What an offer asks: what a visit does, room for one more entry, and that the successor, if there is one, is an instruction.
+-- What an offer asks: what a visit does, a state in the tables and the list, room for one more entry, and that the successor, if there is
+-- one, is an instruction.
 pub record Offering (sheet : List ℕ) (sizes : Sizes) (starts : List ℕ) (successors : InstructionSuccessors) (k top : ℕ) (rowKinds rowValues present kinds values list : List ℕ) : Type 0 where
   pub accepted : Accepted sheet sizes
   pub starts-are : Holds (layoutStart sheet) (layoutCount sheet) starts
@@ -76,7 +77,10 @@ pub record Offering (sheet : List ℕ) (sizes : Sizes) (starts : List ℕ) (succ
   pub row-values-length : length rowValues ≡ length rowKinds
   pub kinds-length : length kinds ≡ length present * length rowKinds
   pub values-length : length values ≡ length present * length rowKinds
-  pub laid : Laid (length rowKinds) present kinds values
+  pub st : State
+  pub copy : Row
+  pub laid : StateLaid (length rowKinds) (length list) st present kinds values list top
+  pub row-laid : RowLaid (length rowKinds) copy rowKinds rowValues
 
 -- What an offer of the k-th successor makes of whatever state lies there.
 unfoldable pub Offer : (ℕ → ℕ → ℕ → ℕ → Bool) → ℕ → InstructionSuccessors → ℕ → List ℕ → List ℕ → List ℕ → List ℕ → List ℕ → List ℕ → ℕ → List ℕ → List ℕ → List ℕ → List ℕ → ℕ → Type 0

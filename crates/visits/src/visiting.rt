@@ -11,7 +11,7 @@ use model::InstructionSuccessors;
 use sheet::Sizes;
 
 // "without a row, it gets the copy; with one, the copy is joined into it": whether "the row is new or a kind or value changed".
-pub fn visit(
+fn visit(
     which: AnalysisKind,
     sheet: &[u8],
     sizes: Sizes,

@@ -2,11 +2,10 @@
 -- Assumes nothing.
 use mathlib.Core.Path.{_≡_, refl, sym, ap, _∙_, subst}
 use mathlib.Core.List.{List, [], _∷_, map}
-use mathlib.Core.Option.{none}
 use Prim.Native.Nat.{ℕ, _+_, _*_, _-_, _≤_, _<_}
 use native.Mathlib.Nat.{mul-le-mul-right}
 use native.Mathlib.Omega.{arith}
-use lib.ListN.{length, getD, set, replicate, length-map, length-replicate, length-set}
+use lib.ListN.{length, getD, set, length-map, length-replicate, length-set}
 use Rattle.model.specs.Sheet.{codeCount}
 use Rattle.model.specs.Fact.{kind, value, Row, equalKnown}
 use Rattle.model.specs.Run.{Analysis, overdrawn, run, visits}
@@ -16,7 +15,7 @@ use Rattle.model.specs.Demand.{Lawful}
 use Rattle.model.specs.declared.AnalysisKind.{AnalysisKind}
 use Rattle.finality.proofs.Lawful.{lawful}
 use Rattle.sheet.specs.declared.Sizes.{Sizes}
-use Rattle.visits.specs.Laid.{RowsLaid, RowLaid, StateLaid, successorAt, Offering, Offer}
+use Rattle.visits.specs.Laid.{RowLaid, StateLaid, successorAt, Offering, Offer}
 use Rattle.steps.specs.Stepped.{ranAnalysis, Lending, Stepping, Step}
 use Rattle.worklist.specs.Turn.{firstOf, Running, Turn, Ran, Fresh}
 use Rattle.ending.specs.declared.Run.the-variants.{Finished}
@@ -183,11 +182,11 @@ module _ (which : AnalysisKind) (sheet : List ℕ) (sizes : Sizes) (firsts start
           row-values-length = w .1 ∙ sym (w .0);
           kinds-length = rw (w .0, z .0) (z .1);
           values-length = rw (w .0, z .0) (z .2);
-          laid = (replicate (codeCount sheet) none, rw (w .0) none-rows);
+          st = bare a law left;
+          copy = entry;
+          laid = rw (w .0, z .3) none-laid;
+          row-laid = rw (w .0) entry-laid;
         }
-      where
-        none-rows : RowsLaid (length slots) (replicate (codeCount sheet) none) present kinds values
-        none-rows = unfold bare ranAnalysis analysis in none-laid .rows-laid
 
     module _ (present′ kinds′ values′ list′ : List ℕ) (top′ : ℕ)
         (o : Offer (equalKnown which sheet) (length rowKinds) (record { pcs = 0 ∷ 0 ∷ []; len = 1 }) 0 rowKinds rowValues present kinds values list 0 present′ kinds′ values′ list′ top′) where

@@ -17,7 +17,8 @@ use steps::step;
 use visits::offer;
 
 // "A step takes the entry added last and counts 1. A copy of that instruction's row goes through its transfer. Then each successor in
-// order", until "The empty list ends the run". The list's first entry is there already.
+// order", until "The empty list ends the run". The list's first entry is there already. What it leaves in the row scratch, and after a
+// refused charge in all that it is lent, is told by `propagate`, which has it cleared.
 fn run_list(
     which: AnalysisKind,
     sheet: &[u8],

@@ -24,7 +24,7 @@ use Rattle.sheet.proofs.Asked.{ranges-fit}
 
 module _ {sheet : List ℕ} {sizes : Sizes} (a : Accepted sheet sizes) {firsts : List ℕ} (t : Holds (firstRange sheet) (codeCount sheet) firsts)
     (pc : ℕ) (h : pc < sizes .«code_count») where
-  in-code : pc < codeCount sheet
+  pub in-code : pc < codeCount sheet
   in-code = omega (arith, counted (a .are) .code-count)
 
   pub in-table : pc < length firsts
@@ -54,41 +54,42 @@ module _ {sheet : List ℕ} {sizes : Sizes} (a : Accepted sheet sizes) {firsts :
 
 -- ---- by the opcode
 
-module _ (sheet : List ℕ) (pc slot : ℕ) (inst : Instruction) (e : inst ≡ instruction sheet pc) where
+module _ (sheet : List ℕ) (pc : ℕ) (inst : Instruction) (e : inst ≡ instruction sheet pc) where
   op-is : inst .op ≡ instruction sheet pc .op
   op-is = ap (λ (x : Instruction). x .op) e
 
-  a-is : inst .a ≡ instruction sheet pc .a
+  pub a-is : inst .a ≡ instruction sheet pc .a
   a-is = ap (λ (x : Instruction). x .a) e
 
-  is-set : inst .op ≡ 6 → writes (instruction sheet pc .op) ≡ slotSet
+  pub is-set : inst .op ≡ 6 → writes (instruction sheet pc .op) ≡ slotSet
   unfolding writes select
   is-set h = ap writes (sym op-is ∙ h)
 
-  is-setn : inst .op ≡ 8 → writes (instruction sheet pc .op) ≡ slotSetN
+  pub is-setn : inst .op ≡ 8 → writes (instruction sheet pc .op) ≡ slotSetN
   unfolding writes select
   is-setn h = ap writes (sym op-is ∙ h)
 
-  is-other : inst .op ≢ 6 → inst .op ≢ 8 → writes (instruction sheet pc .op) ≡ byRanges
+  pub is-other : inst .op ≢ 6 → inst .op ≢ 8 → writes (instruction sheet pc .op) ≡ byRanges
   unfolding writes select
   is-other h k = rw (ne-eqb (instruction sheet pc .op) 6 (λ q. h (op-is ∙ q)), ne-eqb (instruction sheet pc .op) 8 (λ q. k (op-is ∙ q)))
 
+module _ (sheet : List ℕ) (pc slot : ℕ) (inst : Instruction) (e : inst ≡ instruction sheet pc) where
   pub set-written : inst .op ≡ 6 → leb (inst .a) slot ≡ written sheet pc slot
   unfolding written writtenBy
-  set-written h = rw (is-set h, ← a-is)
+  set-written h = rw (is-set sheet pc inst e h, ← a-is sheet pc inst e)
 
   module _ (h : inst .op ≡ 8) (has : Bool) (is : has ≡ hasElements (slotLayoutNote sheet pc) sheet pc) where
     pub elements-written : has ≡ true → leb (inst .a) slot ≡ written sheet pc slot
     unfolding written writtenBy
-    elements-written q = rw (is-setn h, ← is, q, ← a-is)
+    elements-written q = rw (is-setn sheet pc inst e h, ← is, q, ← a-is sheet pc inst e)
 
     pub nothing-written : has ≡ false → false ≡ written sheet pc slot
     unfolding written writtenBy
-    nothing-written q = rw (is-setn h, ← is, q)
+    nothing-written q = rw (is-setn sheet pc inst e h, ← is, q)
 
   pub ranges-written : inst .op ≢ 6 → inst .op ≢ 8 → (r : Bool) → r ≡ rangesWrite (erred sheet pc) sheet pc slot → r ≡ written sheet pc slot
   unfolding written writtenBy
-  ranges-written h k r q = rw (is-other h k) q
+  ranges-written h k r q = rw (is-other sheet pc inst e h k) q
 
   -- ---- "In the index analysis": b's cell has kind k and value v
 
@@ -109,7 +110,7 @@ module _ (sheet : List ℕ) (pc slot : ℕ) (inst : Instruction) (e : inst ≡ i
 
   pub as-others : (k v : ℕ) → inst .op ≢ 6 → inst .op ≢ 8 → (r : Bool) → r ≡ written sheet pc slot → r ≡ indexWritten sheet pc (factOf k v) slot
   unfolding indexWritten indexWrittenBy
-  as-others k v h l r q = rw (is-other h l) q
+  as-others k v h l r q = rw (is-other sheet pc inst e h l) q
 
   module _ (below : slot < 65536) (count : ℕ) (r : Bool) (in-count : r ≡ inRange slot (inst .a) count) where
     -- "e is 1 for SlotSet"
@@ -118,7 +119,7 @@ module _ (sheet : List ℕ) (pc slot : ℕ) (inst : Instruction) (e : inst ≡ i
     unfolding indexWritten indexWrittenBy factOf
     set-checked zero v l h q = absurd (omega arith)
     set-checked (suc zero) v l h q = absurd (omega arith)
-    set-checked (suc (suc k)) v l h q = in-count ∙ q slot (inst .a) below ∙ rw (is-set h, a-is)
+    set-checked (suc (suc k)) v l h q = in-count ∙ q slot (inst .a) below ∙ rw (is-set sheet pc inst e h, a-is sheet pc inst e)
 
     -- "for SlotSetN the SlotLayout's length, or without one the flags byte"
     pub setn-checked : (k v elem : ℕ) → 1 < k → inst .op ≡ 8 → elem ≡ noteElemSlots (slotLayoutNote sheet pc) sheet pc
@@ -126,4 +127,4 @@ module _ (sheet : List ℕ) (pc slot : ℕ) (inst : Instruction) (e : inst ≡ i
     unfolding indexWritten indexWrittenBy factOf
     setn-checked zero v elem l h is q = absurd (omega arith)
     setn-checked (suc zero) v elem l h is q = absurd (omega arith)
-    setn-checked (suc (suc k)) v elem l h is q = in-count ∙ q slot (inst .a) below ∙ rw (is-setn h, a-is, is)
+    setn-checked (suc (suc k)) v elem l h is q = in-count ∙ q slot (inst .a) below ∙ rw (is-setn sheet pc inst e h, a-is sheet pc inst e, is)

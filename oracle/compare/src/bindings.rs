@@ -1,8 +1,9 @@
-//! The same sheets through the safe functions of bindings/rust: its buffers are long enough, and it answers the same.
+//! The same sheets through the safe functions of bindings/rust: its buffers are exactly as long as needed, and it answers
+//! the same.
 
 use crate::expect::Sizes;
 use oracle::{Answer, Budget, Outcome, Table};
-use vo_facts::{Analyzed, Buffers, Refusal, Refused, Room};
+use vo_facts::{Analyzed, Buffers, Refusal, Refused};
 
 /// Every how manieth sheet is called, and what its buffers may take.
 const SHARE: u64 = 8;
@@ -16,16 +17,17 @@ pub struct Bindings {
 
 impl Bindings {
     pub fn wrong(&mut self, number: u64, sheet: &[u8], budget: Budget, rust: &Answer, sizes: Sizes) -> Option<String> {
-        let room = Room::for_sheet(sheet);
-        let largest = rust.closed.iter().map(|closed| closed.slots).max().unwrap_or(0);
-        let accepted = !matches!(rust.outcome, Outcome::Refused(_));
-        if accepted && (room.instructions, room.locals) != (sizes.n, sizes.locals) || room.tracked < largest {
-            return Some(format!("bindings: {room:?} does not fit {largest} tracked slots"));
-        }
         if number % SHARE != 0 || self.buffers.fit(sheet, MOST).is_err() {
             return None;
         }
         self.called += 1;
+        let room = self.buffers.room();
+        let tracked: Vec<usize> = rust.closed.iter().map(|closed| closed.slots).collect();
+        let fits = [room.constant, room.index, room.container].starts_with(&tracked);
+        let accepted = !matches!(rust.outcome, Outcome::Refused(_));
+        if accepted && (room.instructions, room.locals) != (sizes.n, sizes.locals) || !fits {
+            return Some(format!("bindings: {room:?} does not fit {tracked:?} tracked slots"));
+        }
         let answered = self.buffers.analyze(sheet, vo_facts::Budget { bytes: budget.bytes, work: budget.work });
         let differs = match (&answered, &rust.outcome) {
             (Ok(facts), Outcome::Facts(tables)) => {

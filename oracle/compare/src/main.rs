@@ -11,6 +11,7 @@ mod bindings;
 mod damage;
 mod expect;
 mod lent;
+mod loader;
 mod lookups;
 mod memory;
 mod plan;

@@ -3,6 +3,7 @@
 use crate::bindings::Bindings;
 use crate::expect::{expected, Expected, Sizes};
 use crate::lent::Lent;
+use crate::loader::Loader;
 use crate::lookups::Lookups;
 use crate::memory::After;
 use crate::plan::{plans, Plan};
@@ -17,6 +18,7 @@ const SEED: u64 = 77;
 pub struct Compared {
     lent: Lent,
     lookups: Lookups,
+    loader: Loader,
     bindings: Bindings,
     sheets: u64,
     calls: u64,
@@ -38,6 +40,7 @@ impl Compared {
         Compared {
             lent: Lent::new(bare),
             lookups: Lookups::new(bare),
+            loader: Loader::new(bare),
             bindings: Bindings::default(),
             sheets: 0,
             calls: 0,
@@ -79,6 +82,9 @@ impl Compared {
                 }
             }
         }
+        if let Some(wrong) = self.loader.wrong(&mut rng, sheet, &rust, sizes) {
+            return Some(wrong);
+        }
         // The bindings' buffers have no guards: they are not lent to a port that was seen to differ.
         if self.differing > 0 {
             return None;
@@ -117,7 +123,9 @@ impl Compared {
         let seen = |all: &[u64; 256], numbers: &[usize]| numbers.iter().all(|number| all[*number] > 0);
         let calls = seen(&self.answered, &[0, 1, 2, 3, 4, 5, 6, 7, 8, 255]);
         let lookups = seen(&self.lookups.answered, &[0, 9, 254, 255]);
-        if !calls || !lookups || self.stages[1..].contains(&0) {
+        let room = seen(&self.loader.room, &[0, 1, 2, 3, 4, 5, 6, 255]);
+        let lowest = seen(&self.loader.lowest, &[0, 1, 2, 3, 4, 5, 254, 255]);
+        if !calls || !lookups || !room || !lowest || self.stages[1..].contains(&0) {
             println!("compare: not every outcome was met");
             self.differing += 1;
         }
@@ -133,6 +141,7 @@ impl Compared {
         println!("refusals 7 by stage {:?}; through the bindings {}", &self.stages[1..], self.bindings.called);
         let Lookups { of_left, of_damaged, answered, .. } = &self.lookups;
         println!("lookups in tables left {of_left}, in damaged copies {of_damaged}, answers{}", met(answered));
+        println!("room{}; lowest layouts{}", met(&self.loader.room), met(&self.loader.lowest));
         if let Some(Difference { sheet, budget, what }) = &self.smallest {
             println!("{} sheets differ; the smallest, {} bytes:", self.differing, sheet.len());
             println!("{}", sheet.iter().map(|byte| format!("{byte:02x}")).collect::<String>());

@@ -14,7 +14,7 @@ use shapes::{Shape, SHAPES};
 use std::hint::black_box;
 use std::process::ExitCode;
 use std::time::{Duration, Instant};
-use vo_facts::{Budget, Buffers, Room};
+use vo_facts::{Budget, Buffers};
 
 const INSTRUCTIONS: [usize; 5] = [16, 64, 256, 1024, 4096];
 const TRACKED: [usize; 4] = [1, 8, 64, 512];
@@ -66,8 +66,7 @@ fn row(shape: &Shape, n: usize, s: usize, time: Duration) -> Row {
     let bytes = shape.sheet(n, s);
     let sheet = Sheet::load(&bytes).unwrap_or_else(|number| panic!("{} {n} {s}: refused {number}", shape.name));
     let mut buffers = Buffers::default();
-    let room = Room { tracked: s, ..Room::for_sheet(&bytes) };
-    buffers.fit_room(room, MOST_BYTES).expect("room for the largest sheet");
+    buffers.fit(&bytes, MOST_BYTES).expect("room for the largest sheet");
     let (mut port, mut rust) = (Vec::new(), Vec::new());
     let begun = Instant::now();
     let mut pops = 0;

@@ -1,7 +1,7 @@
 -- `analyze_next` meets its contract.
 -- Assumes nothing.
 use mathlib.Core.Path.{_∙_}
-use Rattle.stages.specs.Stage.{table, scratch}
+use Rattle.model.specs.Call.{table, scratch}
 use Rattle.analyses.specs.Chain.{nextOf}
 use Rattle.analyses.proofs.Ready.{unmarked, empty}
 use Rattle.analyses.proofs.Nexting.{next-stage}

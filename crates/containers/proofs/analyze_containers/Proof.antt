@@ -1,7 +1,7 @@
 -- `analyze_containers` meets its contract.
 -- Assumes nothing.
 use mathlib.Core.Path.{refl, _∙_}
-use Rattle.stages.specs.Stage.{scratch}
+use Rattle.model.specs.Call.{scratch}
 use Rattle.analyses.proofs.Ready.{few-code, few-layouts, found-bare}
 use Rattle.analyses.proofs.Nexting.{containers-next}
 use borrow.Author.Needs.{needs}

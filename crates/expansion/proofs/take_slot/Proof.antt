@@ -1,7 +1,7 @@
 -- `expansion::take_slot` meets its contract: the top is read and cleared, and its edges are followed.
 -- Assumes nothing.
 use mathlib.Core.Path.{_∙_}
-use Prim.Native.Nat.{_-_}
+use native.Mathlib.Nat.{lt-of-lt-of-le}
 use native.Mathlib.Omega.{arith}
 use lib.ListN.{length-set}
 use Rattle.sheet.proofs.Counted.{counted}
@@ -25,9 +25,7 @@ slice-read-d c =
     omega (arith, standing-below (start .pre .2) (start .pre .1))
 
 cast-d : tie.Need-cast-d
-cast-d c =
-    let start = c .before .before .before .before .before .before .before in
-    omega (arith, c .slice-known3 .given (start .args .top - 1))
+cast-d c = record { fits = lt-of-lt-of-le (c .slice-known3 .given _ .fits) (omega arith) }
 
 mul-stack : tie.Need-mul-stack
 mul-stack c =

@@ -1,5 +1,5 @@
 -- `vo_facts_analyze` meets its contract: too short a memory for the answer, or the call. Assumes nothing.
-use Rattle.stages.specs.Stage.{table, scratch, lent}
+use Rattle.model.specs.Call.{table, scratch, lent}
 use Rattle.export.proofs.Handed.{too-few, all-handed}
 use borrow.Author.Needs.{needs}
 use Rattle.export.proofs.vo_facts_analyze.Statement.{statement}

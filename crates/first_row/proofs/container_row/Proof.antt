@@ -1,6 +1,6 @@
 -- `first_row::container_row` meets its contract. Assumes nothing.
 use lib.ListN.{length}
-use Rattle.parameters.proofs.Made.{blank-lies, blank-rowed}
+use Rattle.parameters.proofs.Made.{blank-rowed}
 use Rattle.parameters.proofs.Seeded.{cleared}
 use Rattle.first_row.proofs.Entered.{params-refused, notes-refused, notes-covered}
 use native.Mathlib.Omega.{arith}
@@ -9,8 +9,7 @@ use Rattle.first_row.proofs.container_row.Statement.{statement}
 use Rattle.first_row.proofs.container_row.Tie as tie
 
 param-row-requires : tie.Need-param-row-requires
-param-row-requires c κs =
-    (c .before .before .before .before .before .before .pre .0, blank-rowed (c .before .before .before .before .before .before .pre .1))
+param-row-requires c κs = search needs
 
 enum-known-seeded : tie.Need-enum-known-seeded
 enum-known-seeded c = search needs
@@ -28,7 +27,7 @@ returns : tie.Need-returns
 returns c =
     let start = c .before .before .before .before .before .before .before .before .before .before .before .before .before in
     let after-param-row = c .before .before .before .before .before .before in
-    params-refused (start .args .sheet .now) (start .args .slots .now) (start .args .resources) _ (after-param-row .param-row .ensures _ (blank-lies (start .pre .1))) (c .enum-told .given .1)
+    params-refused (start .args .sheet .now) (start .args .slots .now) (start .args .resources) _ (after-param-row .param-row .ensures) (c .enum-told .given .1)
 
 charge-instruction-facts-requires : tie.Need-charge-instruction-facts-requires
 charge-instruction-facts-requires c κs = search needs
@@ -60,7 +59,7 @@ returns-2 c =
     let after-seeded = c .before .before .before .before .before .before .before .before .before .before .before .before in
     let after-charge-instruction-facts = c .before .before .before .before .before .before .before .before .before .before in
     let after-enum-told3 = c .before .before .before .before .before .before .before .before in
-    notes-refused (start .args .sheet .now) (start .args .slots .now) (start .args .resources) _ (after-param-row .param-row .ensures _ (blank-lies (start .pre .1))) (after-seeded .seeded .given .1)
+    notes-refused (start .args .sheet .now) (start .args .slots .now) (start .args .resources) _ (after-param-row .param-row .ensures) (after-seeded .seeded .given .1)
     _ (after-charge-instruction-facts .charge-instruction-facts .ensures) (after-enum-told3 .enum-told3 .given .1) kinds-zero values-zero
 
 same-length-5 : tie.Need-same-length-5
@@ -75,7 +74,7 @@ returns-3 c =
     let after-param-row = c .before .before .before .before .before .before .before .before .before .before in
     let after-seeded = c .before .before .before .before in
     let after-charge-instruction-facts = c .before .before in
-    notes-covered (start .args .sheet .now) (start .args .slots .now) (start .args .resources) _ (after-param-row .param-row .ensures _ (blank-lies (start .pre .1))) (after-seeded .seeded .given .1) _ (after-charge-instruction-facts .charge-instruction-facts .ensures) (c .enum-told2 .given .1)
+    notes-covered (start .args .sheet .now) (start .args .slots .now) (start .args .resources) _ (after-param-row .param-row .ensures) (after-seeded .seeded .given .1) _ (after-charge-instruction-facts .charge-instruction-facts .ensures) (c .enum-told2 .given .1)
 
 pub container-row-spec : {M : Type 1} → statement M
 container-row-spec =

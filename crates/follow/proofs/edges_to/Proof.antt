@@ -6,6 +6,7 @@ use Prim.Native.Nat.{_-_}
 use native.Mathlib.Omega.{arith}
 use Rattle.dependencies.proofs.Rows.{rows-are}
 use Rattle.follow.proofs.Following.{met-none, met-some}
+use Rattle.marks.proofs.Marking.{none-held}
 use borrow.Author.Needs.{needs}
 use Rattle.follow.proofs.edges_to.Statement.{statement}
 use Rattle.follow.proofs.edges_to.Tie as tie
@@ -22,7 +23,7 @@ none-requires c κs = search needs
 returns : tie.Need-returns
 returns c =
     met-none _ _ (c .before .before .before .before .args .inst) (c .before .before .before .dependence-of .result)
-    (rows-are _ (c .before .before .before .dependence-of .ensures) _) _ refl (inl (c .before .if1 .taken)) (c .none .ensures)
+    (rows-are _ (c .before .before .before .dependence-of .ensures) _) _ refl (inl (c .before .if1 .taken)) (none-held (c .none .ensures))
 
 cast-if2 : tie.Need-cast-if2
 cast-if2 c = search needs
@@ -36,7 +37,7 @@ returns-2 c =
     let dependence-of = else1 .before .before in
     let start = dependence-of .before in
     met-none _ _ (start .args .inst) (dependence-of .dependence-of .result) (rows-are _ (dependence-of .dependence-of .ensures) _) _ refl
-    (inr (omega (arith, c .before .if2 .taken, else1 .if1 .left))) (c .none2 .ensures)
+    (inr (omega (arith, c .before .if2 .taken, else1 .if1 .left))) (none-held (c .none2 .ensures))
 
 cast-sources-below : tie.Need-cast-sources-below
 cast-sources-below c = search needs

@@ -1,7 +1,6 @@
 -- `line_text::head_line` meets its contract. Assumes nothing.
-use Rattle.model.specs.Listing.{ascii, decimal, space, newline}
-use Rattle.line_text.specs.Lines.{headLine}
-use Rattle.text.proofs.Writing.{then, then-two, front}
+use Rattle.model.specs.Listing.{ascii, decimal, space, newline, headLine}
+use Rattle.text.proofs.Writing.{then, then-two}
 use borrow.Author.Needs.{needs}
 use Rattle.line_text.proofs.head_line.Statement.{statement}
 use Rattle.line_text.proofs.head_line.Tie as tie
@@ -33,7 +32,7 @@ returns c =
     let a = c .before .before .before .before .before .before .before .before .before .before .before .before .before .before .before .before .before .before .before .before .before .before .args in
     let two = then-two space (decimal (a .n)) (c .before .before .before .before .before .before .before .before .before .before .before .before .before .before .before .before .before .before .before .put-name .ensures) (c .before .before .before .before .before .before .before .before .before .before .before .before .before .before .before .put-spaced .ensures) in
     let three = then-two space (decimal (a .s)) two (c .before .before .before .before .before .before .before .before .before .before .before .put-spaced2 .ensures) in
-    front (then (then-two space (decimal (a .pops)) three (c .before .before .before .before .before .before .before .put-spaced3 .ensures)) (c .before .before .put .ensures))
+    then (then-two space (decimal (a .pops)) three (c .before .before .before .before .before .before .before .put-spaced3 .ensures)) (c .before .before .put .ensures)
 
 pub head-line-spec : {M : Type 1} → statement M
 head-line-spec =

@@ -1,6 +1,6 @@
 -- `line_text::left_line` meets its contract. Assumes nothing.
 use Rattle.model.specs.Listing.{ascii, decimal, space, newline, leftLine}
-use Rattle.text.proofs.Writing.{then, then-two, front}
+use Rattle.text.proofs.Writing.{then, then-two}
 use borrow.Author.Needs.{needs}
 use Rattle.line_text.proofs.left_line.Statement.{statement}
 use Rattle.line_text.proofs.left_line.Tie as tie
@@ -31,7 +31,7 @@ unfolding ascii newline leftLine
 returns c =
     let a = c .before .before .before .before .before .before .before .before .before .before .before .before .before .before .before .before .before .before .before .args in
     let two = then (c .before .before .before .before .before .before .before .before .before .before .before .before .before .before .before .put .ensures) (c .before .before .before .before .before .before .before .before .before .before .before .put-decimal .ensures) in
-    front (then (then-two space (decimal (a .left .work)) two (c .before .before .before .before .before .before .before .put-spaced .ensures)) (c .before .before .put2 .ensures))
+    then (then-two space (decimal (a .left .work)) two (c .before .before .before .before .before .before .before .put-spaced .ensures)) (c .before .before .put2 .ensures)
 
 pub left-line-spec : {M : Type 1} → statement M
 left-line-spec =

@@ -1,7 +1,6 @@
 -- `line_text::put_name` meets its contract. Assumes nothing.
 use mathlib.Core.Path.{refl}
-use Rattle.model.specs.Listing.{ascii}
-use Rattle.line_text.specs.Lines.{analysisName}
+use Rattle.model.specs.Listing.{ascii, analysisName}
 use Rattle.text.proofs.Writing.{reword}
 use borrow.Author.Needs.{needs}
 use native.Mathlib.Omega.{arith}

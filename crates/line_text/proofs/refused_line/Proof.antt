@@ -1,6 +1,6 @@
 -- `line_text::refused_line` meets its contract. Assumes nothing.
 use Rattle.model.specs.Listing.{ascii, newline, refusedLine}
-use Rattle.text.proofs.Writing.{then, front}
+use Rattle.text.proofs.Writing.{then}
 use borrow.Author.Needs.{needs}
 use Rattle.line_text.proofs.refused_line.Statement.{statement}
 use Rattle.line_text.proofs.refused_line.Tie as tie
@@ -26,7 +26,7 @@ same-length c = search needs
 returns : tie.Need-returns
 unfolding ascii newline refusedLine
 returns c =
-    front (then (then (c .before .before .before .before .before .before .before .before .before .before .before .put .ensures) (c .before .before .before .before .before .before .before .put-decimal .ensures)) (c .before .before .put2 .ensures))
+    then (then (c .before .before .before .before .before .before .before .before .before .before .before .put .ensures) (c .before .before .before .before .before .before .before .put-decimal .ensures)) (c .before .before .put2 .ensures)
 
 pub refused-line-spec : {M : Type 1} → statement M
 refused-line-spec =

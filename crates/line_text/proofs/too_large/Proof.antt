@@ -1,6 +1,5 @@
 -- `line_text::too_large` meets its contract. Assumes nothing.
 use Rattle.model.specs.Listing.{ascii, tooLarge}
-use Rattle.text.proofs.Writing.{front}
 use borrow.Author.Needs.{needs}
 use Rattle.line_text.proofs.too_large.Statement.{statement}
 use Rattle.line_text.proofs.too_large.Tie as tie
@@ -16,7 +15,7 @@ same-length c = search needs
 
 returns : tie.Need-returns
 unfolding ascii tooLarge
-returns c = front (c .before .before .put .ensures)
+returns c = c .before .before .put .ensures
 
 pub too-large-spec : {M : Type 1} → statement M
 too-large-spec = tie.close (tie.spec slice-aggregate-put put-requires same-length returns)

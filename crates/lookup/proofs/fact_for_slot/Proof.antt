@@ -1,6 +1,7 @@
 -- `lookup::fact_for_slot` meets its contract. Assumes nothing.
-use mathlib.Core.Path.{sym, _∙_}
+use mathlib.Core.Path.{sym, ap, _∙_}
 use borrow.Author.Tests.{not-true, not-false}
+use Rattle.model.specs.Lookup.{factWithNumbers}
 use Rattle.tables.proofs.Agreement.{agreed}
 use Rattle.lookup.proofs.Answers.{found-inside, same-length, tables-damaged, row-damaged, row-answered}
 use borrow.Author.Needs.{needs}
@@ -14,7 +15,7 @@ tables-agree-requires c κs = search needs
 returns : tie.Need-returns
 returns c =
     let a = c .before .before .before .before .before .before .args in
-    tables-damaged (now (a .slots)) (now (a .present)) (now (a .kinds)) (now (a .values)) (a .slot) (a .which) (a .pc) (sym (c .before .tables-agree .ensures) ∙ not-true _ (c .if1 .taken))
+    ap factWithNumbers (tables-damaged (now (a .slots)) (now (a .present)) (now (a .kinds)) (now (a .values)) (a .slot) (a .which) (a .pc) (sym (c .before .tables-agree .ensures) ∙ not-true _ (c .if1 .taken)))
 
 find-requires : tie.Need-find-requires
 find-requires c κs =
@@ -44,14 +45,14 @@ returns-2 c =
     let a = c .before .before .before .before .before .before .before .before .before .before .before .args in
     let yes = sym (c .before .before .before .before .before .before .tables-agree .ensures) ∙ not-false _ (c .before .before .before .before .before .if1 .left) in
     let found = c .before .before .before .before .find in
-    row-answered (now (a .slots)) (now (a .present)) (now (a .kinds)) (now (a .values)) (a .slot) (a .which) (a .pc) yes (found .result) (found .ensures) _ (c .before .before .before .last-kind .ensures) _ (c .before .before .named .ensures) (c .cell .result) (c .before .if2 .taken) (c .cell .ensures)
+    ap factWithNumbers (row-answered (now (a .slots)) (now (a .present)) (now (a .kinds)) (now (a .values)) (a .slot) (a .which) (a .pc) yes (found .result) (found .ensures) _ (c .before .before .before .last-kind .ensures) _ (c .before .before .named .ensures) (c .cell .result) (c .before .if2 .taken) (c .cell .ensures))
 
 returns-3 : tie.Need-returns-3
 returns-3 c =
     let a = c .before .before .before .before .before .before .before .before .before .before .args in
     let yes = sym (c .before .before .before .before .before .tables-agree .ensures) ∙ not-false _ (c .before .before .before .before .if1 .left) in
     let found = c .before .before .before .find in
-    row-damaged (now (a .slots)) (now (a .present)) (now (a .kinds)) (now (a .values)) (a .slot) (a .which) (a .pc) yes (found .result) (found .ensures) _ (c .before .before .last-kind .ensures) _ (c .before .named .ensures) (c .if2 .left)
+    ap factWithNumbers (row-damaged (now (a .slots)) (now (a .present)) (now (a .kinds)) (now (a .values)) (a .slot) (a .which) (a .pc) yes (found .result) (found .ensures) _ (c .before .before .last-kind .ensures) _ (c .before .named .ensures) (c .if2 .left))
 
 pub fact-for-slot-spec : {M : Type 1} → statement M
 fact-for-slot-spec =

@@ -1,6 +1,7 @@
 -- `lookup::fixed_fact` meets its contract. Assumes nothing.
-use mathlib.Core.Path.{sym, _∙_}
+use mathlib.Core.Path.{sym, ap, _∙_}
 use borrow.Author.Tests.{not-true, not-false}
+use Rattle.model.specs.Lookup.{factWithNumbers}
 use Rattle.tables.proofs.Agreement.{agreed}
 use Rattle.lookup.proofs.Answers.{found-inside, same-length, fixed-damaged, fixed-row-damaged, fixed-answered}
 use borrow.Author.Needs.{needs}
@@ -14,7 +15,7 @@ tables-agree-requires c κs = search needs
 returns : tie.Need-returns
 returns c =
     let a = c .before .before .before .before .before .before .args in
-    fixed-damaged (now (a .slots)) (now (a .present)) (now (a .kinds)) (now (a .values)) (a .slot) (sym (c .before .tables-agree .ensures) ∙ not-true _ (c .if1 .taken))
+    ap factWithNumbers (fixed-damaged (now (a .slots)) (now (a .present)) (now (a .kinds)) (now (a .values)) (a .slot) (sym (c .before .tables-agree .ensures) ∙ not-true _ (c .if1 .taken)))
 
 find-requires : tie.Need-find-requires
 find-requires c κs =
@@ -41,14 +42,14 @@ returns-2 c =
     let a = c .before .before .before .before .before .before .before .before .before .before .args in
     let yes = sym (c .before .before .before .before .before .tables-agree .ensures) ∙ not-false _ (c .before .before .before .before .if1 .left) in
     let found = c .before .before .before .find in
-    fixed-answered (now (a .slots)) (now (a .present)) (now (a .kinds)) (now (a .values)) (a .slot) yes (found .result) (found .ensures) _ (c .before .before .all-named .ensures) (c .fixed-at .result) (c .before .if2 .taken) (c .fixed-at .ensures)
+    ap factWithNumbers (fixed-answered (now (a .slots)) (now (a .present)) (now (a .kinds)) (now (a .values)) (a .slot) yes (found .result) (found .ensures) _ (c .before .before .all-named .ensures) (c .fixed-at .result) (c .before .if2 .taken) (c .fixed-at .ensures))
 
 returns-3 : tie.Need-returns-3
 returns-3 c =
     let a = c .before .before .before .before .before .before .before .before .before .args in
     let yes = sym (c .before .before .before .before .tables-agree .ensures) ∙ not-false _ (c .before .before .before .if1 .left) in
     let found = c .before .before .find in
-    fixed-row-damaged (now (a .slots)) (now (a .present)) (now (a .kinds)) (now (a .values)) (a .slot) yes (found .result) (found .ensures) _ (c .before .all-named .ensures) (c .if2 .left)
+    ap factWithNumbers (fixed-row-damaged (now (a .slots)) (now (a .present)) (now (a .kinds)) (now (a .values)) (a .slot) yes (found .result) (found .ensures) _ (c .before .all-named .ensures) (c .if2 .left))
 
 pub fixed-fact-spec : {M : Type 1} → statement M
 fixed-fact-spec =

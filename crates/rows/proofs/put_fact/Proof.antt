@@ -1,6 +1,5 @@
 -- `rows::put_fact` meets its contract: the slot is past the tracked ones, between two, or one of them. Assumes nothing.
 use mathlib.Core.Path.{sym, _∙_}
-use native.Mathlib.Omega.{arith}
 use borrow.Author.Needs.{needs}
 use Rattle.rows.proofs.Putting.{put-past, put-between, put-at}
 use Rattle.rows.proofs.put_fact.Statement.{statement}
@@ -12,7 +11,7 @@ lower-bound-requires c κs = search needs
 returns : tie.Need-returns
 returns c =
     let s = c .before .before .before .before .before in
-    put-past (s .args .slots .now) (λ k l. omega (arith, c .before .before .before .before .shared-slice-known .given k)) (s .pre .0) (s .args .slot) (c .before .lower-bound .result) (c .before .lower-bound .ensures) (s .args .cell) (s .args .kinds .now) (s .args .values .now) (s .pre .1) (s .pre .2) (c .if1 .taken)
+    put-past (s .args .slots .now) (s .pre .0) (s .args .slot) (c .before .lower-bound .result) (c .before .lower-bound .ensures) (s .args .cell) (s .args .kinds .now) (s .args .values .now) (s .pre .1) (s .pre .2) (c .if1 .taken)
 
 mul-wide : tie.Need-mul-wide
 mul-wide c = search needs
@@ -27,7 +26,7 @@ returns-2 : tie.Need-returns-2
 returns-2 c =
     let s = c .before .before .before .before .before .before .before .before in
     let t = c .before .before .before .before in
-    put-between (s .args .slots .now) (λ k l. omega (arith, c .before .before .before .before .before .before .before .shared-slice-known .given k)) (s .pre .0) (s .args .slot) (t .lower-bound .result) (t .lower-bound .ensures) (s .args .cell) (s .args .kinds .now) (s .args .values .now) (s .pre .1) (s .pre .2) (c .before .before .before .if1 .left) (λ q. c .if2 .taken (c .before .wide .ensures .0 ∙ q))
+    put-between (s .args .slots .now) (s .pre .0) (s .args .slot) (t .lower-bound .result) (t .lower-bound .ensures) (s .args .cell) (s .args .kinds .now) (s .args .values .now) (s .pre .1) (s .pre .2) (c .before .before .before .if1 .left) (λ q. c .if2 .taken (c .before .wide .ensures .0 ∙ q))
 
 slice-write-kinds : tie.Need-slice-write-kinds
 slice-write-kinds c = search needs
@@ -48,7 +47,7 @@ returns-3 : tie.Need-returns-3
 returns-3 c =
     let s = c .before .before .before .before .before .before .before .before in
     let t = c .before .before .before .before in
-    put-at (s .args .slots .now) (λ k l. omega (arith, c .before .before .before .before .before .before .before .shared-slice-known .given k)) (s .pre .0) (s .args .slot) (t .lower-bound .result) (t .lower-bound .ensures) (s .args .cell) (s .args .kinds .now) (s .args .values .now) (s .pre .1) (s .pre .2) (c .before .before .before .if1 .left) (sym (c .before .wide .ensures .0) ∙ c .if2 .left)
+    put-at (s .args .slots .now) (s .pre .0) (s .args .slot) (t .lower-bound .result) (t .lower-bound .ensures) (s .args .cell) (s .args .kinds .now) (s .args .values .now) (s .pre .1) (s .pre .2) (c .before .before .before .if1 .left) (sym (c .before .wide .ensures .0) ∙ c .if2 .left)
 
 pub put-fact-spec : {M : Type 1} → statement M
 put-fact-spec =

@@ -18,10 +18,9 @@ abbrev μ-loop : tie.MeasureT-loop
 
 returns : tie.Need-returns Inv-loop μ-loop
 returns c =
-    let shared-slice-known = c .before .before .before .before .before in
-    let start = shared-slice-known .before in
+    let start = c .before .before .before .before .before .before in
     let asked = start .pre in
-    wrote-beyond (start .args .slots .now) (λ k l. omega (arith, shared-slice-known .shared-slice-known .given k)) _ _ _ _ _ (asked .1) (asked .2)
+    wrote-beyond (start .args .slots .now) _ _ _ _ _ (asked .1) (asked .2)
     (last-below (start .args .slots .now) _ (asked .0 .ascending) (omega (arith, asked .3, c .if1 .taken)))
 
 wide-requires : tie.Need-wide-requires Inv-loop μ-loop
@@ -58,15 +57,12 @@ same-length-2 c = omega arith
 returns-2 : tie.Need-returns-2 Inv-loop μ-loop
 returns-2 c =
     let at-loop = c .before .before .before in
-    let shared-slice-known = at-loop .before .before .before .before .before .before .before .before in
-    let start = shared-slice-known .before in
-    written-range _ _ _ _ _ _ (at-loop .loop .inv) (λ k l. omega (arith, shared-slice-known .shared-slice-known .given k)) (start .pre .0 .ascending)
+    let start = at-loop .before .before .before .before .before .before .before .before .before in
+    written-range _ _ _ _ _ _ (at-loop .loop .inv) (start .pre .0 .ascending)
     (c .before .before .loop-test .taken) (c .if2 .taken)
 
 effect-on-slot-requires : tie.Need-effect-on-slot-requires Inv-loop μ-loop
-effect-on-slot-requires c κs =
-    let start = c .before .before .before .before .before .before .before .before .before .before .before .before in
-    start .pre .0
+effect-on-slot-requires c κs = search needs
 
 slice-write-out-kinds : tie.Need-slice-write-out-kinds Inv-loop μ-loop
 slice-write-out-kinds c = omega arith
@@ -96,9 +92,7 @@ same-length-4 : tie.Need-same-length-4 Inv-loop μ-loop
 same-length-4 c = omega arith
 
 returns-3 : tie.Need-returns-3 Inv-loop μ-loop
-returns-3 c =
-    let shared-slice-known = c .before .before .before .before .before .before .before .before .before in
-    written-all _ _ _ _ _ _ (c .before .loop .inv) (λ k l. omega (arith, shared-slice-known .shared-slice-known .given k)) (c .loop-test .left)
+returns-3 c = written-all _ _ _ _ _ _ (c .before .loop .inv) (c .loop-test .left)
 
 pub write-range-spec : {M : Type 1} → statement M
 write-range-spec =

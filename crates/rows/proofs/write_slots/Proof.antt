@@ -35,10 +35,8 @@ range-count-requires c κs = search needs
 
 loop-holds : tie.Need-loop-holds Inv-loop μ-loop
 loop-holds c =
-    let shared-slice-known2 = c .before .before .before .before .before .before .before in
-    let start = shared-slice-known2 .before .before in
-    let s = start in
-    ranging-start (s .args .written) (s .args .sheet .now) (s .args .slots .now) (λ k l. omega (arith, shared-slice-known2 .shared-slice-known2 .given k)) _ (s .args .out-kinds .now)
+    let s = c .before .before .before .before .before .before .before .before .before in
+    ranging-start (s .args .written) (s .args .sheet .now) (s .args .slots .now) _ (s .args .out-kinds .now)
     (s .args .out-values .now) (s .pre .1 .1) (s .pre .1 .2)
 
 range-of-requires : tie.Need-range-of-requires Inv-loop μ-loop
@@ -69,10 +67,8 @@ loop-again c =
     let in-loop = range-of .before in
     let at-loop = in-loop .before in
     let range-count = at-loop .before in
-    let shared-slice-known2 = range-count .before .before .before .before .before .before .before in
-    let start = shared-slice-known2 .before .before in
-    let s = start in
-    ranging-more (s .args .written) (s .args .sheet .now) (s .args .slots .now) (λ k l. omega (arith, shared-slice-known2 .shared-slice-known2 .given k)) _ (s .args .out-kinds .now)
+    let s = range-count .before .before .before .before .before .before .before .before .before in
+    ranging-more (s .args .written) (s .args .sheet .now) (s .args .slots .now) _ (s .args .out-kinds .now)
     (s .args .out-values .now) (at-loop .loop .inv) (omega (arith, in-loop .loop-test .taken, range-count .range-count .ensures)) (range-of .range-of .ensures)
     (write-range .write-range .ensures)
 
@@ -88,10 +84,8 @@ same-length-2 c =
 
 returns-2 : tie.Need-returns-2 Inv-loop μ-loop
 returns-2 c =
-    let shared-slice-known2 = c .before .before .before .before .before .before .before .before .before in
-    let start = shared-slice-known2 .before .before in
-    let s = start in
-    ranging-all (s .args .written) (s .args .sheet .now) (s .args .slots .now) (λ k l. omega (arith, shared-slice-known2 .shared-slice-known2 .given k)) _ (s .args .out-kinds .now)
+    let s = c .before .before .before .before .before .before .before .before .before .before .before in
+    ranging-all (s .args .written) (s .args .sheet .now) (s .args .slots .now) _ (s .args .out-kinds .now)
     (s .args .out-values .now) (c .before .loop .inv) (omega (arith, c .loop-test .left, c .before .before .range-count .ensures))
 
 pub write-slots-spec : {M : Type 1} → statement M

@@ -1,7 +1,7 @@
 -- `analyze` meets its contract: refused by 1 to 6, or analysed in order.
 -- Assumes nothing.
 use mathlib.Core.Path.{_∙_}
-use Rattle.stages.specs.Stage.{table, scratch, lent}
+use Rattle.model.specs.Call.{table, scratch, lent}
 use Rattle.admission.proofs.Asking.{turned-away, admitted-asks}
 use Rattle.analyses.proofs.Ready.{clean, values-clear, demanded}
 use Rattle.analyses.proofs.Whole.{promise}

@@ -1,6 +1,7 @@
 -- `charge_graph` meets its contract.
 -- Assumes nothing.
 use Rattle.sheet.proofs.Limited.{limited}
+use Rattle.dependencies.proofs.Charging.{flow-counted}
 use Rattle.admission.proofs.Asking.{flow-refused, then-dependencies}
 use borrow.Author.Needs.{needs}
 use Rattle.admission.proofs.graph.charge_graph.Statement.{statement}
@@ -24,7 +25,11 @@ begun-requires : tie.Need-begun-requires
 begun-requires c κs = search needs
 
 returns : tie.Need-returns
-returns c = let start = c .before .before .before .before .before in flow-refused _ (start .args .resources) (c .before .before .before .charge-flow .ensures _ (start .pre)) (c .before .enum-told .given .1) (c .begun .ensures)
+returns c =
+    let flow = c .before .before .before in
+    let start = flow .before .before in
+    flow-refused _ (start .args .resources) (flow-counted _ (start .args .resources) (flow .charge-flow .result) (flow .charge-flow .ensures) (start .pre)) (c .before .enum-told .given .1)
+    (c .begun .ensures)
 
 charge-dependencies-requires : tie.Need-charge-dependencies-requires
 charge-dependencies-requires c κs = search needs
@@ -33,7 +38,11 @@ begun-requires-2 : tie.Need-begun-requires-2
 begun-requires-2 c κs = search needs
 
 returns-2 : tie.Need-returns-2
-returns-2 c = let start = c .before .before .before .before .before .before .before in then-dependencies _ (start .args .resources) (c .before .before .before .before .before .charge-flow .ensures _ (start .pre)) _ (c .before .before .before .flow .given .1) (c .before .charge-dependencies .ensures) (c .begun2 .ensures)
+returns-2 c =
+    let flow = c .before .before .before .before .before in
+    let start = flow .before .before in
+    then-dependencies _ (start .args .resources) (flow-counted _ (start .args .resources) (flow .charge-flow .result) (flow .charge-flow .ensures) (start .pre)) _
+    (c .before .before .before .flow .given .1) (c .before .charge-dependencies .ensures) (c .begun2 .ensures)
 
 pub charge-graph-spec : {M : Type 1} → statement M
 charge-graph-spec =

@@ -1,11 +1,8 @@
 -- `dependencies::charges::charge_flow` meets its contract: the first charge, then the second.
 -- Assumes nothing.
-use Prim.Native.Nat.{ℕ, _*_}
-use mathlib.Core.Path.{ap}
-use Rattle.model.specs.Sheet.{codeCount}
+use Prim.Native.Nat.{_*_}
+use mathlib.Core.Path.{refl}
 use Rattle.model.specs.Charges.{spendBytes, spendWork}
-use Rattle.model.specs.Analyses.{chargeFlow}
-use Rattle.sheet.proofs.Counted.{counted}
 use Rattle.budget.proofs.Spending.{first-refused, second-came, bytes-came, work-came}
 use borrow.Author.Needs.{needs}
 use Rattle.dependencies.proofs.charges.charge_flow.Statement.{statement}
@@ -27,13 +24,13 @@ enum-told : tie.Need-enum-told
 enum-told c = search needs
 
 returns : tie.Need-returns
-unfolding chargeFlow
 returns c =
     let metered = c .before .before in
     let charge-bytes = metered .before in
     let start = charge-bytes .before in
-    λ sheet m. first-refused 1 (spendBytes 1 (codeCount sheet * 24)) (spendWork 1 (codeCount sheet)) (start .args .resources)
-    (bytes-came 1 (metered .metered .result) (start .args .resources) (charge-bytes .charge-bytes .ensures) (metered .metered .ensures 1) (ap (λ (n : ℕ). n * 24) (counted (m .are) .code-count)))
+    let n = start .args .sizes .«code_count» in
+    first-refused 1 (spendBytes 1 (n * 24)) (spendWork 1 n) (start .args .resources)
+    (bytes-came 1 (metered .metered .result) (start .args .resources) (charge-bytes .charge-bytes .ensures) (metered .metered .ensures 1) refl)
     (c .enum-told .given .1)
 
 charge-work-requires : tie.Need-charge-work-requires
@@ -43,16 +40,16 @@ metered-requires-2 : tie.Need-metered-requires-2
 metered-requires-2 c κs = search needs
 
 returns-2 : tie.Need-returns-2
-unfolding chargeFlow
 returns-2 c =
     let records = c .before .before .before in
     let metered = records .before .before in
     let charge-bytes = metered .before in
     let start = charge-bytes .before in
-    λ sheet m. second-came 1 (spendBytes 1 (codeCount sheet * 24)) (spendWork 1 (codeCount sheet)) (start .args .resources)
-    (bytes-came 1 (metered .metered .result) (start .args .resources) (charge-bytes .charge-bytes .ensures) (metered .metered .ensures 1) (ap (λ (n : ℕ). n * 24) (counted (m .are) .code-count)))
+    let n = start .args .sizes .«code_count» in
+    second-came 1 (spendBytes 1 (n * 24)) (spendWork 1 n) (start .args .resources)
+    (bytes-came 1 (metered .metered .result) (start .args .resources) (charge-bytes .charge-bytes .ensures) (metered .metered .ensures 1) refl)
     (c .metered2 .result) (records .records .given .1)
-    (work-came 1 (c .metered2 .result) _ (c .before .charge-work .ensures) (c .metered2 .ensures 1) (counted (m .are) .code-count))
+    (work-came 1 (c .metered2 .result) _ (c .before .charge-work .ensures) (c .metered2 .ensures 1) refl)
 
 pub charge-flow-spec : {M : Type 1} → statement M
 charge-flow-spec =

@@ -6,8 +6,7 @@ use Rattle.model.specs.Fact.{Fact}
 use Rattle.model.specs.Tables.{cellOf, factsOf}
 use Rattle.model.specs.Transfer.{factFor, iterNext}
 use Rattle.fact_cells.proofs.Facts.{read}
-use Rattle.effects.proofs.Rules.{iterates-on}
-use Rattle.effects.proofs.Targets.{filled-one}
+use Rattle.effects.proofs.Rules.{iterates-on, container-effect}
 use Rattle.effects.proofs.effects.container_effect.Statement.{statement}
 use Rattle.effects.proofs.effects.container_effect.Tie as tie
 
@@ -21,17 +20,17 @@ iter-next-cell-requires : tie.Need-iter-next-cell-requires
 iter-next-cell-requires c κs = search needs
 
 returns : tie.Need-returns
-returns c slot =
+returns c =
     let s = c .before .before .before .before .before .before .before .before .before in
-    iterates-on (s .args .sheet .now) (s .args .pc) (s .args .inst) (s .pre .0 .3) (s .args .slots .now) (factsOf (s .args .kinds .now) (s .args .values .now)) slot (c .before .before .before .if1 .taken) (c .iter-next-cell .ensures ∙ ap (λ (x : Fact). cellOf (iterNext x)) (read _ (c .before .fact-for-tracked-source .ensures ∙ ap (λ (n : ℕ). cellOf (factFor (s .args .slots .now) (factsOf (s .args .kinds .now) (s .args .values .now)) n)) (c .before .before .wide .ensures .0))))
+    iterates-on (s .args .sheet .now) (s .args .pc) (s .args .slots .now) (factsOf (s .args .kinds .now) (s .args .values .now)) (s .args .inst) (s .pre .0 .3) (c .before .before .before .if1 .taken) (c .iter-next-cell .ensures ∙ ap (λ (x : Fact). cellOf (iterNext x)) (read _ (c .before .fact-for-tracked-source .ensures ∙ ap (λ (n : ℕ). cellOf (factFor (s .args .slots .now) (factsOf (s .args .kinds .now) (s .args .values .now)) n)) (c .before .before .wide .ensures .0))))
 
 container-fact-written-to-slot-requires : tie.Need-container-fact-written-to-slot-requires
 container-fact-written-to-slot-requires c κs = search needs
 
 returns-2 : tie.Need-returns-2
-returns-2 c slot =
+returns-2 c =
     let s = c .before .before .before .before .before .before .before in
-    filled-one (s .args .slots .now) (factsOf (s .args .kinds .now) (s .args .values .now)) slot (s .args .inst .a) _ _ (c .container-fact-written-to-slot .ensures slot)
+    container-effect (s .args .sheet .now) (s .args .pc) (s .args .slots .now) (factsOf (s .args .kinds .now) (s .args .values .now)) (s .args .inst) (s .pre .0 .3) (c .before .if1 .left) (s .pre .1) (c .container-fact-written-to-slot .ensures)
 
 pub container-effect-spec : {M : Type 1} → statement M
 container-effect-spec =

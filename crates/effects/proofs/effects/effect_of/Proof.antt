@@ -1,14 +1,17 @@
 -- `effects::effects::effect_of` meets its contract: CopyN by one law, any other by its analysis. Assumes nothing.
+use mathlib.Core.Path.{sym, ap, _∙_}
 use borrow.Author.Needs.{needs}
 use Rattle.model.specs.Tables.{factsOf}
-use Rattle.effects.proofs.Rules.{copies-n, constant-effect, index-effect, container-effect}
+use Rattle.model.specs.declared.AnalysisKind.{AnalysisKind}
+use Rattle.effects.specs.Effect.{effectOf}
+use Rattle.effects.proofs.Rules.{copies-n, constant-effect, index-effect}
 use Rattle.effects.proofs.effects.effect_of.Statement.{statement}
 use Rattle.effects.proofs.effects.effect_of.Tie as tie
 
 returns : tie.Need-returns
-returns c slot =
+returns c =
     let s = c .before .before .before .before .before .before in
-    copies-n (s .args .sheet .now) (s .args .pc) (s .args .inst) (s .pre .3) (s .args .which) (s .args .slots .now) (factsOf (s .args .kinds .now) (s .args .values .now)) slot (c .if1 .taken)
+    copies-n (s .args .sheet .now) (s .args .pc) (s .args .slots .now) (factsOf (s .args .kinds .now) (s .args .values .now)) (s .args .inst) (s .pre .3) (s .args .which) (c .if1 .taken)
 
 enum-told : tie.Need-enum-told
 enum-told c = search needs
@@ -29,19 +32,19 @@ container-effect-requires : tie.Need-container-effect-requires
 container-effect-requires c κs = search needs
 
 returns-2 : tie.Need-returns-2
-returns-2 c slot =
+returns-2 c =
     let s = c .before .before .before .before .before .before .before .before .before in
-    constant-effect (s .args .sheet .now) (s .args .pc) (s .args .inst) (s .pre .3) (s .args .which) (s .args .slots .now) (factsOf (s .args .kinds .now) (s .args .values .now)) slot _ (c .before .enum-told .given .1) (c .constant-fact-written-to-slot .ensures slot)
+    constant-effect (s .args .sheet .now) (s .args .pc) (s .args .slots .now) (factsOf (s .args .kinds .now) (s .args .values .now)) (s .args .inst) (s .pre .3) (c .before .enum-told .given .1) (c .before .before .before .if1 .left) (c .constant-fact-written-to-slot .ensures)
 
 returns-3 : tie.Need-returns-3
-returns-3 c slot =
+returns-3 c =
     let s = c .before .before .before .before .before .before .before .before .before in
-    index-effect (s .args .sheet .now) (s .args .pc) (s .args .inst) (s .pre .3) (s .args .which) (s .args .slots .now) (factsOf (s .args .kinds .now) (s .args .values .now)) slot _ (c .before .enum-told2 .given .1) (c .index-check-fact-written-to-slot .ensures slot)
+    index-effect (s .args .sheet .now) (s .args .pc) (s .args .slots .now) (factsOf (s .args .kinds .now) (s .args .values .now)) (s .args .inst) (s .pre .3) (c .before .enum-told2 .given .1) (c .before .before .before .if1 .left) (c .index-check-fact-written-to-slot .ensures)
 
 returns-4 : tie.Need-returns-4
-returns-4 c slot =
+returns-4 c =
     let s = c .before .before .before .before .before .before .before .before .before in
-    container-effect (s .args .sheet .now) (s .args .pc) (s .args .inst) (s .pre .3) (s .args .which) (s .args .slots .now) (factsOf (s .args .kinds .now) (s .args .values .now)) slot (c .before .enum-told3 .given .1) _ (c .container-effect .ensures slot)
+    c .container-effect .ensures ∙ ap (λ (w : AnalysisKind). effectOf w (s .args .sheet .now) (s .args .pc) (s .args .slots .now) (factsOf (s .args .kinds .now) (s .args .values .now))) (sym (c .before .enum-told3 .given .1))
 
 pub effect-of-spec : {M : Type 1} → statement M
 effect-of-spec =

@@ -1,7 +1,7 @@
 -- `listing::rows::row_lines` meets its contract. Assumes nothing.
 use Prim.Native.Nat.{_-_, _≤_}
 use lib.ListN.{length}
-use Rattle.fact_text.specs.Facts.{factText}
+use Rattle.model.specs.Listing.{factText}
 use Rattle.listing.proofs.Cells.{Listed, listed-none, listed-more, listed-all, listed-nothing}
 use native.Mathlib.Omega.{arith}
 use denote.Ref.{now}
@@ -9,20 +9,20 @@ use Rattle.listing.proofs.rows.row_lines.Statement.{statement}
 use Rattle.listing.proofs.rows.row_lines.Tie as tie
 
 abbrev Inv-loop : tie.InvT-loop
-Inv-loop which sheet sizes starts pc slots present kinds values out₀ at₀ j₀ out at j = (j ≤ length slots) × Listed (factText which sheet) pc slots kinds values out₀ j at out
+Inv-loop which sheet sizes starts pc slots present kinds values at out₀ next₀ j₀ out next j = (j ≤ length slots) × Listed (factText which sheet) pc slots kinds values at out₀ j next out
 
 abbrev μ-loop : tie.MeasureT-loop
-μ-loop which sheet sizes starts pc slots present kinds values out₀ at₀ j₀ out at j = length slots - j
+μ-loop which sheet sizes starts pc slots present kinds values at out₀ next₀ j₀ out next j = length slots - j
 
 returns : tie.Need-returns Inv-loop μ-loop
 returns c =
     let a = c .before .before .before .before .before .before .before .args in
-    listed-nothing (factText (a .which) (now (a .sheet))) (a .pc) (now (a .slots)) (now (a .kinds)) (now (a .values)) (now (a .out)) (a .present) (c .if1 .taken)
+    listed-nothing (factText (a .which) (now (a .sheet))) (a .pc) (now (a .slots)) (now (a .kinds)) (now (a .values)) (a .at) (now (a .out)) (a .present) (omega arith) (c .if1 .taken)
 
 loop-holds : tie.Need-loop-holds Inv-loop μ-loop
 loop-holds c =
     let a = c .before .before .before .before .before .before .before .args in
-    (omega arith, listed-none (factText (a .which) (now (a .sheet))) (a .pc) (now (a .slots)) (now (a .kinds)) (now (a .values)) (now (a .out)))
+    (omega arith, listed-none (factText (a .which) (now (a .sheet))) (a .pc) (now (a .slots)) (now (a .kinds)) (now (a .values)) (a .at) (now (a .out)) (omega arith))
 
 mul-cell-line : tie.Need-mul-cell-line Inv-loop μ-loop
 mul-cell-line c = omega arith
@@ -55,7 +55,7 @@ loop-again c =
     let a = c .before .before .before .before .before .before .before .before .before .before .before .before .before .before .before .before .args in
     let p = c .before .before .before .before .before .before .before .before .before .before .before .before .before .before .before .before .pre in
     let l = c .before .before .before .before .before .before .before .before .loop in
-    (omega arith, listed-more (factText (a .which) (now (a .sheet))) (a .pc) (now (a .slots)) (now (a .kinds)) (now (a .values)) (now (a .out)) (l .out) _ (l .j) (l .at) _ (p .1) (p .2) (c .before .before .before .before .before .before .before .loop-test .taken) (l .inv .1) (c .before .before .cell-line .ensures))
+    (omega arith, listed-more (factText (a .which) (now (a .sheet))) (a .pc) (now (a .slots)) (now (a .kinds)) (now (a .values)) (a .at) (now (a .out)) (l .out) _ (l .j) (l .next) _ (p .1) (p .2) (c .before .before .before .before .before .before .before .loop-test .taken) (l .inv .1) (c .before .before .cell-line .ensures))
 
 same-length : tie.Need-same-length Inv-loop μ-loop
 same-length c = c .before .loop .inv .1 .long
@@ -65,7 +65,7 @@ returns-2 c =
     let a = c .before .before .before .before .before .before .before .before .before .args in
     let p = c .before .before .before .before .before .before .before .before .before .pre in
     let l = c .before .loop in
-    listed-all (factText (a .which) (now (a .sheet))) (a .pc) (now (a .slots)) (now (a .kinds)) (now (a .values)) (now (a .out)) (l .out) (a .present) (l .j) (l .at) (p .1) (p .2) (c .before .before .if1 .left) (omega arith) (l .inv .1)
+    listed-all (factText (a .which) (now (a .sheet))) (a .pc) (now (a .slots)) (now (a .kinds)) (now (a .values)) (a .at) (now (a .out)) (l .out) (a .present) (l .j) (l .next) (p .1) (p .2) (c .before .before .if1 .left) (omega arith) (l .inv .1)
 
 pub row-lines-spec : {M : Type 1} → statement M
 row-lines-spec =

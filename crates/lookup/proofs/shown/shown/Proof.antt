@@ -35,7 +35,7 @@ shared-slice-read-show-if-2 c =
     let a = c .before .before .before .before .before .before .before .args in
     let l = c .before .before .before .loop in
     let p = c .before .before .before .before .before .before .before .pre in
-    (next-cell (a .s) (a .j) (l .i) (l .pc) (length (now (a .present))) (length (now (a .kinds))) (l .inv .0) (c .before .before .loop-test .taken) (p .0) (p .1) (l .inv .2)) .1
+    omega (arith, (next-cell (a .s) (a .j) (l .i) (l .pc) (length (now (a .present))) (length (now (a .kinds))) (l .inv .0) (c .before .before .loop-test .taken) (p .0) (p .1) (l .inv .2)) .1)
 
 mul-show-if : tie.Need-mul-show-if Inv-loop μ-loop
 mul-show-if c =

@@ -2,16 +2,16 @@
 -- Assumes nothing.
 use native.Mathlib.Omega.{arith}
 use borrow.Author.Tests.{eq-eqb, ne-eqb}
-use Rattle.model.specs.Closure.{listed}
+use Rattle.model.specs.Closure.{listUnless}
 use Rattle.marks.proofs.slots.one_if_set.Statement.{statement}
 use Rattle.marks.proofs.slots.one_if_set.Tie as tie
 
 returns : tie.Need-returns
-unfolding listed
+unfolding listUnless
 returns c = (rw (eq-eqb _ 0 (c .if1 .taken)), omega arith)
 
 returns-2 : tie.Need-returns-2
-unfolding listed
+unfolding listUnless
 returns-2 c = (rw (ne-eqb _ 0 (c .if1 .left)), omega arith)
 
 pub one-if-set-spec : {M : Type 1} → statement M

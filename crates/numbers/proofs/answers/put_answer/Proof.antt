@@ -1,7 +1,6 @@
 -- `answers::put_answer` meets its contract. Assumes nothing.
 use mathlib.Core.Path.{refl}
-use Rattle.model.specs.Call.{answerNumbered}
-use Rattle.numbers.specs.Numbers.{answerNumbers}
+use Rattle.numbers.specs.Numbers.{numbersCompute}
 use borrow.Author.Needs.{needs}
 use Rattle.numbers.proofs.answers.put_answer.Statement.{statement}
 use Rattle.numbers.proofs.answers.put_answer.Tie as tie
@@ -34,28 +33,28 @@ same-length : tie.Need-same-length
 same-length c = search needs
 
 returns : tie.Need-returns
-unfolding answerNumbers answerNumbered
+unfolding numbersCompute
 returns c = rw (c .before .before .before .before .before .answer .given .1) (c .before .before .put-twelve .ensures, refl)
 
 same-length-2 : tie.Need-same-length-2
 same-length-2 c = search needs
 
 returns-2 : tie.Need-returns-2
-unfolding answerNumbers answerNumbered
+unfolding numbersCompute
 returns-2 c = rw (c .before .before .before .before .before .answer2 .given .1) (c .before .before .put-refusal .ensures)
 
 same-length-3 : tie.Need-same-length-3
 same-length-3 c = search needs
 
 returns-3 : tie.Need-returns-3
-unfolding answerNumbers answerNumbered
+unfolding numbersCompute
 returns-3 c = rw (c .before .before .before .before .before .answer3 .given .1) (c .before .before .put-refusal2 .ensures)
 
 same-length-4 : tie.Need-same-length-4
 same-length-4 c = search needs
 
 returns-4 : tie.Need-returns-4
-unfolding answerNumbers answerNumbered
+unfolding numbersCompute
 returns-4 c = rw (c .before .before .before .before .before .answer4 .given .1) (c .before .before .put-refusal3 .ensures)
 
 pub put-answer-spec : {M : Type 1} → statement M

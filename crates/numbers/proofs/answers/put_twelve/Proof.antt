@@ -2,7 +2,7 @@
 use native.Mathlib.Omega.{arith}
 use lib.ListN.{length-set}
 use lib.Seq.{sets-eq}
-use Rattle.numbers.specs.Numbers.{twelve}
+use Rattle.numbers.specs.Numbers.{entries, numbersCompute}
 use borrow.Author.Needs.{needs}
 use Rattle.numbers.proofs.answers.put_twelve.Statement.{statement}
 use Rattle.numbers.proofs.answers.put_twelve.Tie as tie
@@ -47,8 +47,8 @@ same-length : tie.Need-same-length
 same-length c = simp length-set
 
 returns : tie.Need-returns
-unfolding twelve
-returns c = sets-eq (twelve (c .args .number) (c .args .constant) (c .args .index) (c .args .container) (c .args .left) (c .args .stage) (c .args .requested) (c .args .remaining)) (c .args .out .now) 0 (c .pre)
+unfolding numbersCompute
+returns c = sets-eq (entries (c .args .number) (c .args .constant) (c .args .index) (c .args .container) (c .args .left) (c .args .stage) (c .args .requested) (c .args .remaining)) (c .args .out .now) 0 (c .pre)
 
 pub put-twelve-spec : {M : Type 1} → statement M
 put-twelve-spec =

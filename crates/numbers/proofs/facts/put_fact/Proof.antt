@@ -5,7 +5,7 @@ use native.Mathlib.Omega.{arith}
 use borrow.Author.Tests.{lt-leb, le-leb}
 use lib.ListN.{length}
 use lib.Seq.{sets-eq}
-use Rattle.numbers.specs.Facts.{looked, lookedUp, factsCompute}
+use Rattle.model.specs.Interface.{looked, lookedUp, interfaceCompute}
 use borrow.Author.Needs.{needs}
 use Rattle.numbers.proofs.facts.put_fact.Statement.{statement}
 use Rattle.numbers.proofs.facts.put_fact.Tie as tie
@@ -36,15 +36,15 @@ same-length : tie.Need-same-length
 same-length c = search needs
 
 returns-2 : tie.Need-returns-2
-unfolding factsCompute
+unfolding interfaceCompute
 returns-2 c = rw (c .before .fact .given .1, le-leb 2 (length (c .before .before .before .before .args .out .now)) (omega arith)) (ap (looked 0) (sets-eq (_ ∷ _ ∷ []) (c .before .before .before .before .args .out .now) 0 (omega arith)))
 
 returns-3 : tie.Need-returns-3
-unfolding factsCompute
+unfolding interfaceCompute
 returns-3 c = rw (c .enum-told .given .1, le-leb 2 (length (c .before .before .before .args .out .now)) (omega arith))
 
 returns-4 : tie.Need-returns-4
-unfolding factsCompute
+unfolding interfaceCompute
 returns-4 c = rw (c .enum-told2 .given .1, le-leb 2 (length (c .before .before .before .args .out .now)) (omega arith))
 
 pub put-fact-spec : {M : Type 1} → statement M

@@ -1,5 +1,5 @@
 -- `facts::reached` meets its contract. Assumes nothing.
-use Rattle.numbers.specs.Facts.{factsCompute}
+use Rattle.model.specs.Interface.{interfaceCompute}
 use borrow.Author.Needs.{needs}
 use Rattle.numbers.proofs.facts.reached.Statement.{statement}
 use Rattle.numbers.proofs.facts.reached.Tie as tie
@@ -14,15 +14,15 @@ enum-told-3 : tie.Need-enum-told-3
 enum-told-3 c = search needs
 
 returns : tie.Need-returns
-unfolding factsCompute
+unfolding interfaceCompute
 returns c = rw (c .enum-told .given .1)
 
 returns-2 : tie.Need-returns-2
-unfolding factsCompute
+unfolding interfaceCompute
 returns-2 c = rw (c .enum-told2 .given .1)
 
 returns-3 : tie.Need-returns-3
-unfolding factsCompute
+unfolding interfaceCompute
 returns-3 c = rw (c .enum-told3 .given .1)
 
 pub reached-spec : {M : Type 1} → statement M

@@ -3,7 +3,7 @@
 use mathlib.Core.Path.{refl, sym, _∙_}
 use Rattle.model.specs.declared.AnalysisKind.the-variants.{Constant}
 use Rattle.sheet.proofs.Asked.{measured}
-use Rattle.stages.specs.Stage.{table, scratch}
+use Rattle.model.specs.Call.{table, scratch}
 use Rattle.analyses.proofs.Ready.{few-code, few-layouts, found, clean, still-clear}
 use Rattle.analyses.proofs.Constants.{constants-stored}
 use Rattle.analyses.proofs.Two.{values-promise}

@@ -1,14 +1,10 @@
 -- `clear_scratch` meets its contract, slice by slice.
 -- Assumes nothing.
+use borrow.Author.Needs.{needs}
 use Rattle.stages.specs.Stage.{zeroScratch}
 use Rattle.stages.proofs.Paths.{scratch-path}
 use Rattle.stages.proofs.clearing.clear_scratch.Statement.{statement}
 use Rattle.stages.proofs.clearing.clear_scratch.Tie as tie
-use Rattle.stages.proofs.clearing.clear_scratch.Reads as reads
-use Rattle.stages.proofs.clearing.clear_scratch.Lts as lts
-use Rattle.memory.proofs.clear_u16.Reads as clear-u16-reads
-use Rattle.memory.proofs.clear_u64.Reads as clear-u64-reads
-use Rattle.memory.proofs.clear_u8.Reads as clear-u8-reads
 
 clear-u8-requires : tie.Need-clear-u8-requires
 clear-u8-requires c κs = tt
@@ -25,24 +21,24 @@ clear-u64-requires c κs = tt
 clear-u16-requires-2 : tie.Need-clear-u16-requires-2
 clear-u16-requires-2 c κs = tt
 
-same-length : tie.Need-same-length
-same-length c = c .before .before .before .before .before .before .before .before .before .before .before .before .before .before .before .before .before .before .clear-u8 .kept .0
-
-same-length-2 : tie.Need-same-length-2
-same-length-2 c = c .before .before .before .before .before .before .before .before .before .before .before .before .before .before .clear-u16 .kept .0
-
-same-length-3 : tie.Need-same-length-3
-same-length-3 c = c .before .before .before .before .before .before .before .before .before .before .clear-u82 .kept .0
-
-same-length-4 : tie.Need-same-length-4
-same-length-4 c = c .before .before .before .before .before .before .clear-u64 .kept .0
-
-same-length-5 : tie.Need-same-length-5
-same-length-5 c = c .before .before .clear-u162 .kept .0
-
 returns : tie.Need-returns
 unfolding zeroScratch
-returns c = scratch-path (c .before .before .before .before .before .before .before .before .before .before .before .before .before .before .before .before .before .before .clear-u8 .ensures) (c .before .before .before .before .before .before .before .before .before .before .before .before .before .before .clear-u16 .ensures) (c .before .before .before .before .before .before .before .before .before .before .clear-u82 .ensures) (c .before .before .before .before .before .before .clear-u64 .ensures) (c .before .before .clear-u162 .ensures)
+returns c = scratch-path (search needs) (search needs) (search needs) (search needs) (search needs)
+
+same-length : tie.Need-same-length
+same-length c = search needs
+
+same-length-2 : tie.Need-same-length-2
+same-length-2 c = search needs
+
+same-length-3 : tie.Need-same-length-3
+same-length-3 c = search needs
+
+same-length-4 : tie.Need-same-length-4
+same-length-4 c = search needs
+
+same-length-5 : tie.Need-same-length-5
+same-length-5 c = search needs
 
 pub clear-scratch-spec : {M : Type 1} → statement M
 clear-scratch-spec =

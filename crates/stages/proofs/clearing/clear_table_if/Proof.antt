@@ -1,6 +1,6 @@
 -- `clear_table_if` meets its contract.
 -- Assumes nothing.
-use Rattle.stages.specs.Stage.{tableIf}
+use Rattle.stages.proofs.Paths.{cleared-if, kept-if}
 use Rattle.stages.proofs.clearing.clear_table_if.Statement.{statement}
 use Rattle.stages.proofs.clearing.clear_table_if.Tie as tie
 use Rattle.stages.proofs.clearing.clear_table_if.Reads as reads
@@ -23,12 +23,10 @@ same-length-4 : tie.Need-same-length-4
 same-length-4 c = c .before .before .before .before .before .before .before .before .clear-table .kept .1 .1 .1 .0
 
 returns : tie.Need-returns
-unfolding tableIf
-returns c = rw (c .before .before .before .before .before .before .before .before .before .before .before .before .before .if1 .taken) (c .before .before .before .before .before .before .before .before .clear-table .ensures)
+returns c = cleared-if _ (c .before .before .before .before .before .before .before .before .before .before .before .before .before .if1 .taken) (c .before .before .before .before .before .before .before .before .clear-table .ensures)
 
 returns-2 : tie.Need-returns-2
-unfolding tableIf
-returns-2 c = rw (c .if1 .left)
+returns-2 c = kept-if (c .if1 .left)
 
 pub clear-table-if-spec : {M : Type 1} → statement M
 clear-table-if-spec =

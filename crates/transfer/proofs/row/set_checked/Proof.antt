@@ -1,4 +1,5 @@
 -- `transfer::row::set_checked` meets its contract: IndexCheck puts its fact, any other leaves the row. Assumes nothing.
+use native.Mathlib.Omega.{arith}
 use borrow.Author.Needs.{needs}
 use Rattle.transfer.proofs.Through.{index-checked, not-checked}
 use Rattle.transfer.proofs.row.set_checked.Statement.{statement}
@@ -25,7 +26,7 @@ same-length-2 c = search needs
 returns : tie.Need-returns
 returns c row l =
     let s = c .before .before .before .before .before .before .before .before .before .before .before .before .before .before in
-    index-checked (s .args .inst) (s .args .slots .now) _ row l (c .before .before .before .before .before .before .before .before .before .before .checks-index .ensures) (c .before .before .before .before .before .before .before .before .before .if1 .taken) (c .before .before .before .before .before .before .before .before .wide .ensures .0) (c .before .before .before .before .before .before .before .checked-cell .ensures) (c .before .before .before .before .put-fact .ensures)
+    index-checked (s .args .inst) (s .args .slots .now) _ row l (c .before .before .before .before .before .before .before .before .before .before .checks-index .ensures) (c .before .before .before .before .before .before .before .before .before .if1 .taken) (c .before .before .before .before .before .before .before .before .wide .ensures .0) (c .before .before .before .before .before .before .before .checked-cell .ensures) (s .pre .1) (s .pre .2) (λ k l. omega (arith, c .before .before .before .before .before .before .before .before .before .before .before .before .before .shared-slice-known .given k)) (c .before .before .before .before .put-fact .ensures)
 
 returns-2 : tie.Need-returns-2
 returns-2 c row l =

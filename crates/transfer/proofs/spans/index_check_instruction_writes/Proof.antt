@@ -5,7 +5,7 @@ use borrow.Author.Needs.{needs}
 use Rattle.model.specs.Tables.{cellOf, factsOf}
 use Rattle.model.specs.Transfer.{factFor}
 use Rattle.sheet.proofs.Asked.{measured}
-use Rattle.transfer.proofs.Named.{unchecked-names, checked-names, checked-n-names, as-others-names}
+use Rattle.transfer.proofs.Found.{unchecked-spans, checked-spans, checked-n-spans, as-other-spans}
 use Rattle.transfer.proofs.spans.index_check_instruction_writes.Statement.{statement}
 use Rattle.transfer.proofs.spans.index_check_instruction_writes.Tie as tie
 
@@ -21,7 +21,7 @@ span-requires c κs = search needs
 returns : tie.Need-returns
 returns c =
     let s = c .before .before .before .before .before .before .before .before .before .before .before in
-    checked-names (s .args .sheet .now) (s .args .sizes) (s .args .pc) (s .args .inst) (s .pre .1 .0) _ (c .before .before .before .fact-for-tracked-source .ensures ∙ ap (λ (n : ℕ). cellOf (factFor (s .args .slots .now) (factsOf (s .args .kinds .now) (s .args .values .now)) n)) (c .before .before .before .before .wide .ensures .0)) (c .before .if2 .taken) (c .before .before .before .before .before .if1 .taken) (c .span .ensures)
+    checked-spans (s .args .sheet .now) (s .args .pc) (s .args .inst) (s .pre .1 .0) _ (c .before .before .before .fact-for-tracked-source .ensures ∙ ap (λ (n : ℕ). cellOf (factFor (s .args .slots .now) (factsOf (s .args .kinds .now) (s .args .values .now)) n)) (c .before .before .before .before .wide .ensures .0)) (c .before .if2 .taken) (c .before .before .before .before .before .if1 .taken) (c .span .ensures)
 
 instruction-writes-requires : tie.Need-instruction-writes-requires
 instruction-writes-requires c κs = search needs
@@ -29,7 +29,7 @@ instruction-writes-requires c κs = search needs
 returns-2 : tie.Need-returns-2
 returns-2 c =
     let s = c .before .before .before .before .before .before .before .before .before .before .before in
-    unchecked-names (s .args .sheet .now) (s .args .sizes) (s .args .pc) (s .args .inst) (s .pre .1 .0) _ (c .before .before .before .fact-for-tracked-source .ensures ∙ ap (λ (n : ℕ). cellOf (factFor (s .args .slots .now) (factsOf (s .args .kinds .now) (s .args .values .now)) n)) (c .before .before .before .before .wide .ensures .0)) (c .before .if2 .left) (c .instruction-writes .ensures)
+    unchecked-spans (s .args .sheet .now) (s .args .pc) (s .args .inst) (s .pre .1 .0) _ (c .before .before .before .fact-for-tracked-source .ensures ∙ ap (λ (n : ℕ). cellOf (factFor (s .args .slots .now) (factsOf (s .args .kinds .now) (s .args .values .now)) n)) (c .before .before .before .before .wide .ensures .0)) (c .before .if2 .left) (c .instruction-writes .ensures)
 
 wide-requires-2 : tie.Need-wide-requires-2
 wide-requires-2 c κs = search needs
@@ -48,7 +48,7 @@ span-requires-2 c κs = search needs
 returns-3 : tie.Need-returns-3
 returns-3 c =
     let s = c .before .before .before .before .before .before .before .before .before .before .before .before .before in
-    checked-n-names (s .args .sheet .now) (s .args .sizes) (s .args .pc) (s .args .inst) (s .pre .1 .0) _ (c .before .before .before .before .fact-for-tracked-source2 .ensures ∙ ap (λ (n : ℕ). cellOf (factFor (s .args .slots .now) (factsOf (s .args .kinds .now) (s .args .values .now)) n)) (c .before .before .before .before .before .wide2 .ensures .0)) (c .before .before .if4 .taken) (c .before .before .before .before .before .before .if3 .taken) _ (c .before .elem-slots .ensures) (c .span2 .ensures)
+    checked-n-spans (s .args .sheet .now) (s .args .pc) (s .args .inst) (s .pre .1 .0) _ (c .before .before .before .before .fact-for-tracked-source2 .ensures ∙ ap (λ (n : ℕ). cellOf (factFor (s .args .slots .now) (factsOf (s .args .kinds .now) (s .args .values .now)) n)) (c .before .before .before .before .before .wide2 .ensures .0)) (c .before .before .if4 .taken) (c .before .before .before .before .before .before .if3 .taken) (c .before .elem-slots .ensures) (c .span2 .ensures)
 
 instruction-writes-requires-2 : tie.Need-instruction-writes-requires-2
 instruction-writes-requires-2 c κs = search needs
@@ -56,7 +56,7 @@ instruction-writes-requires-2 c κs = search needs
 returns-4 : tie.Need-returns-4
 returns-4 c =
     let s = c .before .before .before .before .before .before .before .before .before .before .before .before in
-    unchecked-names (s .args .sheet .now) (s .args .sizes) (s .args .pc) (s .args .inst) (s .pre .1 .0) _ (c .before .before .before .fact-for-tracked-source2 .ensures ∙ ap (λ (n : ℕ). cellOf (factFor (s .args .slots .now) (factsOf (s .args .kinds .now) (s .args .values .now)) n)) (c .before .before .before .before .wide2 .ensures .0)) (c .before .if4 .left) (c .instruction-writes2 .ensures)
+    unchecked-spans (s .args .sheet .now) (s .args .pc) (s .args .inst) (s .pre .1 .0) _ (c .before .before .before .fact-for-tracked-source2 .ensures ∙ ap (λ (n : ℕ). cellOf (factFor (s .args .slots .now) (factsOf (s .args .kinds .now) (s .args .values .now)) n)) (c .before .before .before .before .wide2 .ensures .0)) (c .before .if4 .left) (c .instruction-writes2 .ensures)
 
 instruction-writes-requires-3 : tie.Need-instruction-writes-requires-3
 instruction-writes-requires-3 c κs = search needs
@@ -64,7 +64,7 @@ instruction-writes-requires-3 c κs = search needs
 returns-5 : tie.Need-returns-5
 returns-5 c =
     let s = c .before .before .before .before .before .before .before .before in
-    as-others-names (s .args .sheet .now) (s .args .sizes) (s .args .pc) (s .args .inst) (s .pre .1 .0) _ (c .before .before .if1 .left) (c .before .if3 .left) (c .instruction-writes3 .ensures)
+    as-other-spans (s .args .sheet .now) (s .args .pc) (s .args .inst) (s .pre .1 .0) _ (c .before .before .if1 .left) (c .before .if3 .left) (c .instruction-writes3 .ensures)
 
 pub index-check-instruction-writes-spec : {M : Type 1} → statement M
 index-check-instruction-writes-spec =

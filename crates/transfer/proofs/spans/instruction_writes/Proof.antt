@@ -1,14 +1,14 @@
 -- `transfer::spans::instruction_writes` meets its contract: by the opcode, and for SlotSetN by its note. Assumes nothing.
 use borrow.Author.Needs.{needs}
 use Rattle.sheet.proofs.Asked.{measured}
-use Rattle.transfer.proofs.Named.{set-names, elements-names, nothing-names, other-names}
+use Rattle.transfer.proofs.Found.{set-spans, element-spans, no-spans, other-spans}
 use Rattle.transfer.proofs.spans.instruction_writes.Statement.{statement}
 use Rattle.transfer.proofs.spans.instruction_writes.Tie as tie
 
 returns : tie.Need-returns
 returns c =
     let s = c .before .before .before in
-    set-names (s .args .sheet .now) (s .args .sizes) (s .args .pc) (s .args .inst) (s .pre .1) (c .if1 .taken)
+    set-spans (s .args .sheet .now) (s .args .pc) (s .args .inst) (s .pre .1) (c .if1 .taken)
 
 has-elements-requires : tie.Need-has-elements-requires
 has-elements-requires c κs = (measured (c .before .before .before .before .pre .0 .0), c .before .before .before .before .pre .0 .2)
@@ -16,12 +16,12 @@ has-elements-requires c κs = (measured (c .before .before .before .before .pre 
 returns-2 : tie.Need-returns-2
 returns-2 c =
     let s = c .before .before .before .before .before .before in
-    elements-names (s .args .sheet .now) (s .args .sizes) (s .args .pc) (s .args .inst) (s .pre .1) (c .before .before .if2 .taken) (c .before .has-elements .ensures) (c .if3 .taken)
+    element-spans (s .args .sheet .now) (s .args .pc) (s .args .inst) (s .pre .1) (c .before .before .if2 .taken) (c .before .has-elements .ensures) (c .if3 .taken)
 
 returns-3 : tie.Need-returns-3
 returns-3 c =
     let s = c .before .before .before .before .before .before in
-    nothing-names (s .args .sheet .now) (s .args .sizes) (s .args .pc) (s .args .inst) (s .pre .1) (c .before .before .if2 .taken) (c .before .has-elements .ensures) (c .if3 .left)
+    no-spans (s .args .sheet .now) (s .args .pc) (s .args .inst) (s .pre .1) (c .before .before .if2 .taken) (c .before .has-elements .ensures) (c .if3 .left)
 
 ranges-written-requires : tie.Need-ranges-written-requires
 ranges-written-requires c κs = search needs
@@ -29,7 +29,7 @@ ranges-written-requires c κs = search needs
 returns-4 : tie.Need-returns-4
 returns-4 c =
     let s = c .before .before .before .before .before in
-    other-names (s .args .sheet .now) (s .args .sizes) (s .args .pc) (s .args .inst) (s .pre .1) (c .before .before .if1 .left) (c .before .if2 .left) (c .ranges-written .ensures)
+    other-spans (s .args .sheet .now) (s .args .pc) (s .args .inst) (s .pre .1) (c .before .before .if1 .left) (c .before .if2 .left) (c .ranges-written .ensures)
 
 pub instruction-writes-spec : {M : Type 1} → statement M
 instruction-writes-spec =

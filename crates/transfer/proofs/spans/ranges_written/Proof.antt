@@ -1,9 +1,10 @@
 -- `transfer::spans::ranges_written` meets its contract: all slots, or those of the instruction's ranges. Assumes nothing.
+use mathlib.Core.Path.{_∙_}
 use native.Mathlib.Omega.{arith}
 use borrow.Author.Needs.{needs}
 use Rattle.sheet.proofs.Asked.{measured}
-use Rattle.writes.proofs.Rules.{in-table}
-use Rattle.transfer.proofs.Named.{erred-names, ranges-names}
+use Rattle.writes.proofs.Rules.{in-code, in-table}
+use Rattle.transfer.proofs.Found.{all-spans, own-spans}
 use Rattle.transfer.proofs.spans.ranges_written.Statement.{statement}
 use Rattle.transfer.proofs.spans.ranges_written.Tie as tie
 
@@ -11,9 +12,7 @@ write-count-at-requires : tie.Need-write-count-at-requires
 write-count-at-requires c κs = (measured (c .before .before .pre .0), c .before .before .pre .2)
 
 returns : tie.Need-returns
-returns c =
-    let s = c .before .before .before .before in
-    erred-names (s .pre .0) (s .pre .1) _ (s .pre .2) _ (c .before .write-count-at .ensures) (c .if1 .taken)
+returns c = all-spans _ _ _ (c .before .write-count-at .ensures) (c .if1 .taken)
 
 mul-wide : tie.Need-mul-wide
 mul-wide c =
@@ -34,7 +33,7 @@ wide-requires-2 c κs = search needs
 returns-2 : tie.Need-returns-2
 returns-2 c =
     let s = c .before .before .before .before .before .before .before in
-    ranges-names (s .pre .0) (s .pre .1) _ (s .pre .2) _ (c .before .before .before .before .write-count-at .ensures) (c .before .before .before .if1 .left) (c .before .wide .ensures .0) (c .wide2 .ensures .0)
+    own-spans _ _ _ (c .before .before .before .before .write-count-at .ensures) (c .before .before .before .if1 .left) (c .before .wide .ensures .0 ∙ s .pre .1 .at (s .args .pc) (in-code (s .pre .0) (s .pre .1) (s .args .pc) (s .pre .2))) (c .wide2 .ensures .0)
 
 pub ranges-written-spec : {M : Type 1} → statement M
 ranges-written-spec =

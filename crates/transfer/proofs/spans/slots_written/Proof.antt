@@ -1,7 +1,7 @@
 -- `transfer::spans::slots_written` meets its contract: by the analysis. Assumes nothing.
 use borrow.Author.Needs.{needs}
 use Rattle.model.specs.Tables.{factsOf}
-use Rattle.transfer.proofs.Named.{constant-names, container-names, index-names}
+use Rattle.transfer.proofs.Found.{constant-spans, container-spans, index-spans}
 use Rattle.transfer.proofs.spans.slots_written.Statement.{statement}
 use Rattle.transfer.proofs.spans.slots_written.Tie as tie
 
@@ -26,17 +26,17 @@ instruction-writes-requires-2 c κs = search needs
 returns : tie.Need-returns
 returns c =
     let s = c .before .before .before .before .before .before .before .before in
-    constant-names (s .args .sheet .now) (s .args .sizes) (s .args .pc) (s .args .inst) (s .pre .1 .0) (s .args .slots .now) (factsOf (s .args .kinds .now) (s .args .values .now)) (c .before .enum-told .given .1) (c .instruction-writes .ensures)
+    constant-spans (s .args .sheet .now) (s .args .pc) (s .args .slots .now) (factsOf (s .args .kinds .now) (s .args .values .now)) (c .before .enum-told .given .1) (c .instruction-writes .ensures)
 
 returns-2 : tie.Need-returns-2
 returns-2 c =
     let s = c .before .before .before .before .before .before .before .before in
-    index-names (s .args .sheet .now) (s .args .sizes) (s .args .pc) (s .args .inst) (s .pre .1 .0) (s .args .slots .now) (factsOf (s .args .kinds .now) (s .args .values .now)) (c .before .enum-told2 .given .1) (c .index-check-instruction-writes .ensures)
+    index-spans (s .args .sheet .now) (s .args .pc) (s .args .slots .now) (factsOf (s .args .kinds .now) (s .args .values .now)) (s .args .inst) (s .pre .1 .0) (c .before .enum-told2 .given .1) (c .index-check-instruction-writes .ensures)
 
 returns-3 : tie.Need-returns-3
 returns-3 c =
     let s = c .before .before .before .before .before .before .before .before in
-    container-names (s .args .sheet .now) (s .args .sizes) (s .args .pc) (s .args .inst) (s .pre .1 .0) (s .args .slots .now) (factsOf (s .args .kinds .now) (s .args .values .now)) (c .before .enum-told3 .given .1) (c .instruction-writes2 .ensures)
+    container-spans (s .args .sheet .now) (s .args .pc) (s .args .slots .now) (factsOf (s .args .kinds .now) (s .args .values .now)) (c .before .enum-told3 .given .1) (c .instruction-writes2 .ensures)
 
 pub slots-written-spec : {M : Type 1} → statement M
 slots-written-spec =

@@ -6,6 +6,7 @@ use denote.Ref.{now}
 use borrow.Author.Needs.{needs}
 use Rattle.model.specs.Tables.{factIn}
 use Rattle.sheet.proofs.Asked.{measured}
+use Rattle.ranges.proofs.InRange.{span-reaches}
 use Rattle.writes.proofs.Rules.{set-checked, setn-checked, not-checked, as-others}
 use Rattle.writes.proofs.index.index_check_instruction_writes_slot.Statement.{statement}
 use Rattle.writes.proofs.index.index_check_instruction_writes_slot.Tie as tie
@@ -18,7 +19,7 @@ in-range-requires c κs = search needs
 
 returns : tie.Need-returns
 unfolding factIn
-returns c = set-checked (now (c .before .before .before .before .before .before .before .args .sheet)) (c .before .before .before .before .before .before .before .args .pc) (c .before .before .before .before .before .before .before .args .slot) (c .before .before .before .before .before .before .before .args .inst) (c .before .before .before .before .before .before .before .pre .1) (omega arith) (c .before .span .result) (c .in-range .result) (c .in-range .ensures) (c .before .before .before .before .before .before .before .args .before .kind) (c .before .before .before .before .before .before .before .args .before .value) (c .before .before .before .if1 .taken) (c .before .before .if2 .taken) (c .before .span .ensures)
+returns c = set-checked (now (c .before .before .before .before .before .before .before .args .sheet)) (c .before .before .before .before .before .before .before .args .pc) (c .before .before .before .before .before .before .before .args .slot) (c .before .before .before .before .before .before .before .args .inst) (c .before .before .before .before .before .before .before .pre .1) (omega arith) (c .before .span .result) (c .in-range .result) (c .in-range .ensures) (c .before .before .before .before .before .before .before .args .before .kind) (c .before .before .before .before .before .before .before .args .before .value) (c .before .before .before .if1 .taken) (c .before .before .if2 .taken) (span-reaches _ 1 (c .before .span .ensures))
 
 elem-slots-requires : tie.Need-elem-slots-requires
 elem-slots-requires c κs = (measured (c .before .before .before .before .before .before .pre .0 .0), c .before .before .before .before .before .before .pre .0 .2, c .before .before .before .before .before .before .pre .1)
@@ -31,7 +32,7 @@ in-range-requires-2 c κs = search needs
 
 returns-2 : tie.Need-returns-2
 unfolding factIn
-returns-2 c = setn-checked (now (c .before .before .before .before .before .before .before .before .before .args .sheet)) (c .before .before .before .before .before .before .before .before .before .args .pc) (c .before .before .before .before .before .before .before .before .before .args .slot) (c .before .before .before .before .before .before .before .before .before .args .inst) (c .before .before .before .before .before .before .before .before .before .pre .1) (omega arith) (c .before .span2 .result) (c .in-range2 .result) (c .in-range2 .ensures) (c .before .before .before .before .before .before .before .before .before .args .before .kind) (c .before .before .before .before .before .before .before .before .before .args .before .value) (c .before .before .elem-slots .result) (c .before .before .before .before .before .if1 .taken) (c .before .before .before .if3 .taken) (c .before .before .elem-slots .ensures) (c .before .span2 .ensures)
+returns-2 c = setn-checked (now (c .before .before .before .before .before .before .before .before .before .args .sheet)) (c .before .before .before .before .before .before .before .before .before .args .pc) (c .before .before .before .before .before .before .before .before .before .args .slot) (c .before .before .before .before .before .before .before .before .before .args .inst) (c .before .before .before .before .before .before .before .before .before .pre .1) (omega arith) (c .before .span2 .result) (c .in-range2 .result) (c .in-range2 .ensures) (c .before .before .before .before .before .before .before .before .before .args .before .kind) (c .before .before .before .before .before .before .before .before .before .args .before .value) (c .before .before .elem-slots .result) (c .before .before .before .before .before .if1 .taken) (c .before .before .before .if3 .taken) (c .before .before .elem-slots .ensures) (span-reaches _ _ (c .before .span2 .ensures))
 
 instruction-writes-slot-requires : tie.Need-instruction-writes-slot-requires
 instruction-writes-slot-requires c κs = search needs

@@ -1,0 +1,2 @@
+-- Each way to answer a question
+pub mod Answering

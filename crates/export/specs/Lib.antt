@@ -1,2 +1,0 @@
--- What C is handed.
-pub mod Exported

@@ -1,2 +1,0 @@
--- What the functions of this crate write, by the definitions of `model`.
-pub mod Facts

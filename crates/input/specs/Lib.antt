@@ -1,0 +1,2 @@
+-- What an answer of `read` means.
+pub mod Answered

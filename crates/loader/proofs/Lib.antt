@@ -1,0 +1,6 @@
+-- The closure without a budget: its charges are few, and what a call's closures give is what it gives. Then what a loader is told.
+pub mod Few
+pub mod Free
+pub mod Exact
+pub mod Telling
+pub mod Equal

@@ -1,0 +1,4 @@
+-- What is lent, and what the call's text comes to
+pub mod Lent
+-- The listing, question by question
+pub mod Asked
