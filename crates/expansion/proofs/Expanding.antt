@@ -3,7 +3,7 @@
 use mathlib.Core.Path.{_≡_, refl, sym, ap, _∙_}
 use mathlib.Core.Bool.{true, false, false≢true}
 use mathlib.Core.Logic.{_⊎_, inl, inr}
-use mathlib.Core.List.{List, [], _∷_, List·Memᴰ as Member, List·Memᴰ·head as head, List·Memᴰ·tail as tail, List·Memᴰ·not-nil as not-nil}
+use mathlib.Core.List.{List, [], _∷_, _++_, reverse, reverse-cons, List·Memᴰ as Member, List·Memᴰ·head as head, List·Memᴰ·tail as tail, List·Memᴰ·not-nil as not-nil}
 use Prim.Native.Nat.{ℕ, zero, suc, _+_, _-_, _≤_, _<_}
 use native.Mathlib.Omega.{arith}
 use lib.ListN.{length, getD, set, replicate, length-set, length-replicate}
@@ -58,6 +58,29 @@ stacked-below sheet m (marking {m = before} p slot e) t k = go (mark-grows slot 
     go (inl x) earlier = earlier x
     go (inr x) earlier = omega (arith, set-below (mark slot before .marks) t x, mark-grows slot before .size, passed-size sheet before p)
 stacked-below sheet m (taking {m = before} p s e) t k = stacked-below sheet before p t (rw s (tail (rw e at k)))
+
+-- so is every entry of the memory: behind the stack there are zeros
+module _ (bound : ℕ) where
+  abbrev Below : List ℕ → Type 0
+  Below xs = (k : ℕ) → getD xs k 0 < bound
+
+  append-below : (xs ys : List ℕ) → Below xs → Below ys → Below (xs ++ ys)
+  append-below [] ys hx hy k = hy k
+  append-below (x ∷ xs) ys hx hy zero = hx zero
+  append-below (x ∷ xs) ys hx hy (suc k) = append-below xs ys (λ j. hx (suc j)) hy k
+
+  zeros-below : (n : ℕ) → 0 < bound → Below (replicate n 0)
+  zeros-below zero h k = h
+  zeros-below (suc n) h zero = h
+  zeros-below (suc n) h (suc k) = zeros-below n h k
+
+  reverse-below : (xs : List ℕ) → 0 < bound → ((t : ℕ) → Member t xs → t < bound) → Below (reverse xs)
+  reverse-below [] h each = λ k. h
+  reverse-below (x ∷ xs) h each = rw (reverse-cons x xs) (append-below (reverse xs) (x ∷ []) (reverse-below xs h (λ t m. each t (tail m))) last)
+    where
+      last : Below (x ∷ [])
+      last zero = each x (head refl)
+      last (suc k) = h
 
 -- ---- a slot is taken
 
@@ -120,8 +143,16 @@ module _ {sheet marks stack : List ℕ} {top : ℕ} (s : Standing sheet marks st
   pub standing-below : top ≤ length stack
   standing-below = lies-below (s .lies)
 
-  pub slot-below : getD stack (top - 1) 0 < localSlots sheet
-  slot-below = d-below (s .lies) some
+  pub slot-below : (k : ℕ) → getD stack k 0 < localSlots sheet
+  unfolding stacked
+  slot-below =
+      rw (s .lies .stack-is)
+      (append-below _ (reverse (s .m .stack)) (replicate (s .room - length (s .m .stack)) 0)
+      (reverse-below _ (s .m .stack) above (stacked-below sheet (s .m) (s .lies .passed)))
+      (zeros-below _ (s .room - length (s .m .stack)) above))
+    where
+      above : 0 < localSlots sheet
+      above = omega (arith, d-below (s .lies) some)
 
   pub popped-lain : Lain marks (set stack (top - 1) 0) (top - 1)
   popped-lain = some-lain (popped (s .lies) some)

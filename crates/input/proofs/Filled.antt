@@ -1,7 +1,7 @@
 -- Answers of `read`, and a buffer that is filled piece by piece.
 -- Assumes nothing.
 use mathlib.Core.Path.{_≡_, refl, sym, ap, ap₂, _∙_}
-use mathlib.Core.Bool.{true, false}
+use mathlib.Core.Bool.{true, false, false≢true}
 use mathlib.Core.List.{List, _++_, append-assoc}
 use Prim.Native.Nat.{ℕ, _+_, _≤_, _<_, min}
 use native.Mathlib.Omega.{arith}
@@ -16,6 +16,7 @@ use borrow.Author.Tests.{ltb-true}
 use Rattle.io.specs.Counts.{Counts}
 use Rattle.text.specs.Text.{Added}
 use Rattle.input.specs.Answered.{answeredOf}
+use Rattle.input.specs.declared.Input.{Input}
 
 -- ---- an answer
 
@@ -34,6 +35,12 @@ pub came-is : (z : ℤ) (most count : ℕ) → ltZ z (pos 0) ≡ false → count
 unfolding answeredOf
 came-is (pos k) most count e h = rw h
 came-is (negsuc k) most count e h = absurd (let z : _≡_ {A = ℕ} 0 1 = cc in omega arith)
+
+-- a failed read moves nothing
+pub failed-none : (z : ℤ) (most : ℕ) (r : Input) → r ≡ answeredOf z most → r .failed ≡ true → r .count ≡ 0
+unfolding answeredOf
+failed-none (pos k) most r e f = absurd (false≢true (sym (ap (λ (x : Input). x .failed) e) ∙ f))
+failed-none (negsuc k) most r e f = ap (λ (x : Input). x .count) e
 
 -- ---- a piece
 

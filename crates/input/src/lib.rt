@@ -1,7 +1,9 @@
-// Bytes and little-endian numbers from standard input. What comes, and whether a read fails, no contract can say: that of libc's `read` tells only how
-// many bytes it may have moved. So of a buffer the contracts here determine what lies behind the bytes that came, and of an answer of `read` what is
-// made of it (`answered`); that a program hands on the bytes that came, and not others, is what its `read` is believed to do.
+// Bytes and little-endian numbers from standard input. What comes, how much of it, and whether a read fails, no contract can say: that of libc's `read`
+// tells only how many bytes it may have moved. So the contracts here determine what lies behind the bytes that came, what is made of an answer of
+// `read` (`answered`) and of several (`so_far`), and that a read fails only where there was room for more. That the count, the failure and the bytes are
+// those of the calls of `read` is to be read in the bodies of `read_to`, `read_input` and `read_front`.
 ghost use mathlib.Core.Path.{_≡_};
+ghost use mathlib.Core.Bool.{true};
 ghost use Prim.Native.Nat.{_+_, _*_, _<_, _≤_, min};
 ghost use lib.ListN.{length, take, drop};
 ghost use Rattle.io.specs.Counts.{Counts};
@@ -64,10 +66,21 @@ fn answered(got: isize, most: usize) -> Input
     }
 }
 
+// What has come when a piece follows count bytes.
+fn so_far(count: usize, piece: Input) -> Input
+    requires { ⌜ count + piece .count < 18446744073709551616 ⌝ }
+    ensures { λ r. ⌜ r ≡ record { count = count + piece .count; failed = piece .failed } ⌝ }
+{
+    Input {
+        count: count + piece.count,
+        failed: piece.failed,
+    }
+}
+
 // One read into the buffer from a place on, by way of chunk, so that the rest of the buffer stays as it is.
 fn read_to(buffer: &mut [u8], to: usize, chunk: &mut [u8]) -> Input
     requires { ⌜ to ≤ length (now buffer) ⌝ }
-    ensures { λ r. ⌜ (to + r .count ≤ length (now (buffer .entry))) × (take to (now (buffer .exit)) ≡ take to (now (buffer .entry))) × (drop (to + r .count) (now (buffer .exit)) ≡ drop (to + r .count) (now (buffer .entry))) ⌝ }
+    ensures { λ r. ⌜ (to + r .count ≤ length (now (buffer .entry))) × (take to (now (buffer .exit)) ≡ take to (now (buffer .entry))) × (drop (to + r .count) (now (buffer .exit)) ≡ drop (to + r .count) (now (buffer .entry))) × (r .failed ≡ true → r .count ≡ 0) ⌝ }
 {
     let n = least(buffer.len() - to, chunk.len());
     let input = answered(libc::read(STDIN_FILENO, &mut chunk[..n]), n);
@@ -78,22 +91,18 @@ fn read_to(buffer: &mut [u8], to: usize, chunk: &mut [u8]) -> Input
 
 // Reads standard input until the buffer is full, the input ends or a read fails. Behind the bytes that came the buffer stays as it was.
 pub fn read_input(buffer: &mut [u8]) -> Input
-    ensures { λ r. ⌜ Counts (r .count) (now (buffer .exit)) × (drop (r .count) (now (buffer .exit)) ≡ drop (r .count) (now (buffer .entry))) ⌝ }
+    ensures { λ r. ⌜ Counts (r .count) (now (buffer .exit)) × (drop (r .count) (now (buffer .exit)) ≡ drop (r .count) (now (buffer .entry))) × (r .failed ≡ true → r .count < length (now (buffer .exit))) ⌝ }
 {
     let mut space = io::buffer();
     let chunk: &mut [u8] = &mut space;
     let mut done = 0;
     while done < buffer.len() {
-        let input = read_to(buffer, done, chunk);
-        let count = input.count;
-        let failed = input.failed;
-        done += count;
-        if count == 0 {
-            return Input {
-                count: done,
-                failed,
-            };
+        let came = so_far(done, read_to(buffer, done, chunk));
+        let count = came.count;
+        if count == done {
+            return came;
         }
+        done = count;
     }
     Input {
         count: done,

@@ -43,7 +43,7 @@ follow-edges-requires c κs =
     let asked = start .pre in (
       asked .0,
       asked .3,
-      omega (arith, slot-below (asked .2) (asked .1), counted (asked .0 .are) .local-slots),
+      rw (counted (asked .0 .are) .local-slots) (slot-below (asked .2) (asked .1) _),
       popped-lain (asked .2) (asked .1),
     )
 

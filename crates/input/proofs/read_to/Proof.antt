@@ -3,7 +3,7 @@ use mathlib.Core.Path.{sym}
 use native.Mathlib.Omega.{arith}
 use lib.Seq.{length-take-le}
 use denote.Ref.{now}
-use Rattle.input.proofs.Filled.{taken-long, piece-written}
+use Rattle.input.proofs.Filled.{failed-none, taken-long, piece-written}
 use borrow.Author.Needs.{needs}
 use Rattle.input.proofs.read_to.Statement.{statement}
 use Rattle.input.proofs.read_to.Tie as tie
@@ -44,7 +44,9 @@ same-length-2 c = search needs
 returns : tie.Need-returns
 returns c =
     let a = c .before .before .before .before .before .before .before .before .before .before .before .before .before .args in
-    piece-written _ (now (a .buffer)) _ (a .to) (c .before .before .before .before .before .answered .result .count) _ _ (c .before .before .before .before .before .before .before .before .before .before .before .before .before .pre) (taken-long (c .before .before .before .before .before .before .before .before .read .last .1 .0) (now (c .before .before .before .before .before .before .before .before .before .before .before .before .before .args .chunk)) (c .before .before .before .before .before .before .before .before .before .before .least .result) (c .before .before .before .before .before .answered .result .count) (c .before .before .before .before .before .answered .ensures .1) (c .before .before .before .before .before .before .before .before .before .before .least .ensures .1) (c .before .before .before .before .before .before .before .before .read .kept .1 .0)) (c .before .before .put .ensures)
+    let w = piece-written _ (now (a .buffer)) _ (a .to) (c .before .before .before .before .before .answered .result .count) _ _ (c .before .before .before .before .before .before .before .before .before .before .before .before .before .pre) (taken-long (c .before .before .before .before .before .before .before .before .read .last .1 .0) (now (c .before .before .before .before .before .before .before .before .before .before .before .before .before .args .chunk)) (c .before .before .before .before .before .before .before .before .before .before .least .result) (c .before .before .before .before .before .answered .result .count) (c .before .before .before .before .before .answered .ensures .1) (c .before .before .before .before .before .before .before .before .before .before .least .ensures .1) (c .before .before .before .before .before .before .before .before .read .kept .1 .0)) (c .before .before .put .ensures) in
+    let r = c .before .before .before .before .before .answered in
+    (w .0, w .1, w .2, failed-none _ _ (r .result) (r .ensures .0))
 
 pub read-to-spec : {M : Type 1} → statement M
 read-to-spec =
