@@ -1,7 +1,7 @@
 // "Charges": one charge, and equal charges in a row, made from a budget by value.
 ghost use mathlib.Core.Path.{_≡_};
 ghost use Prim.Native.Nat.{ℕ};
-ghost use Rattle.model.specs.Charges.{chargeBytes, chargeWork, inStage, spendBytes, forEach};
+ghost use Rattle.model.specs.Charges.{units, chargeBytes, chargeWork, inStage, spendBytes, forEach};
 ghost use Rattle.budget.specs.Metering.{asSpent};
 use model::Charge;
 use model::VerifierResources;
@@ -78,7 +78,7 @@ pub fn metered(resources: VerifierResources, charge: Charge) -> Metering
 // "dependency 4": count charges of 4 bytes, one after the other. They are one computation: what is refused is the first that
 // finds fewer than 4 bytes, so that the rest of a division by 4 remains. No product is made before the count is known to be covered.
 pub fn charge_edges(resources: VerifierResources, count: u64) -> Metering
-    ensures { λ r. ⌜ ((stage : ℕ) → asSpent stage r ≡ forEach (λ i. spendBytes stage 4) count resources) ⌝ }
+    ensures { λ r. ⌜ ((stage : ℕ) → asSpent stage r ≡ forEach (λ i. spendBytes stage (units .dependency)) count resources) ⌝ }
 {
     let bytes = resources.bytes;
     let work = resources.work;

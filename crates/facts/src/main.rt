@@ -2,7 +2,7 @@
 use input::read_input;
 use libc::STDOUT_FILENO;
 use report::list;
-use report::no_sheet;
+use report_room::no_sheet;
 
 fn main() {
     let mut sheet = no_sheet();

@@ -6,7 +6,7 @@ use input::u32_of;
 use libc::STDIN_FILENO;
 use libc::STDOUT_FILENO;
 use report::list;
-use report::no_sheet;
+use report_room::no_sheet;
 
 // A proved loop has to end, and nothing says that the input does. So the loop counts its turns down, from a number that no run uses up.
 fn main() {

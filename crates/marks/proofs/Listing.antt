@@ -12,7 +12,7 @@ use lib.ListN.{length, getD, set, take, drop, length-append, length-set, take-ap
 use lib.Seq.{take-suc, take-all, drop-cons, set-at, length-take-le}
 use borrow.Author.Tests.{le-leb, lt-leb, ltb-true, ltb-false}
 use Rattle.model.specs.Closure.{listUnless, places}
-use Rattle.marks.specs.Slots.{storedIf, fittedIf, fitted}
+use Rattle.marks.specs.Slots.{storedUnless, fittedIf, fitted}
 
 places-append : (k : ℕ) (xs ys : List ℕ) → places k (xs ++ ys) ≡ places k xs ++ places (k + length xs) ys
 unfolding places listUnless
@@ -115,9 +115,9 @@ module _ {marks old out : List ℕ} {at i : ℕ} (w : Writing marks old out at i
   unfolding listUnless
   writing-room e = omega (arith, w .at-is, w .long, placed-part marks (i + 1), rw e at next)
 
-  pub writing-more : {at′ : ℕ} {out′ : List ℕ} → at′ ≡ at + length (listUnless (eqb (getD marks i 0) 0) i []) → out′ ≡ storedIf (eqb (getD marks i 0) 0) out at i
+  pub writing-more : {at′ : ℕ} {out′ : List ℕ} → at′ ≡ at + length (listUnless (eqb (getD marks i 0) 0) i []) → out′ ≡ storedUnless (eqb (getD marks i 0) 0) out at i
       → Writing marks old out′ at′ (i + 1)
-  unfolding storedIf listUnless
+  unfolding storedUnless listUnless
   writing-more {at′} {out′} p q = go (eqb (getD marks i 0) 0) refl
     where
       go : (t : Bool) → eqb (getD marks i 0) 0 ≡ t → Writing marks old out′ at′ (i + 1)

@@ -7,9 +7,9 @@ use lib.Dec.{leb}
 use lib.ListN.{length, set, drop}
 
 -- an element stored, unless the test holds
-unfoldable pub storedIf : Bool → List ℕ → ℕ → ℕ → List ℕ
-storedIf true old at x = old
-storedIf false old at x = set old at x
+unfoldable pub storedUnless : Bool → List ℕ → ℕ → ℕ → List ℕ
+storedUnless true old at x = old
+storedUnless false old at x = set old at x
 
 unfoldable pub fittedIf : Bool → List ℕ → List ℕ → List ℕ
 fittedIf true slots old = slots ++ drop (length slots) old

@@ -6,7 +6,7 @@ ghost use Prim.Native.Nat.{_+_, _<_, _≤_};
 ghost use lib.Dec.{eqb};
 ghost use lib.ListN.{length, drop};
 ghost use Rattle.model.specs.Closure.{listUnless, places};
-ghost use Rattle.marks.specs.Slots.{storedIf, fitted};
+ghost use Rattle.marks.specs.Slots.{storedUnless, fitted};
 
 // 1 for a mark that is set.
 fn one_if_set(mark: u8) -> usize
@@ -31,7 +31,7 @@ fn count_marks(marks: &[u8]) -> usize
 // A slot whose mark is set goes to the next place.
 fn write_slot(mark: u8, slot: usize, slots: &mut [u16], at: usize) -> usize
     requires { ⌜ (slot < 65536) × (at ≤ length (now slots)) × (eqb mark 0 ≡ false → at < length (now slots)) ⌝ }
-    ensures { λ r. ⌜ (r ≡ at + length (listUnless (eqb mark 0) slot [])) × (now (slots .exit) ≡ storedIf (eqb mark 0) (now (slots .entry)) at slot) ⌝ }
+    ensures { λ r. ⌜ (r ≡ at + length (listUnless (eqb mark 0) slot [])) × (now (slots .exit) ≡ storedUnless (eqb mark 0) (now (slots .entry)) at slot) ⌝ }
 {
     if mark == 0 {
         return at;

@@ -24,9 +24,12 @@ use Rattle.model.specs.Transfer.{factFor, target, u64Fact, foldBinary, s
 use Rattle.model.specs.Parameters.{paramStart, paramFact, seedParam, seedParams, paramRow, chargeLayouts, chargeInstructionFacts}
 use Rattle.model.specs.Run.{Analysis, State, next, rowAt, merged, news, visit, carry, popped, charged, pop, step}
 use Rattle.model.specs.Analyses.{unknownRow, containerRow}
+use Rattle.model.specs.Lookup.{slotFactNumbered, reachabilityNumbered}
 use Rattle.model.specs.declared.VerifierResources.{VerifierResources}
 use Rattle.model.specs.declared.Instruction.{Instruction}
 use Rattle.model.specs.declared.AnalysisKind.{AnalysisKind}
+use Rattle.model.specs.declared.SlotFact.the-variants.{Cell, Absent, Damaged}
+use Rattle.model.specs.declared.Reachability.the-variants.{Yes, No, Unreadable}
 use Rattle.model.proofs.Equality.{eqb-self, content-self, content-path}
 
 -- ---- the work list
@@ -215,3 +218,13 @@ pub opcodes :
     ≡ 1 ∷ 2 ∷ 3 ∷ 4 ∷ 5 ∷ 6 ∷ 7 ∷ 8 ∷ 13 ∷ 49 ∷ 53 ∷ 57 ∷ 58 ∷ 59 ∷ 64 ∷ 77 ∷ 81 ∷ 87 ∷ 89 ∷ 90 ∷ 91 ∷ 92 ∷ 93 ∷ 94 ∷ 95
     ∷ 96 ∷ 97 ∷ 98 ∷ 99 ∷ 100 ∷ 101 ∷ 103 ∷ 104 ∷ 111 ∷ 121 ∷ 124 ∷ []
 opcodes = refl
+
+-- ---- numbers
+
+-- A lookup's answers, "none" and "no" among them, have number 0: they are no refusals. What question 9 refuses has 9.
+pub lookup-numbers : (k v : ℕ)
+    → slotFactNumbered (Cell k v) .number ∷ slotFactNumbered Absent .number ∷ slotFactNumbered Damaged .number
+    ∷ reachabilityNumbered Yes .number ∷ reachabilityNumbered No .number ∷ reachabilityNumbered Unreadable .number ∷ []
+    ≡ 0 ∷ 0 ∷ 9 ∷ 0 ∷ 0 ∷ 9 ∷ []
+unfolding slotFactNumbered reachabilityNumbered
+lookup-numbers k v = refl

@@ -1,4 +1,2 @@
--- What is lent, and what the call's text comes to
-pub mod Lent
 -- The listing, question by question
 pub mod Asked

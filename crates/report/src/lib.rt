@@ -10,13 +10,9 @@ use line_text::refused_line;
 use line_text::too_large;
 use questions::SheetCheck;
 use questions::check_sheet;
+use report_call::list_facts;
 use sheet::Sizes;
 use starts::layout_starts;
-
-mod call;
-mod room;
-
-pub use room::no_sheet;
 
 // "a sheet over 65,536 bytes"
 const MOST_BYTES: usize = 65536;
@@ -53,7 +49,7 @@ fn list_accepted(sheet: &[u8], sizes: Sizes, out: &mut [u8]) -> usize
     if MOST_LOCALS < sizes.local_slots {
         return too_large(0, out);
     }
-    let mut starts = room::starts();
+    let mut starts = report_room::starts();
     layout_starts(sheet, sizes, &mut starts);
-    call::list_facts(sheet, sizes, &starts, out)
+    list_facts(sheet, sizes, &starts, out)
 }

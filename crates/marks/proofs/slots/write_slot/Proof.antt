@@ -3,13 +3,13 @@
 use native.Mathlib.Omega.{arith}
 use borrow.Author.Tests.{eq-eqb, ne-eqb}
 use Rattle.model.specs.Closure.{listUnless}
-use Rattle.marks.specs.Slots.{storedIf}
+use Rattle.marks.specs.Slots.{storedUnless}
 use borrow.Author.Needs.{needs}
 use Rattle.marks.proofs.slots.write_slot.Statement.{statement}
 use Rattle.marks.proofs.slots.write_slot.Tie as tie
 
 returns : tie.Need-returns
-unfolding listUnless storedIf
+unfolding listUnless storedUnless
 returns c = (rw (eq-eqb _ 0 (c .if1 .taken)) (omega arith), rw (eq-eqb _ 0 (c .if1 .taken)))
 
 cast-slots : tie.Need-cast-slots
@@ -28,7 +28,7 @@ same-length : tie.Need-same-length
 same-length c = search needs
 
 returns-2 : tie.Need-returns-2
-unfolding listUnless storedIf
+unfolding listUnless storedUnless
 returns-2 c = (rw (ne-eqb _ 0 (c .if1 .left)), rw (ne-eqb _ 0 (c .if1 .left)))
 
 pub write-slot-spec : {M : Type 1} → statement M

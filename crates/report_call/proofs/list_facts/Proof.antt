@@ -1,4 +1,4 @@
--- `report::call::list_facts` meets its contract. Assumes nothing.
+-- `report_call::list_facts` meets its contract. Assumes nothing.
 use denote.Ref.{now}
 use native.Mathlib.Omega.{arith}
 use Rattle.model.specs.Charges.{fresh}
@@ -6,10 +6,10 @@ use Rattle.model.specs.Call.{tableOf}
 use Rattle.model.specs.Listing.{listingLent}
 use Rattle.model.specs.declared.AnalysisKind.the-variants.{Constant, IndexCheck, Container}
 use Rattle.listing.proofs.Answered.{answer-listable}
-use Rattle.report.proofs.Lent.{lent-is, listing-call, call-shown}
+use Rattle.report_call.proofs.Lent.{lent-is, listing-call, call-shown}
 use borrow.Author.Needs.{needs}
-use Rattle.report.proofs.call.list_facts.Statement.{statement}
-use Rattle.report.proofs.call.list_facts.Tie as tie
+use Rattle.report_call.proofs.list_facts.Statement.{statement}
+use Rattle.report_call.proofs.list_facts.Tie as tie
 
 slots-requires : tie.Need-slots-requires
 slots-requires c κs = search needs

@@ -6,7 +6,6 @@ ghost use Rattle.model.specs.Call.{call};
 ghost use Rattle.model.specs.Listing.{callLines, listingLent};
 ghost use Rattle.layouts.specs.Readable.{Readable};
 ghost use Rattle.text.specs.Text.{Shows};
-use crate::room;
 use listing::answer_lines;
 use listing::last_line;
 use model::AnalysisKind;
@@ -19,23 +18,23 @@ pub fn list_facts(sheet: &[u8], sizes: Sizes, starts: &[u16], out: &mut [u8]) ->
     requires { ⌜ Readable (now sheet) sizes (now starts) × (sizes .«code_count» ≤ 256) × (2187530 ≤ length (now out)) ⌝ }
     ensures { λ r. ⌜ Shows (callLines (now (sheet .entry)) (call (now (sheet .entry)) fresh listingLent)) (now (out .entry)) r (now (out .exit)) ⌝ }
 {
-    let mut constant_slots = room::slots();
-    let mut constant_present = room::present();
-    let mut constant_kinds = room::kinds();
-    let mut constant_values = room::values();
-    let mut index_slots = room::slots();
-    let mut index_present = room::present();
-    let mut index_kinds = room::kinds();
-    let mut index_values = room::values();
-    let mut container_slots = room::slots();
-    let mut container_present = room::present();
-    let mut container_kinds = room::kinds();
-    let mut container_values = room::values();
-    let mut marks = room::marks();
-    let mut stack = room::stack();
-    let mut row_kinds = room::row_kinds();
-    let mut row_values = room::row_values();
-    let mut work_list = room::work_list();
+    let mut constant_slots = report_room::slots();
+    let mut constant_present = report_room::present();
+    let mut constant_kinds = report_room::kinds();
+    let mut constant_values = report_room::values();
+    let mut index_slots = report_room::slots();
+    let mut index_present = report_room::present();
+    let mut index_kinds = report_room::kinds();
+    let mut index_values = report_room::values();
+    let mut container_slots = report_room::slots();
+    let mut container_present = report_room::present();
+    let mut container_kinds = report_room::kinds();
+    let mut container_values = report_room::values();
+    let mut marks = report_room::marks();
+    let mut stack = report_room::stack();
+    let mut row_kinds = report_room::row_kinds();
+    let mut row_values = report_room::row_values();
+    let mut work_list = report_room::work_list();
     let answer = analyze(
         sheet,
         VerifierResources::new(),
