@@ -1,8 +1,9 @@
 /*
  * Register facts of a routing script: the C interface of libvo_facts.a, which bin/build-lib makes.
  *
- * "Document 01" is the contract of the project; 1 to 9 are the numbers of its questions. docs/USING.md explains what
- * the facts mean.
+ * docs/FORMAT.md has the form of a sheet byte by byte, what each number of an answer means and what it leaves in the lent
+ * memory; docs/USING.md explains what the facts mean. "Document 01" is the contract of the project, which docs/FORMAT.md
+ * states in the project's own words; 1 to 9 are the numbers of its questions.
  *
  * How memory is lent. A slice is two arguments: a pointer to its first element, then the number of its elements (not of
  * bytes). Nothing is allocated, nothing is kept after a call, and there is no state: calls on different memory may run
@@ -98,7 +99,7 @@ enum {
 /*
  * The three analyses of a sheet.
  *
- *   sheet        the script, in document 01's form; n is its number of instructions, L that of its local slots
+ *   sheet        the script, in the form of docs/FORMAT.md; n is its number of instructions, L that of its local slots
  *   bytes, work  the budget: any two numbers
  *
  * The outputs of each analysis, constant, index and container; s is the number of slots that it tracks:
@@ -161,7 +162,8 @@ uint8_t vo_facts_analyze(
  *   1 to 6       the number of the first question that refuses; nothing lent has changed
  *   255          out is too short; this is asked first, and nothing lent has changed
  *
- * There is no budget that would end it early: it follows at most 2 x n x L edges in each analysis.
+ * There is no budget that would end it early: it follows at most 2 x n x L edges in each analysis, which may take seconds
+ * on the largest scripts.
  */
 uint8_t vo_facts_room(
     const uint8_t *sheet, size_t sheet_length,

@@ -1,7 +1,8 @@
-/* Document 01's worked sheet through include/vo_facts.h, as a loader written in C would call it. Every buffer has another
- * length, so that two of them in each other's place would show. */
+/* The constants of include/vo_facts.h, and document 01's worked sheet through it, as a loader written in C would call it.
+ * Every buffer has another length, so that two of them in each other's place would show. */
 #include "vo_facts.h"
 
+#include <inttypes.h>
 #include <stdio.h>
 #include <string.h>
 
@@ -35,6 +36,66 @@ static void expect(int good, const char *what) {
         printf("header.c: %s\n", what);
         failures++;
     }
+}
+
+/* Every constant of the header with its number. The archive has the numbers only, so a name that stands for another one
+ * would be found by nothing else. tests/interface asks that no name is missing here. */
+#define HELD(name, must) {#name, name, must}
+static const struct {
+    const char *name;
+    uint64_t is, must;
+} constants[] = {
+    HELD(VO_FACTS_VERSION, 1),
+    HELD(VO_FACTS_FRESH_BUDGET, 268435456),
+
+    HELD(VO_FACTS_ANALYZED, 0),
+    HELD(VO_FACTS_NO_HEAD, 1),
+    HELD(VO_FACTS_SIZE_LIMIT, 2),
+    HELD(VO_FACTS_LENGTH, 3),
+    HELD(VO_FACTS_SUMS, 4),
+    HELD(VO_FACTS_KINDS, 5),
+    HELD(VO_FACTS_CLOSURE_ROOM, 6),
+    HELD(VO_FACTS_OVER_BUDGET, 7),
+    HELD(VO_FACTS_NO_ROOM, 8),
+    HELD(VO_FACTS_DAMAGED, 9),
+    HELD(VO_FACTS_NONE, 254),
+    HELD(VO_FACTS_ANSWER_TOO_SHORT, 255),
+
+    HELD(VO_FACTS_NUMBER, 0),
+    HELD(VO_FACTS_CONSTANT_SLOTS, 1),
+    HELD(VO_FACTS_CONSTANT_POPS, 2),
+    HELD(VO_FACTS_INDEX_SLOTS, 3),
+    HELD(VO_FACTS_INDEX_POPS, 4),
+    HELD(VO_FACTS_CONTAINER_SLOTS, 5),
+    HELD(VO_FACTS_CONTAINER_POPS, 6),
+    HELD(VO_FACTS_BYTES_LEFT, 7),
+    HELD(VO_FACTS_WORK_LEFT, 8),
+    HELD(VO_FACTS_STAGE, 9),
+    HELD(VO_FACTS_REQUESTED, 10),
+    HELD(VO_FACTS_REMAINING, 11),
+    HELD(VO_FACTS_ANSWER_LENGTH, 12),
+
+    HELD(VO_FACTS_ROOM_INSTRUCTIONS, 0),
+    HELD(VO_FACTS_ROOM_CONSTANT_SLOTS, 1),
+    HELD(VO_FACTS_ROOM_INDEX_SLOTS, 2),
+    HELD(VO_FACTS_ROOM_CONTAINER_SLOTS, 3),
+    HELD(VO_FACTS_ROOM_LENGTH, 4),
+
+    HELD(VO_FACTS_UNKNOWN, 0),
+    HELD(VO_FACTS_CONFLICT, 1),
+    HELD(VO_FACTS_CONSTANT, 2),
+    HELD(VO_FACTS_CONSTANT_NEGATIVE, 3),
+    HELD(VO_FACTS_CHECKED, 2),
+    HELD(VO_FACTS_MAP, 2),
+    HELD(VO_FACTS_ITERATOR, 3),
+    HELD(VO_FACTS_QUEUE, 4)};
+
+static void names(void) {
+    for (size_t i = 0; i < sizeof constants / sizeof *constants; i++)
+        if (constants[i].is != constants[i].must) {
+            printf("header.c: %s is %" PRIu64 ", not %" PRIu64 "\n", constants[i].name, constants[i].is, constants[i].must);
+            failures++;
+        }
 }
 
 /* The answer of a call that ended with facts, the tables and the lookups. */
@@ -107,6 +168,7 @@ static void loader(void) {
 }
 
 int main(void) {
+    names();
     facts();
     refusals();
     loader();

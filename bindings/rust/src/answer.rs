@@ -1,6 +1,6 @@
 //! What a call answers.
 
-use crate::raw::ANSWER_LENGTH;
+use crate::raw::{self, ANSWER_LENGTH, FRESH_BUDGET};
 use std::fmt;
 
 /// What is left to spend: bytes and work units of the analyses, any two numbers.
@@ -12,7 +12,7 @@ pub struct Budget {
 
 impl Budget {
     /// "a fresh one has 268,435,456 of each"
-    pub const FRESH: Budget = Budget { bytes: 268_435_456, work: 268_435_456 };
+    pub const FRESH: Budget = Budget { bytes: FRESH_BUDGET, work: FRESH_BUDGET };
 }
 
 /// Of one analysis: how many slots it tracks, and how many entries it took from its work list.
@@ -74,13 +74,13 @@ impl Refusal {
     /// caller whose memory for the answer is long enough.
     pub(crate) fn of_sheet(number: u8) -> Option<Refusal> {
         match number {
-            0 => None,
-            1 => Some(Refusal::NoHead),
-            2 => Some(Refusal::SizeLimit),
-            3 => Some(Refusal::Length),
-            4 => Some(Refusal::Sums),
-            5 => Some(Refusal::Kinds),
-            6 => Some(Refusal::ClosureRoom),
+            raw::ANALYZED => None,
+            raw::NO_HEAD => Some(Refusal::NoHead),
+            raw::SIZE_LIMIT => Some(Refusal::SizeLimit),
+            raw::LENGTH => Some(Refusal::Length),
+            raw::SUMS => Some(Refusal::Sums),
+            raw::KINDS => Some(Refusal::Kinds),
+            raw::CLOSURE_ROOM => Some(Refusal::ClosureRoom),
             _ => unreachable!("a sheet was refused by {number}"),
         }
     }
@@ -88,14 +88,14 @@ impl Refusal {
     /// Document 01's number.
     pub fn number(&self) -> u8 {
         match self {
-            Refusal::NoHead => 1,
-            Refusal::SizeLimit => 2,
-            Refusal::Length => 3,
-            Refusal::Sums => 4,
-            Refusal::Kinds => 5,
-            Refusal::ClosureRoom => 6,
-            Refusal::OverBudget { .. } => 7,
-            Refusal::NoRoom => 8,
+            Refusal::NoHead => raw::NO_HEAD,
+            Refusal::SizeLimit => raw::SIZE_LIMIT,
+            Refusal::Length => raw::LENGTH,
+            Refusal::Sums => raw::SUMS,
+            Refusal::Kinds => raw::KINDS,
+            Refusal::ClosureRoom => raw::CLOSURE_ROOM,
+            Refusal::OverBudget { .. } => raw::OVER_BUDGET,
+            Refusal::NoRoom => raw::NO_ROOM,
         }
     }
 }
@@ -130,17 +130,25 @@ impl std::error::Error for Refused {}
 
 /// The answer that the library wrote. It writes no others than those that its header names.
 pub(crate) fn read(answer: &[u64; ANSWER_LENGTH]) -> Result<Analyzed, Refused> {
-    let [number, ref counts @ .., bytes, work, stage, requested, remaining] = *answer;
-    let left = Budget { bytes, work };
-    let counted = |which: usize| Counts { tracked: counts[2 * which] as usize, pops: counts[2 * which + 1] };
-    let refusal = match number {
-        7 => Some(Refusal::OverBudget { stage: stage_of(stage), requested, remaining }),
-        8 => Some(Refusal::NoRoom),
-        _ => Refusal::of_sheet(number as u8),
+    let left = Budget { bytes: answer[raw::BYTES_LEFT], work: answer[raw::WORK_LEFT] };
+    let counted = |slots: usize, pops: usize| Counts { tracked: answer[slots] as usize, pops: answer[pops] };
+    let refusal = match answer[raw::NUMBER] as u8 {
+        raw::OVER_BUDGET => Some(Refusal::OverBudget {
+            stage: stage_of(answer[raw::STAGE]),
+            requested: answer[raw::REQUESTED],
+            remaining: answer[raw::REMAINING],
+        }),
+        raw::NO_ROOM => Some(Refusal::NoRoom),
+        number => Refusal::of_sheet(number),
     };
     match refusal {
         Some(refusal) => Err(Refused { refusal, left }),
-        None => Ok(Analyzed { constant: counted(0), index: counted(1), container: counted(2), left }),
+        None => Ok(Analyzed {
+            constant: counted(raw::CONSTANT_SLOTS, raw::CONSTANT_POPS),
+            index: counted(raw::INDEX_SLOTS, raw::INDEX_POPS),
+            container: counted(raw::CONTAINER_SLOTS, raw::CONTAINER_POPS),
+            left,
+        }),
     }
 }
 

@@ -60,13 +60,16 @@ impl Buffers {
     /// They are as long as [`Room::for_sheet`] tells, which is exactly what the call needs. Scripts take little (300
     /// instructions and 40 tracked registers: a third of a megabyte), but 4,096 instructions with a CopyN of 65,535
     /// registers could take 8 gigabytes, so say how much a sheet may cost.
+    ///
+    /// `most_bytes` is asked after [`Room::for_sheet`], which has no budget and may take seconds on the largest
+    /// scripts, also on those that are [`TooLarge`] then.
     pub fn for_sheet(sheet: &[u8], most_bytes: usize) -> Result<Buffers, TooLarge> {
         let mut buffers = Buffers::default();
         buffers.fit(sheet, most_bytes)?;
         Ok(buffers)
     }
 
-    /// Makes these buffers fit another sheet. They are as before where they cannot.
+    /// Makes these buffers fit another sheet, at the cost of [`Room::for_sheet`]. They are as before where they cannot.
     pub fn fit(&mut self, sheet: &[u8], most_bytes: usize) -> Result<(), TooLarge> {
         self.fit_room(Room::for_sheet(sheet), most_bytes)
     }

@@ -48,8 +48,23 @@ pub enum IndexCheckFact {
 
 /// The container in a slot, with the numbers of its layouts as the sheet stores them.
 ///
-/// Layouts are equal by content, and equal ones may carry different numbers. So there is no `==` here:
-/// [`ContainerFact::same_content`] compares two facts of one sheet.
+/// Layouts are equal by content, and equal ones may carry different numbers. So there is no `==` here, nor on the
+/// tables: [`ContainerFact::same_content`] compares two facts of one sheet.
+///
+/// ```
+/// use vo_facts::ContainerFact;
+///
+/// # let sheet = include_bytes!("../../../examples/flights.sheet");
+/// let (one, two) = (ContainerFact::Queue { element: 1 }, ContainerFact::Queue { element: 2 });
+/// assert!(one.same_content(&two, sheet)?); // layouts 1 and 2 have the same slot kinds
+/// # Ok::<(), vo_facts::NotCompared>(())
+/// ```
+/// ```compile_fail,E0369
+/// use vo_facts::ContainerFact;
+///
+/// let (one, two) = (ContainerFact::Queue { element: 1 }, ContainerFact::Queue { element: 2 });
+/// assert!(one == two);
+/// ```
 #[derive(Clone, Copy, Debug)]
 pub enum ContainerFact {
     Unknown,
@@ -59,22 +74,50 @@ pub enum ContainerFact {
     Queue { element: usize },
 }
 
+/// Why two container facts cannot be compared: they are not facts of this sheet.
+#[derive(Clone, Copy, Debug, PartialEq, Eq)]
+pub enum NotCompared {
+    /// The sheet is refused, so no fact is about it.
+    Refused(Refusal),
+    /// A fact names this layout, and the sheet has none of this number.
+    NoLayout(usize),
+}
+
+impl fmt::Display for NotCompared {
+    fn fmt(&self, out: &mut fmt::Formatter<'_>) -> fmt::Result {
+        match self {
+            NotCompared::Refused(refusal) => refusal.fmt(out),
+            NotCompared::NoLayout(layout) => write!(out, "the sheet has no layout {layout}"),
+        }
+    }
+}
+
+impl std::error::Error for NotCompared {}
+
 impl ContainerFact {
     /// Whether two facts of one sheet are the same: of one kind, with layouts of equal content.
-    pub fn same_content(&self, other: &ContainerFact, sheet: &[u8]) -> Result<bool, Refusal> {
-        let same = |one: usize, two: usize| Ok(lowest_layout(sheet, one)? == lowest_layout(sheet, two)?);
-        match (*self, *other) {
-            (ContainerFact::Unknown, ContainerFact::Unknown) => Ok(true),
-            (ContainerFact::Conflict, ContainerFact::Conflict) => Ok(true),
-            (ContainerFact::Map { key: a, value: b }, ContainerFact::Map { key, value }) => {
-                Ok(same(a, key)? && same(b, value)?)
-            }
-            (ContainerFact::Iterator { key: a, value: b }, ContainerFact::Iterator { key, value }) => {
-                Ok(same(a, key)? && same(b, value)?)
-            }
-            (ContainerFact::Queue { element: a }, ContainerFact::Queue { element }) => same(a, element),
-            _ => Ok(false),
-        }
+    ///
+    /// The sheet is asked for every layout that either fact names, also where the kinds differ: a fact with a layout
+    /// that the sheet does not have is about another sheet, and neither answer would be true of it.
+    pub fn same_content(&self, other: &ContainerFact, sheet: &[u8]) -> Result<bool, NotCompared> {
+        Ok(self.content(sheet)? == other.content(sheet)?)
+    }
+
+    /// The kind and the lowest numbers of the layouts, which are equal exactly where the facts are the same.
+    fn content(&self, sheet: &[u8]) -> Result<(u8, Vec<usize>), NotCompared> {
+        let (kind, layouts) = match *self {
+            ContainerFact::Unknown => (raw::UNKNOWN, vec![]),
+            ContainerFact::Conflict => (raw::CONFLICT, vec![]),
+            ContainerFact::Map { key, value } => (raw::MAP, vec![key, value]),
+            ContainerFact::Iterator { key, value } => (raw::ITERATOR, vec![key, value]),
+            ContainerFact::Queue { element } => (raw::QUEUE, vec![element]),
+        };
+        let lowest = |layout| match lowest_layout(sheet, layout) {
+            Ok(Some(lowest)) => Ok(lowest),
+            Ok(None) => Err(NotCompared::NoLayout(layout)),
+            Err(refusal) => Err(NotCompared::Refused(refusal)),
+        };
+        Ok((kind, layouts.into_iter().map(lowest).collect::<Result<_, _>>()?))
     }
 }
 
@@ -99,7 +142,13 @@ pub struct Constants<'a>(pub Table<'a>);
 #[derive(Clone, Copy, Debug)]
 pub struct IndexChecks<'a>(pub Table<'a>);
 
-/// The table of the container analysis.
+/// The table of the container analysis. It has no `==`, for the reason that [`ContainerFact`] has none.
+///
+/// ```compile_fail,E0369
+/// fn same(one: vo_facts::Containers<'_>, two: vo_facts::Containers<'_>) -> bool {
+///     one == two
+/// }
+/// ```
 #[derive(Clone, Copy, Debug)]
 pub struct Containers<'a>(pub Table<'a>);
 
@@ -126,9 +175,10 @@ impl IndexChecks<'_> {
     /// None for a slot that is not tracked, an absent instruction or one past the code.
     pub fn fact_for_slot(&self, pc: usize, slot: u16) -> Result<Option<IndexCheckFact>, Damaged> {
         Ok(self.0.look(vo_facts_index_check, pc, slot)?.map(|fact| match fact {
-            (0, _) => IndexCheckFact::Unknown,
-            (1, _) => IndexCheckFact::Conflict,
-            (_, len) => IndexCheckFact::Checked { len },
+            (raw::UNKNOWN, _) => IndexCheckFact::Unknown,
+            (raw::CONFLICT, _) => IndexCheckFact::Conflict,
+            (raw::CHECKED, len) => IndexCheckFact::Checked { len },
+            (kind, _) => unreachable!("an index of kind {kind}"),
         }))
     }
 
@@ -145,11 +195,12 @@ impl Containers<'_> {
             // "value A × 65,536 + B"
             let (a, b) = ((value >> 16) as usize, (value & 65535) as usize);
             match kind {
-                0 => ContainerFact::Unknown,
-                1 => ContainerFact::Conflict,
-                2 => ContainerFact::Map { key: a, value: b },
-                3 => ContainerFact::Iterator { key: a, value: b },
-                _ => ContainerFact::Queue { element: a },
+                raw::UNKNOWN => ContainerFact::Unknown,
+                raw::CONFLICT => ContainerFact::Conflict,
+                raw::MAP => ContainerFact::Map { key: a, value: b },
+                raw::ITERATOR => ContainerFact::Iterator { key: a, value: b },
+                raw::QUEUE => ContainerFact::Queue { element: a },
+                _ => unreachable!("a container of kind {kind}"),
             }
         }))
     }
@@ -161,19 +212,20 @@ impl Containers<'_> {
 }
 
 /// "2 known from zero up, 3 negative, value plus 2^64"
-fn constant((kind, value): (u64, u64)) -> ConstantFact {
+fn constant((kind, value): (u8, u64)) -> ConstantFact {
     match kind {
-        0 => ConstantFact::Unknown,
-        1 => ConstantFact::Conflict,
-        2 => ConstantFact::Int(i128::from(value)),
-        _ => ConstantFact::Int(i128::from(value) - (1 << 64)),
+        raw::UNKNOWN => ConstantFact::Unknown,
+        raw::CONFLICT => ConstantFact::Conflict,
+        raw::CONSTANT => ConstantFact::Int(i128::from(value)),
+        raw::CONSTANT_NEGATIVE => ConstantFact::Int(i128::from(value) - (1 << 64)),
+        _ => unreachable!("a constant of kind {kind}"),
     }
 }
 
-/// A lookup's number and what it wrote: the kind and value, if any.
-fn found(number: u8, out: [u64; OUT_LENGTH]) -> Result<Option<(u64, u64)>, Damaged> {
+/// A lookup's number and what it wrote: the kind, which is a byte of the table, and value, if any.
+fn found(number: u8, out: [u64; OUT_LENGTH]) -> Result<Option<(u8, u64)>, Damaged> {
     match number {
-        0 => Ok(Some((out[0], out[1]))),
+        0 => Ok(Some((out[0] as u8, out[1]))),
         NONE => Ok(None),
         DAMAGED => Err(Damaged),
         _ => unreachable!("a lookup answered {number}"),
@@ -181,7 +233,7 @@ fn found(number: u8, out: [u64; OUT_LENGTH]) -> Result<Option<(u64, u64)>, Damag
 }
 
 impl Table<'_> {
-    fn look(&self, lookup: Lookup, pc: usize, slot: u16) -> Result<Option<(u64, u64)>, Damaged> {
+    fn look(&self, lookup: Lookup, pc: usize, slot: u16) -> Result<Option<(u8, u64)>, Damaged> {
         let mut out = [0; OUT_LENGTH];
         // Sound: `lookup` is one of the three.
         let number = unsafe { raw::look(lookup, *self, pc as u64, slot, &mut out) };

@@ -18,8 +18,12 @@
 //! facts, which have no `==`: they carry the layout numbers that the sheet stores, and equal layouts may have different
 //! ones.
 //!
-//! A caller with memory of its own lends it as [`Lent`] to [`analyze`]. [`raw`] has the C functions as they are.
-//! "Document 01" is the contract of the project, and "question" one of its numbered questions.
+//! A caller with memory of its own lends it as [`Lent`] to [`analyze`]. [`raw`] has the C constants and functions as they
+//! are.
+//!
+//! A sheet is one script in a form of bytes that `docs/FORMAT.md` of the repository gives, with all that a call is lent
+//! and answers; `docs/USING.md` tells what the facts mean. "Document 01" is the contract of the project, which is not
+//! part of the repository, and "question" one of its numbered questions: `docs/FORMAT.md` says what each one asks.
 
 /// The examples of README.md, which `cargo test` compiles and runs.
 #[cfg(doctest)]
@@ -36,7 +40,8 @@ mod room;
 pub use answer::{Analyzed, Budget, Counts, Refusal, Refused, Stage};
 pub use buffers::{Buffers, Facts, TooLarge};
 pub use facts::{
-    lowest_layout, ConstantFact, Constants, ContainerFact, Containers, Damaged, IndexCheckFact, IndexChecks, Table,
+    lowest_layout, ConstantFact, Constants, ContainerFact, Containers, Damaged, IndexCheckFact, IndexChecks,
+    NotCompared, Table,
 };
 pub use lent::{analyze, Lent, Output};
 pub use room::Room;

@@ -1,4 +1,5 @@
-//! The functions of `include/vo_facts.h`, declared once. A slice is a pointer and the number of its elements.
+//! The constants and functions of `include/vo_facts.h`, declared once. A slice is a pointer and the number of its
+//! elements.
 //!
 //! # Safety
 //!
@@ -10,18 +11,99 @@ use crate::facts::Table;
 
 /// The number of the interface that is declared here; [`vo_facts_version`] is the archive's.
 pub const VERSION: u64 = 1;
-/// The elements of `answer` that [`vo_facts_analyze`] writes.
-pub const ANSWER_LENGTH: usize = 12;
-/// The elements of `out` that a lookup writes: kind and value.
-pub const OUT_LENGTH: usize = 2;
-/// The elements of `out` that [`vo_facts_room`] writes: n, and s of constant, index and container.
-pub const ROOM_LENGTH: usize = 4;
-/// A lookup has no fact, or a sheet no such layout, which is no refusal.
-pub const NONE: u8 = 254;
+/// A fresh budget, of bytes and of work each.
+pub const FRESH_BUDGET: u64 = 268_435_456;
+
+// What a function returns, with the header's names but for TOO_SHORT, which is VO_FACTS_ANSWER_TOO_SHORT there. 1 to 9
+// are the numbers of document 01's questions.
+
+/// The tables hold the facts.
+pub const ANALYZED: u8 = 0;
+/// The sheet has fewer than 40 bytes.
+pub const NO_HEAD: u8 = 1;
+/// A size is past its limit.
+pub const SIZE_LIMIT: u8 = 2;
+/// The length is not what the sizes give.
+pub const LENGTH: u8 = 3;
+/// Write counts or layout lengths do not sum to their sizes.
+pub const SUMS: u8 = 4;
+/// A kind byte is not named, or a used layout number names no layout.
+pub const KINDS: u8 = 5;
+/// `marks` or `stack` has fewer than L elements.
+pub const CLOSURE_ROOM: u8 = 6;
+/// What is left does not cover a charge.
+pub const OVER_BUDGET: u8 = 7;
+/// An output, the row scratch or the work list is too short.
+pub const NO_ROOM: u8 = 8;
 /// A lookup found what no analysis leaves (question 9).
 pub const DAMAGED: u8 = 9;
+/// A lookup has no fact, or a sheet no such layout, which is no refusal.
+pub const NONE: u8 = 254;
 /// `answer` or `out` is too short.
 pub const TOO_SHORT: u8 = 255;
+
+// The elements of `answer`.
+
+/// What the function returns.
+pub const NUMBER: usize = 0;
+/// s of the constant analysis.
+pub const CONSTANT_SLOTS: usize = 1;
+/// Entries that it took from its work list.
+pub const CONSTANT_POPS: usize = 2;
+/// s of the index analysis.
+pub const INDEX_SLOTS: usize = 3;
+/// Entries that it took from its work list.
+pub const INDEX_POPS: usize = 4;
+/// s of the container analysis.
+pub const CONTAINER_SLOTS: usize = 5;
+/// Entries that it took from its work list.
+pub const CONTAINER_POPS: usize = 6;
+/// The bytes left.
+pub const BYTES_LEFT: usize = 7;
+/// The work left.
+pub const WORK_LEFT: usize = 8;
+/// Where a charge was not covered (7), 1 to 5 in charge order.
+pub const STAGE: usize = 9;
+/// The charge that was not covered.
+pub const REQUESTED: usize = 10;
+/// What was left for it.
+pub const REMAINING: usize = 11;
+/// The elements of `answer` that [`vo_facts_analyze`] writes.
+pub const ANSWER_LENGTH: usize = 12;
+
+// The elements of `out`.
+
+/// n, of [`vo_facts_room`].
+pub const ROOM_INSTRUCTIONS: usize = 0;
+/// s of the constant analysis.
+pub const ROOM_CONSTANT_SLOTS: usize = 1;
+/// s of the index analysis.
+pub const ROOM_INDEX_SLOTS: usize = 2;
+/// s of the container analysis.
+pub const ROOM_CONTAINER_SLOTS: usize = 3;
+/// The elements of `out` that [`vo_facts_room`] writes.
+pub const ROOM_LENGTH: usize = 4;
+/// The elements of `out` that a lookup writes: kind and value.
+pub const OUT_LENGTH: usize = 2;
+
+// The kinds of facts.
+
+/// Of all three analyses; the value is 0.
+pub const UNKNOWN: u8 = 0;
+/// Of all three analyses; the value is 0.
+pub const CONFLICT: u8 = 1;
+/// A constant from 0 up: the value.
+pub const CONSTANT: u8 = 2;
+/// A constant below 0: the value plus 2^64.
+pub const CONSTANT_NEGATIVE: u8 = 3;
+/// An index: the length that it was checked against.
+pub const CHECKED: u8 = 2;
+/// A container: layout of keys × 65,536 + layout of values.
+pub const MAP: u8 = 2;
+/// The same of a map's iterator.
+pub const ITERATOR: u8 = 3;
+/// A container: layout of elements × 65,536.
+pub const QUEUE: u8 = 4;
 
 /// The parameters of a lookup at an instruction.
 pub type Lookup = unsafe extern "C" fn(

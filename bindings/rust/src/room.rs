@@ -1,7 +1,7 @@
 //! How long the buffers of a sheet have to be.
 
 use crate::answer::Refusal;
-use crate::raw::{vo_facts_room, ROOM_LENGTH};
+use crate::raw::{self, vo_facts_room, ROOM_LENGTH};
 
 /// Lengths of all buffers follow from these.
 #[derive(Clone, Copy, Debug, Default, PartialEq, Eq)]
@@ -33,13 +33,17 @@ impl Room {
     /// questions 1 to 5 refuses needs no room: the call will say so.
     ///
     /// It takes three bytes for each local slot while it runs; [`Room::told`] is lent them.
+    ///
+    /// It has no budget that would end it early: each closure follows up to 2 × n × L edges, and the largest scripts
+    /// may take seconds (2.6 measured at n 4,096 and L 65,535 with 4,093 CopyN that span all registers). A loader that
+    /// cannot wait so long looks at n and L, the numbers at bytes 0 and 24, before it asks.
     pub fn for_sheet(sheet: &[u8]) -> Room {
         let locals = locals(sheet);
         Room::told(sheet, &mut vec![0; locals], &mut vec![0; locals]).unwrap_or_default()
     }
 
-    /// The same with marks and stack of the caller, at least L entries each, else it is refused by 6. After a refusal
-    /// they are as they were, and else they are 0.
+    /// The same, without a budget too, with marks and stack of the caller, at least L entries each, else it is refused
+    /// by 6. After a refusal they are as they were, and else they are 0.
     pub fn told(sheet: &[u8], marks: &mut [u8], stack: &mut [u16]) -> Result<Room, Refusal> {
         let mut out = [0; ROOM_LENGTH];
         // Sound: slices have true lengths, and `&mut` ones overlap with nothing.
@@ -57,10 +61,13 @@ impl Room {
         };
         match Refusal::of_sheet(number) {
             Some(refusal) => Err(refusal),
-            None => {
-                let [instructions, constant, index, container] = out.map(|told| told as usize);
-                Ok(Room { instructions, locals: locals(sheet), constant, index, container })
-            }
+            None => Ok(Room {
+                instructions: out[raw::ROOM_INSTRUCTIONS] as usize,
+                locals: locals(sheet),
+                constant: out[raw::ROOM_CONSTANT_SLOTS] as usize,
+                index: out[raw::ROOM_INDEX_SLOTS] as usize,
+                container: out[raw::ROOM_CONTAINER_SLOTS] as usize,
+            }),
         }
     }
 

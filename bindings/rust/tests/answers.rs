@@ -2,7 +2,7 @@
 
 use vo_facts::{
     analyze, lowest_layout, raw, Budget, Buffers, ConstantFact, Constants, ContainerFact, Counts, Damaged, Lent,
-    Output, Refusal, Refused, Room, Stage, Table, TooLarge,
+    NotCompared, Output, Refusal, Refused, Room, Stage, Table, TooLarge,
 };
 
 const SHEET: &[u8] = include_bytes!("../../../examples/worked.sheet");
@@ -125,6 +125,26 @@ fn layouts_are_equal_by_content() {
     assert_eq!(facts[4].same_content(&other, FLIGHTS), Ok(true));
     assert_eq!(facts[2].same_content(&other, FLIGHTS), Ok(false));
     assert_eq!(facts[7].same_content(&ContainerFact::Queue { element: 2 }, FLIGHTS), Ok(true));
+}
+
+/// No layout of either fact may be one that the sheet does not have, of whatever kinds they are.
+#[test]
+fn facts_of_another_sheet_are_not_compared() {
+    let own = ContainerFact::Map { key: 0, value: 1 };
+    let others = [
+        (ContainerFact::Map { key: 3, value: 1 }, 3),
+        (ContainerFact::Map { key: 0, value: 1024 }, 1024),
+        (ContainerFact::Iterator { key: 4, value: 5 }, 4),
+        (ContainerFact::Queue { element: usize::MAX }, usize::MAX),
+    ];
+    for (other, layout) in others {
+        let missing = Err(NotCompared::NoLayout(layout));
+        assert_eq!(other.same_content(&other, FLIGHTS), missing, "{other:?}");
+        assert_eq!(own.same_content(&other, FLIGHTS), missing, "{other:?}");
+        assert_eq!(other.same_content(&ContainerFact::Unknown, FLIGHTS), missing, "{other:?}");
+    }
+    assert_eq!(own.same_content(&own, &FLIGHTS[..39]), Err(NotCompared::Refused(Refusal::NoHead)));
+    assert_eq!(NotCompared::NoLayout(3).to_string(), "the sheet has no layout 3");
 }
 
 #[test]

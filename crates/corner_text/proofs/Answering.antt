@@ -15,9 +15,9 @@ use Rattle.model.specs.declared.Instruction.{Instruction}
 use Rattle.model.specs.declared.InstructionSuccessors.{InstructionSuccessors}
 use Rattle.text.specs.Text.{Added}
 use Rattle.text.proofs.Writing.{reword}
-use Rattle.corner_text.specs.Lines.{successorsLine, writesLine, indexWritesLine}
+use Rattle.corner_lines.specs.Lines.{successorsLine, writesLine, indexWritesLine}
 use Rattle.corner_text.specs.Answers.{answerLine}
-use Rattle.corner_text.specs.declared.heads.Question.{Question}
+use Rattle.corner_cases.specs.declared.Question.{Question}
 
 module _ (sheet : List ℕ) (q : Question) {old new : List ℕ} {count : ℕ} where
   pub successors-answered : (n : ℕ) (inst : Instruction) {s : InstructionSuccessors} → q .asks ≡ 1 → n ≡ codeCount sheet → inst ≡ instruction sheet (q .pc) → s ≡ asRecord (successors n (q .pc) inst)

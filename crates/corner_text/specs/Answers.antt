@@ -7,8 +7,8 @@ use Rattle.model.specs.Opcode.{select}
 use Rattle.model.specs.Successors.{successors, asRecord}
 use Rattle.model.specs.Written.{written, indexWritten}
 use Rattle.model.specs.Tables.{factIn}
-use Rattle.corner_text.specs.Lines.{successorsLine, writesLine, indexWritesLine}
-use Rattle.corner_text.specs.declared.heads.Question.{Question}
+use Rattle.corner_lines.specs.Lines.{successorsLine, writesLine, indexWritesLine}
+use Rattle.corner_cases.specs.declared.Question.{Question}
 
 -- by what is asked: 1 the successors, 2 a slot's writing, 3 the same in the index analysis; no line where it is anything else
 unfoldable pub answerLine : List ℕ → Question → List ℕ

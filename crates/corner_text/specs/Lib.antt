@@ -1,4 +1,2 @@
--- What a case is made of, and the lines that answer it.
-pub mod Heads
-pub mod Lines
+-- The line that answers a question.
 pub mod Answers

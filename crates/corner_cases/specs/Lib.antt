@@ -1,0 +1,2 @@
+-- What a case is made of.
+pub mod Heads

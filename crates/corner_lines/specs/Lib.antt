@@ -1,0 +1,2 @@
+-- The lines that answer a case.
+pub mod Lines
