@@ -11,7 +11,7 @@ use lib.Dec.{leb, ltb}
 use lib.ListN.{length, set}
 use borrow.Author.Tests.{le-leb, lt-leb, leb-true, lt-ltb, le-ltb}
 use Rattle.model.specs.Sheet.{codeCount, localSlots, layoutCount, sheetRefusal}
-use Rattle.model.specs.Charges.{ok}
+use Rattle.model.specs.Charges.{overBudget, noRoom, Spent, ok, stop, unfinished}
 use Rattle.model.specs.Closure.{trackedSlots}
 use Rattle.model.specs.Call.{zeros}
 use Rattle.model.specs.Listing.{lowest}
@@ -36,42 +36,41 @@ use Rattle.closure.specs.declared.Closed.the-variants.{Tracked, Refused}
 use Rattle.finality.proofs.Lengths.{zeros-length, zeros-same}
 use Rattle.model.specs.Interface.{looked, inFront}
 use Rattle.model.specs.Room.{closureSlots, room, roomNumbers, roomIf, roomAfterFive, roomOf, lowestIf, lowestAfterFive, lowestOf}
-use Rattle.loader.proofs.Free.{slots-given}
+use Rattle.loader.proofs.Free.{slots-same, slots-given}
 
 -- ---- the s of one analysis
 
--- a budget of 2^64 − 1 each
-abbrev plenty : VerifierResources
-plenty = record { bytes = 18446744073709551615; work = 18446744073709551615 }
+first-part : {a b : Closed} {x y : List ℕ} → closedTo a x ≡ closedTo b y → a ≡ b
+first-part {a} {b} {x} {y} e =
+    let p : _≡_ {A = Ended} (record { answer = a; slots = x }) (record { answer = b; slots = y }) = cc in ap (λ (r : Ended). r .answer) p
 
-module _ (which : AnalysisKind) {sheet : List ℕ} {sizes : Sizes} (m : Measured sheet sizes) where
-  record Closes : Type 0 where
-    pub left : VerifierResources
-    pub is : trackedSlots which sheet plenty ≡ ok (closureSlots which sheet) left
+module _ (which : AnalysisKind) (sheet : List ℕ) (budget : VerifierResources) (old : List ℕ) {closed : Closed} {slots : List ℕ}
+    (e : closedTo closed slots ≡ closedOf old (trackedSlots which sheet budget)) where
+  -- whatever the budget
+  pub counted-slots : {s : ℕ} {left : VerifierResources} → closed ≡ Tracked s left → s ≡ length (closureSlots which sheet)
+  counted-slots {s} c = go (trackedSlots which sheet budget) refl e
+    where
+      go : (r : Spent (List ℕ)) → trackedSlots which sheet budget ≡ r → closedTo closed slots ≡ closedOf old r → s ≡ length (closureSlots which sheet)
+      go (ok found rest) h p = unfold closedOf in (
+          let a = first-part p in
+          let q : s ≡ length found = cc in
+          q ∙ ap length (slots-same which sheet budget found rest h))
+      go (stop (overBudget stage requested remaining) rest) h p = unfold closedOf in (let a = first-part p in let z : _≡_ {A = ℕ} 0 1 = cc in absurd (omega arith))
+      go (stop noRoom rest) h p = unfold closedOf in (let z : _≡_ {A = ℕ} 0 1 = cc in absurd (omega arith))
+      go unfinished h p = unfold closedOf in (let z : _≡_ {A = ℕ} 0 1 = cc in absurd (omega arith))
 
-  closes : Closes
-  closes =
+  -- from enough: 3 bytes for each of 65,535 slots, and the work of 2 edges for each of them and each of 4,096 instructions
+  pub not-refused : {sizes : Sizes} → Measured sheet sizes → 196605 ≤ budget .bytes → 536862720 ≤ budget .work
+      → {requested remaining : ℕ} {left : VerifierResources} → closed ≡ Refused requested remaining left → ⊥
+  unfolding closedOf
+  not-refused m bytes work c =
       let n = counted (m .are) in
       let l = limited m in
       let p : localSlots sheet ≤ 65535 = omega (arith, n .local-slots, l .local-slots) in
       let q : 2 * codeCount sheet ≤ 8192 = omega (arith, n .code-count, l .code-count) in
-      let g = slots-given which sheet plenty (omega arith) (omega (arith, mul-le-mul p q)) in
-      record { left = g .left; is = g .is }
-
-  first-part : {a b : Closed} {x y : List ℕ} → closedTo a x ≡ closedTo b y → a ≡ b
-  first-part {a} {b} {x} {y} e =
-      let p : _≡_ {A = Ended} (record { answer = a; slots = x }) (record { answer = b; slots = y }) = cc in ap (λ (r : Ended). r .answer) p
-
-  module _ (old : List ℕ) {closed : Closed} {slots : List ℕ} (e : closedTo closed slots ≡ closedOf old (trackedSlots which sheet plenty)) where
-    answered : closed ≡ Tracked (length (closureSlots which sheet)) (closes .left)
-    unfolding closedOf
-    answered = first-part (e ∙ ap (closedOf old) (closes .is))
-
-    pub counted-slots : {s : ℕ} {left : VerifierResources} → closed ≡ Tracked s left → s ≡ length (closureSlots which sheet)
-    counted-slots c = let a = answered in cc
-
-    pub not-refused : {requested remaining : ℕ} {left : VerifierResources} → closed ≡ Refused requested remaining left → ⊥
-    not-refused c = let a = answered in let z : _≡_ {A = ℕ} 0 1 = cc in omega arith
+      let g = slots-given which sheet budget (omega arith) (omega (arith, mul-le-mul p q)) in
+      let a : closed ≡ Tracked (length (closureSlots which sheet)) (g .left) = first-part (e ∙ ap (closedOf old) (g .is)) in
+      let z : _≡_ {A = ℕ} 0 1 = cc in omega arith
 
 -- marks or a stack that are as they were: zero, and as long
 module _ {old new : List ℕ} (e : new ≡ old) where
