@@ -4,7 +4,7 @@ use mathlib.Core.List.{List}
 use mathlib.Core.Option.{Option, none, some}
 use Prim.Native.Nat.{ℕ, _*_}
 use lib.ListN.{length}
-use Rattle.model.specs.Charges.{overBudget, noRoom, Spent, ok, stop, unfinished, Metered, _>>_, spendBytes}
+use Rattle.model.specs.Charges.{units, overBudget, noRoom, Spent, ok, stop, unfinished, Metered, _>>_, spendBytes}
 use Rattle.budget.specs.declared.Metering.{Metering}
 use Rattle.budget.specs.declared.Metering.the-variants as M
 use Rattle.marks.specs.Slots.{fitted}
@@ -15,7 +15,7 @@ use Rattle.closure.specs.declared.Closed.the-variants.{Tracked, Refused}
 
 -- "mark 1, work slot 2" for each of L
 unfoldable pub scratchCharges : ℕ → ℕ → Metered (Unit {0})
-scratchCharges stage l = spendBytes stage (l * 1) >> spendBytes stage (l * 2)
+scratchCharges stage l = spendBytes stage (l * units .mark) >> spendBytes stage (l * units .workSlot)
 
 -- ---- the whole
 

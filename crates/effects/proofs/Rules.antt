@@ -117,22 +117,22 @@ module _ (sheet : List ℕ) (pc : ℕ) (slots : List ℕ) (row : Row) (slot : �
     abbrev written : ℕ → Fact
     written = factWritten which sheet pc slots row
 
-    copied-n : (w : AnalysisKind) → instruction sheet pc .op ≡ 4
-        → target (inRange slot (instruction sheet pc .a) (instruction sheet pc .c)) (factFor slots row (instruction sheet pc .b + (slot - instruction sheet pc .a))) ≡ factWritten w sheet pc slots row slot
+    copied-n : (which : AnalysisKind) → instruction sheet pc .op ≡ 4
+        → target (inRange slot (instruction sheet pc .a) (instruction sheet pc .c)) (factFor slots row (instruction sheet pc .b + (slot - instruction sheet pc .a))) ≡ factWritten which sheet pc slots row slot
     unfolding factWritten constantRule constantFact indexRule indexFact containerRule containerFact select copiedN
     copied-n Constant h = rw h
     copied-n IndexCheck h = rw h
     copied-n Container h = rw h
 
-    one-written : (w : AnalysisKind) → instruction sheet pc .op ≢ 4 → iterates w (instruction sheet pc .op) ≡ false
-        → factWritten w sheet pc slots row slot ≡ target (eqb (instruction sheet pc .a) slot) (factWritten w sheet pc slots row (instruction sheet pc .a))
+    one-written : (which : AnalysisKind) → instruction sheet pc .op ≢ 4 → iterates which (instruction sheet pc .op) ≡ false
+        → factWritten which sheet pc slots row slot ≡ target (eqb (instruction sheet pc .a) slot) (factWritten which sheet pc slots row (instruction sheet pc .a))
     unfolding factWritten iterates
     one-written Constant n i = one-constant (instruction sheet pc) slots row slot sheet (instruction sheet pc .op) n
     one-written IndexCheck n i = one-index (instruction sheet pc) slots row slot (instruction sheet pc .op) n
     one-written Container n i = one-container (instruction sheet pc .op) n i
 
-    seven-written : (w : AnalysisKind) → iterates w (instruction sheet pc .op) ≡ true
-        → factWritten w sheet pc slots row slot ≡ target (inRange slot (instruction sheet pc .b) 7) (factWritten w sheet pc slots row (instruction sheet pc .b))
+    seven-written : (which : AnalysisKind) → iterates which (instruction sheet pc .op) ≡ true
+        → factWritten which sheet pc slots row slot ≡ target (inRange slot (instruction sheet pc .b) 7) (factWritten which sheet pc slots row (instruction sheet pc .b))
     unfolding factWritten iterates
     seven-written Constant i = absurd (false≢true i)
     seven-written IndexCheck i = absurd (false≢true i)

@@ -85,7 +85,7 @@ module _ (which : AnalysisKind) (sheet slots : List ℕ) (lengthFact : ℕ → F
       empty (inl e) = rw e
       empty (inr e) = rw e (or-true (eqb (codeCount sheet) 0))
 
-      go : (w : AnalysisKind) → (codeCount sheet ≡ 0) ⊎ (length slots ≡ 0) → firstRow w sheet slots budget ≡ ok (unknownRow slots) budget
+      go : (which : AnalysisKind) → (codeCount sheet ≡ 0) ⊎ (length slots ≡ 0) → firstRow which sheet slots budget ≡ ok (unknownRow slots) budget
       go Constant k = unfold firstRow give in refl
       go IndexCheck k = unfold firstRow give in refl
       go Container k = unfold firstRow containerRow give in (rw (empty k))

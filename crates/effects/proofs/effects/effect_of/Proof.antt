@@ -44,7 +44,7 @@ returns-3 c =
 returns-4 : tie.Need-returns-4
 returns-4 c =
     let s = c .before .before .before .before .before .before .before .before .before in
-    c .container-effect .ensures ∙ ap (λ (w : AnalysisKind). effectOf w (s .args .sheet .now) (s .args .pc) (s .args .slots .now) (factsOf (s .args .kinds .now) (s .args .values .now))) (sym (c .before .enum-told3 .given .1))
+    c .container-effect .ensures ∙ ap (λ (which : AnalysisKind). effectOf which (s .args .sheet .now) (s .args .pc) (s .args .slots .now) (factsOf (s .args .kinds .now) (s .args .values .now))) (sym (c .before .enum-told3 .given .1))
 
 pub effect-of-spec : {M : Type 1} → statement M
 effect-of-spec =

@@ -17,15 +17,15 @@ enum-told-3 c = search needs
 
 returns : tie.Need-returns
 unfolding checksIndex
-returns c = sym (ap (λ (w : AnalysisKind). checksIndex w (c .before .before .args .op)) (c .enum-told .given .1))
+returns c = sym (ap (λ (which : AnalysisKind). checksIndex which (c .before .before .args .op)) (c .enum-told .given .1))
 
 returns-2 : tie.Need-returns-2
 unfolding checksIndex
-returns-2 c = sym (ap (λ (w : AnalysisKind). checksIndex w (c .before .before .args .op)) (c .enum-told2 .given .1))
+returns-2 c = sym (ap (λ (which : AnalysisKind). checksIndex which (c .before .before .args .op)) (c .enum-told2 .given .1))
 
 returns-3 : tie.Need-returns-3
 unfolding checksIndex
-returns-3 c = sym (ap (λ (w : AnalysisKind). checksIndex w (c .before .before .args .op)) (c .enum-told3 .given .1))
+returns-3 c = sym (ap (λ (which : AnalysisKind). checksIndex which (c .before .before .args .op)) (c .enum-told3 .given .1))
 
 pub checks-index-spec : {M : Type 1} → statement M
 checks-index-spec =
