@@ -1,7 +1,7 @@
 #!/usr/bin/env python3
-"""The cases of crates/corners and the lines that it must print, which come from second/facts.py.
+"""The cases of crates/check_corners and the lines that it must print, which come from second/facts.py.
 
-  corners.py           writes crates/corners/stdin and crates/corners/stdout
+  corners.py           writes crates/check_corners/stdin and crates/check_corners/stdout
   corners.py --check   ends with 1 where the two files are not what would be written
   corners.py --rust    writes the lines that the oracle can answer too: no length beyond 16 bits
 
@@ -290,8 +290,8 @@ def main(words):
             sys.stdout.write(case_lines(name, data, [each for each in questions if len(each) < 4 or each[3][1] <= TOP]))
         return 0
     return settle('corners', words, __doc__, {
-        os.path.join('corners', 'stdin'): b''.join(case_bytes(*case) for case in cases()),
-        os.path.join('corners', 'stdout'): ''.join(case_lines(*case) for case in cases()).encode(),
+        os.path.join('check_corners', 'stdin'): b''.join(case_bytes(*case) for case in cases()),
+        os.path.join('check_corners', 'stdout'): ''.join(case_lines(*case) for case in cases()).encode(),
     })
 
 

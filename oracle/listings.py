@@ -1,7 +1,7 @@
 #!/usr/bin/env python3
-"""The sheets of crates/listings and the lines that it must print, which come from second/facts.py.
+"""The sheets of crates/check_listings and the lines that it must print, which come from second/facts.py.
 
-  listings.py                 writes crates/listings/stdin and crates/listings/stdout
+  listings.py                 writes crates/check_listings/stdin and crates/check_listings/stdout
   listings.py --check         ends with 1 where the two files are not what would be written
   listings.py --rust ORACLE   ends with 1 where the oracle's command facts lists a sheet otherwise
 
@@ -208,8 +208,8 @@ def files():
     assert not missing, missing
     worked = stored(os.path.join(EXAMPLES, 'worked.sheet'))
     return {
-        os.path.join('listings', 'stdin'): b''.join(packed('I', (len(name), len(data))) + name.encode() + data for name, data in given),
-        os.path.join('listings', 'stdout'): listed.encode(),
+        os.path.join('check_listings', 'stdin'): b''.join(packed('I', (len(name), len(data))) + name.encode() + data for name, data in given),
+        os.path.join('check_listings', 'stdout'): listed.encode(),
         os.path.join('facts', 'stdin'): worked,
         os.path.join('facts', 'stdout'): facts.listing(worked).encode(),
     }

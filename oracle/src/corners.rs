@@ -1,4 +1,4 @@
-//! The lines of crates/corners, answered by the Rust. ../corners.py says how its cases lie in the input.
+//! The lines of crates/check_corners, answered by the Rust. ../corners.py says how its cases lie in the input.
 
 use crate::sheet::Sheet;
 use crate::verifier::{index_writes, successors, writes};

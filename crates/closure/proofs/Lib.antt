@@ -1,2 +1,4 @@
+-- The loop of the closure
+pub mod Expanding
 -- The whole closure
 pub mod Tracking

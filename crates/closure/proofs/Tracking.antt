@@ -15,8 +15,8 @@ use Rattle.model.specs.declared.VerifierResources.{VerifierResources}
 use Rattle.budget.specs.Metering.{asSpent}
 use Rattle.budget.specs.declared.Metering.{Metering}
 use Rattle.budget.specs.declared.Metering.the-variants as M
-use Rattle.marks.specs.Slots.{fitted}
-use Rattle.expansion.specs.Expanded.{Blank, Expanded, expandedTo, expandedOf}
+use Rattle.closure_marks.specs.Slots.{fitted}
+use Rattle.closure.specs.Expanded.{Blank, Expanded, expandedTo, expandedOf}
 use Rattle.closure.specs.Closed.{scratchCharges, closedBy, closedTo, closedOf}
 use Rattle.closure.specs.declared.Closed.{Closed}
 use Rattle.budget.proofs.Spending.{covered, refused, then-covered, then-refused}

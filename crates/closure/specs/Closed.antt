@@ -7,7 +7,7 @@ use lib.ListN.{length}
 use Rattle.model.specs.Charges.{units, overBudget, noRoom, Spent, ok, stop, unfinished, Metered, _>>_, spendBytes}
 use Rattle.budget.specs.declared.Metering.{Metering}
 use Rattle.budget.specs.declared.Metering.the-variants as M
-use Rattle.marks.specs.Slots.{fitted}
+use Rattle.closure_marks.specs.Slots.{fitted}
 use Rattle.closure.specs.declared.Closed.{Closed}
 use Rattle.closure.specs.declared.Closed.the-variants.{Tracked, Refused}
 

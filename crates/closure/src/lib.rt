@@ -1,6 +1,9 @@
+// `FactDependencyGraph::expand`: from the seeds along the edges, the slot put last first.
 // "Budget and closure": the tracked slots of each analysis.
+mod expansion;
 mod tracked;
 
+pub use expansion::expand;
 use model::VerifierResources;
 pub use tracked::tracked_slots;
 

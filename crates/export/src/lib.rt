@@ -10,15 +10,15 @@ ghost use Rattle.model.specs.Lookup.{factForSlot, isReachable, fixed};
 ghost use Rattle.model.specs.declared.AnalysisKind.the-variants.{Constant, IndexCheck, Container};
 ghost use Rattle.model.specs.Call.{table, scratch, lent};
 ghost use Rattle.model.specs.Interface.{exported, exportedOf, looked, lookedUp, reachedNumber};
+use export_numbers::put_answer;
+use export_numbers::put_fact;
+use export_numbers::reached;
 use lookup::constant_fact_for_slot;
 use lookup::container_fact_for_slot;
 use lookup::fixed_fact;
 use lookup::index_check_fact_for_slot;
 use lookup::is_reachable;
 use model::VerifierResources;
-use numbers::put_answer;
-use numbers::put_fact;
-use numbers::reached;
 use verifier::analyze;
 
 // 0, or the number of the first question that refuses; the first 12 entries of answer hold the answer's numbers. 255 where it has fewer: nothing

@@ -4,8 +4,8 @@ ghost use lib.Dec.{leb};
 ghost use lib.ListN.{length};
 ghost use Rattle.model.specs.Interface.{looked};
 ghost use Rattle.model.specs.Room.{room, roomOf, lowestOf, interfaceVersion};
-use loader::lowest_layout;
-use loader::room_of;
+use export_loader::lowest_layout;
+use export_loader::room_of;
 
 // The header and bindings/rust name it too.
 const VERSION: u64 = 1;

@@ -1,8 +1,8 @@
 // Lists the facts of the sheet on standard input, or nothing where it cannot be read. The listing is written whole, or up to the first write that fails.
-use input::read_input;
+use check_input::read_input;
+use facts_report::list;
+use facts_room::no_sheet;
 use libc::STDOUT_FILENO;
-use report::list;
-use report_room::no_sheet;
 
 fn main() {
     let mut sheet = no_sheet();

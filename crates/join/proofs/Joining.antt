@@ -13,7 +13,7 @@ use Rattle.model.specs.Fact.{Fact, kind, value, differs, rowDiffers, join}
 use Rattle.model.specs.Tables.{factOf, factsOf, factIn, cellOf}
 use Rattle.model.specs.declared.FactCell.{FactCell}
 use Rattle.join.specs.Rows.{Encoded, JoinedRow}
-use Rattle.merges.proofs.Cells.{cell}
+use Rattle.join.proofs.Cells.{cell}
 use Rattle.join.proofs.Fill.{fill-get, fill-set, fill-done}
 use Rattle.join.proofs.Changes.{kept, same-kind, other-kind}
 use Rattle.model.proofs.Facts.{length-facts}

@@ -1,3 +1,7 @@
+-- Joins of two cells, by the tests of the code
+pub mod Cells
+-- Containers, by kind and layouts
+pub mod Layouts
 -- A row that a loop joins from the left
 pub mod Fill
 pub mod Changes

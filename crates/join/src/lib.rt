@@ -1,75 +1,10 @@
+// "Join" of two facts as they lie in the tables: the three merges.
 // The join of a row: its cells are parts of the tables' kinds and values.
-ghost use mathlib.Core.Path.{_≡_};
-ghost use lib.ListN.{length};
-ghost use Rattle.model.specs.Fact.{join, equalKnown};
-ghost use Rattle.model.specs.Sheet.{layoutStart, layoutCount};
-ghost use Rattle.model.specs.Tables.{factIn, cellOf};
-ghost use Rattle.memory.specs.Front.{Holds};
-ghost use Rattle.sheet.specs.Measured.{Accepted};
-ghost use Rattle.join.specs.Rows.{Encoded, JoinedRow};
-use merges::merge_constant_fact;
-use merges::merge_container_fact;
-use merges::merge_index_check_fact;
-use model::AnalysisKind;
-use model::FactCell;
-use sheet::Sizes;
+mod containers;
+mod facts;
+mod rows;
 
-// The join of two facts of an analysis.
-fn merge_fact_of(
-    which: AnalysisKind,
-    sheet: &[u8],
-    sizes: Sizes,
-    starts: &[u16],
-    old: FactCell,
-    new: FactCell,
-) -> FactCell
-    requires { ⌜ Accepted (now sheet) sizes × Holds (layoutStart (now sheet)) (layoutCount (now sheet)) (now starts) ⌝ }
-    ensures { λ r. ⌜ r ≡ cellOf (join (equalKnown which (now (sheet .entry))) (factIn old) (factIn new)) ⌝ }
-{
-    match which {
-        AnalysisKind::Constant => merge_constant_fact(old, new),
-        AnalysisKind::IndexCheck => merge_index_check_fact(old, new),
-        AnalysisKind::Container => merge_container_fact(sheet, sizes, starts, old, new),
-    }
-}
-
-// "joined into it slot by slot, the old fact first"; whether "a kind or value changed". A join keeps a fact or makes it Unknown or
-// Conflict, so a change of value is a change of kind too: only then something is stored.
-pub fn join_row(
-    which: AnalysisKind,
-    sheet: &[u8],
-    sizes: Sizes,
-    starts: &[u16],
-    kinds: &mut [u8],
-    values: &mut [u64],
-    new_kinds: &[u8],
-    new_values: &[u64],
-) -> bool
-    requires { ⌜ Accepted (now sheet) sizes × Holds (layoutStart (now sheet)) (layoutCount (now sheet)) (now starts) ⌝ }
-    requires { ⌜ Encoded (now kinds) (now values) ⌝ }
-    requires { ⌜ (length (now «new_kinds») ≡ length (now kinds)) × (length (now «new_values») ≡ length (now kinds)) ⌝ }
-    ensures { λ r. ⌜ JoinedRow (equalKnown which (now (sheet .entry))) (now (kinds .entry)) (now (values .entry)) (now («new_kinds» .entry)) (now («new_values» .entry)) (now (kinds .exit)) (now (values .exit)) r ⌝ }
-{
-    let mut changed = false;
-    let mut i = 0;
-    while i < kinds.len() {
-        let was = kinds[i];
-        let old = FactCell {
-            kind: was,
-            value: values[i],
-        };
-        let new = FactCell {
-            kind: new_kinds[i],
-            value: new_values[i],
-        };
-        let joined = merge_fact_of(which, sheet, sizes, starts, old, new);
-        let kind = joined.kind;
-        if kind != was {
-            kinds[i] = kind;
-            values[i] = joined.value;
-            changed = true;
-        }
-        i += 1;
-    }
-    changed
-}
+pub use containers::merge_container_fact;
+pub use facts::merge_constant_fact;
+pub use facts::merge_index_check_fact;
+pub use rows::join_row;

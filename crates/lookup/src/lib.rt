@@ -2,15 +2,15 @@
 ghost use mathlib.Core.Path.{_≡_};
 ghost use Rattle.model.specs.Lookup.{lastKind, factForSlot, isReachable, fixed, factWithNumbers, reachabilityWithNumbers};
 ghost use Rattle.model.specs.declared.AnalysisKind.the-variants.{Constant, IndexCheck, Container};
-use cells::all_named;
-use cells::cell;
-use cells::named;
-use cells::present_at;
+use fact_row::find;
+use lookup_tables::all_named;
+use lookup_tables::cell;
+use lookup_tables::named;
+use lookup_tables::present_at;
+use lookup_tables::tables_agree;
 use model::AnalysisKind;
 use model::Reachability;
 use model::SlotFact;
-use search::find;
-use tables::tables_agree;
 
 mod shown;
 

@@ -4,11 +4,11 @@ ghost use Prim.Native.Nat.{_*_, _-_, _<_};
 ghost use lib.ListN.{length};
 ghost use lib.Dec.{eqb, leb};
 ghost use Rattle.model.specs.Lookup.{show, showIf, shown, fixedAt};
-ghost use Rattle.search.specs.Place.{placed};
-ghost use Rattle.cells.specs.Inside.{Inside};
+ghost use Rattle.fact_row.specs.Place.{placed};
+ghost use Rattle.lookup_tables.specs.Inside.{Inside};
 ghost use Rattle.lookup.specs.Shown.{shownBy};
+use fact_row::Place;
 use model::SlotFact;
-use search::Place;
 
 // What the present instructions seen so far show of a slot: none of them, all one known value, or something else.
 pub enum Seen {

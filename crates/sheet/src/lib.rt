@@ -3,7 +3,7 @@ ghost use mathlib.Core.Path.{_≡_};
 ghost use Prim.Native.Nat.{_<_, _≤_};
 ghost use lib.ListN.{length};
 ghost use Rattle.model.specs.Sheet.{size};
-use endian::u32_in;
+use sheet_bytes::u32_in;
 
 // Where each array of a sheet begins; the code begins at 40.
 pub struct Places {

@@ -16,10 +16,10 @@ use Rattle.model.specs.declared.FactCell.{FactCell}
 use Rattle.model.specs.declared.Instruction.{Instruction}
 use Rattle.model.specs.declared.AnalysisKind.{AnalysisKind}
 use Rattle.model.specs.declared.AnalysisKind.the-variants.{Constant, IndexCheck, Container}
-use Rattle.fact_cells.proofs.Facts.{kind-of, value-of}
-use Rattle.writes.proofs.Rules.{a-is, is-set, is-setn, is-other}
-use Rattle.rows.specs.declared.Written.{Written}
-use Rattle.rows.specs.declared.Written.the-variants.{Span, Ranges}
+use Rattle.fact_row.proofs.Facts.{kind-of, value-of}
+use Rattle.transfer_written.proofs.Rules.{a-is, is-set, is-setn, is-other}
+use Rattle.transfer_rows.specs.declared.Written.{Written}
+use Rattle.transfer_rows.specs.declared.Written.the-variants.{Span, Ranges}
 use Rattle.transfer.specs.Spans.{rangeSpans, elementSpans, spansBy, spans, indexSpansBy, indexSpans, slotsWritten}
 
 -- ---- by ranges

@@ -17,9 +17,9 @@ use Rattle.model.proofs.Tests.{and-true}
 use Rattle.sheet.specs.Measured.{Accepted}
 use Rattle.sheet.specs.declared.Sizes.{Sizes}
 use Rattle.sheet.proofs.Asked.{ranges-fit}
-use Rattle.ranges.proofs.InRange.{span-reaches}
-use Rattle.rows.specs.Slots.{names, lastRange, Names}
-use Rattle.rows.specs.declared.Written.the-variants.{Span}
+use Rattle.transfer_written.proofs.InRange.{span-reaches}
+use Rattle.transfer_rows.specs.Slots.{names, lastRange, Names}
+use Rattle.transfer_rows.specs.declared.Written.the-variants.{Span}
 use Rattle.transfer.specs.Analysis.{slotWritten}
 use Rattle.transfer.specs.Spans.{rangeSpans, elementSpans, spansBy, spans, indexSpansBy, indexSpans, slotsWritten}
 

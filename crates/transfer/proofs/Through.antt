@@ -15,14 +15,14 @@ use Rattle.model.specs.declared.Instruction.{Instruction}
 use Rattle.model.specs.declared.AnalysisKind.{AnalysisKind}
 use Rattle.model.specs.declared.AnalysisKind.the-variants.{Constant, IndexCheck, Container}
 use Rattle.sheet.specs.declared.Sizes.{Sizes}
-use Rattle.search.specs.Rows.{Lies}
-use Rattle.effects.specs.Effect.{effectCell, factWritten, effectOf}
-use Rattle.effects.specs.declared.Effect.{Effect}
-use Rattle.effects.proofs.Rules.{effect-cells}
-use Rattle.rows.specs.Slots.{names, Names}
-use Rattle.rows.specs.Wrote.{Wrote}
-use Rattle.rows.specs.declared.Written.{Written}
-use Rattle.rows.proofs.Writing.{wrote-row}
+use Rattle.fact_row.specs.Rows.{Lies}
+use Rattle.transfer_facts.specs.Effect.{effectCell, factWritten, effectOf}
+use Rattle.transfer_facts.specs.declared.Effect.{Effect}
+use Rattle.transfer_facts.proofs.EffectRules.{effect-cells}
+use Rattle.transfer_rows.specs.Slots.{names, Names}
+use Rattle.transfer_rows.specs.Wrote.{Wrote}
+use Rattle.transfer_rows.specs.declared.Written.{Written}
+use Rattle.transfer_rows.proofs.Writing.{wrote-row}
 use Rattle.transfer.specs.Analysis.{slotWritten, checksIndex}
 
 -- ---- IndexCheck

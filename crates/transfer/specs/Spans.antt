@@ -9,8 +9,8 @@ use Rattle.model.specs.Transfer.{factFor}
 use Rattle.model.specs.Written.{slotLayoutNote, hasElements, noteElemSlots, Writes, slotSet, slotSetN, byRanges, writes}
 use Rattle.model.specs.declared.AnalysisKind.{AnalysisKind}
 use Rattle.model.specs.declared.AnalysisKind.the-variants.{Constant, IndexCheck, Container}
-use Rattle.rows.specs.declared.Written.{Written}
-use Rattle.rows.specs.declared.Written.the-variants.{Span, Ranges}
+use Rattle.transfer_rows.specs.declared.Written.{Written}
+use Rattle.transfer_rows.specs.declared.Written.the-variants.{Span, Ranges}
 
 -- "For all other opcodes the ranges decide .., and an erring visitor writes all.": 65,536 slots are all
 unfoldable pub rangeSpans : Bool → List ℕ → ℕ → Written

@@ -10,18 +10,18 @@ ghost use Rattle.model.specs.Tables.{factIn, factsOf};
 ghost use Rattle.model.specs.Transfer.{checkedFrom, indexChecked, transferRow};
 ghost use Rattle.memory.specs.Front.{Holds};
 ghost use Rattle.sheet.specs.Measured.{Accepted};
-ghost use Rattle.search.specs.Rows.{Tracked, Lies};
+ghost use Rattle.fact_row.specs.Rows.{Tracked, Lies};
 ghost use Rattle.transfer.specs.Analysis.{checksIndex};
 use crate::spans::slots_written;
-use effects::effect_of;
-use fact_cells::checked_cell;
+use fact_row::checked_cell;
+use fact_row::wide;
 use model::AnalysisKind;
 use model::FactCell;
 use model::Instruction;
-use rows::put_fact;
-use rows::write_slots;
-use search::wide;
 use sheet::Sizes;
+use transfer_facts::effect_of;
+use transfer_rows::put_fact;
+use transfer_rows::write_slots;
 
 // "Opcodes (decimal)"
 const INDEX_CHECK: u8 = 121;
@@ -79,7 +79,7 @@ pub fn transfer_row(
     requires { ⌜ Tracked (now slots) (now kinds) (now values) × (length (now «out_kinds») ≡ length (now slots)) × (length (now «out_values») ≡ length (now slots)) ⌝ }
     ensures { λ r. ⌜ Lies (transferRow which (now (sheet .entry)) (now (slots .entry)) (λ p. factIn «length_fact») pc (factsOf (now (kinds .entry)) (now (values .entry)))) (now («out_kinds» .exit)) (now («out_values» .exit)) ⌝ }
 {
-    let inst = code::instruction_at(sheet, pc);
+    let inst = sheet_fields::instruction_at(sheet, pc);
     let effect = effect_of(which, sheet, sizes, slots, kinds, values, pc, inst);
     let written = slots_written(which, sheet, sizes, firsts, slots, kinds, values, pc, inst);
     memory::copy_u8(kinds, out_kinds);

@@ -6,14 +6,14 @@ ghost use Rattle.model.specs.Tables.{factsOf};
 ghost use Rattle.model.specs.Transfer.{factFor};
 ghost use Rattle.memory.specs.Front.{Holds};
 ghost use Rattle.sheet.specs.Measured.{Accepted};
-ghost use Rattle.search.specs.Rows.{Tracked};
+ghost use Rattle.fact_row.specs.Rows.{Tracked};
 ghost use Rattle.transfer.specs.Spans.{rangeSpans, spans, indexSpans, slotsWritten};
+use fact_row::fact_for_tracked_source;
+use fact_row::wide;
 use model::AnalysisKind;
 use model::Instruction;
-use rows::Written;
-use search::fact_for_tracked_source;
-use search::wide;
 use sheet::Sizes;
+use transfer_rows::Written;
 
 // "Opcodes (decimal)"
 const SLOT_SET: u8 = 6;
@@ -25,7 +25,7 @@ fn ranges_written(sheet: &[u8], sizes: Sizes, firsts: &[u16], pc: usize) -> Writ
     requires { ⌜ Accepted (now sheet) sizes × Holds (firstRange (now sheet)) (codeCount (now sheet)) (now firsts) × (pc < sizes .«code_count») ⌝ }
     ensures { λ r. ⌜ r ≡ rangeSpans (erred (now (sheet .entry)) pc) (now (sheet .entry)) pc ⌝ }
 {
-    let count = code::write_count_at(sheet, sizes, pc);
+    let count = sheet_fields::write_count_at(sheet, sizes, pc);
     if count == 65535 {
         return Written::Span {
             start: 0,
@@ -58,7 +58,7 @@ fn instruction_writes(
         };
     }
     if op == SLOT_SET_N {
-        if ranges::has_elements(sheet, sizes, pc) {
+        if transfer_written::has_elements(sheet, sizes, pc) {
             return Written::Span {
                 start: inst.a,
                 count: 65536,
@@ -90,7 +90,7 @@ fn index_check_instruction_writes(
         if 1 < before.kind {
             return Written::Span {
                 start: inst.a,
-                count: ranges::span(before.value, 1),
+                count: transfer_written::span(before.value, 1),
             };
         }
         return instruction_writes(sheet, sizes, firsts, pc, inst);
@@ -100,7 +100,10 @@ fn index_check_instruction_writes(
         if 1 < before.kind {
             return Written::Span {
                 start: inst.a,
-                count: ranges::span(before.value, ranges::elem_slots(sheet, sizes, pc, inst)),
+                count: transfer_written::span(
+                    before.value,
+                    transfer_written::elem_slots(sheet, sizes, pc, inst),
+                ),
             };
         }
         return instruction_writes(sheet, sizes, firsts, pc, inst);

@@ -6,14 +6,14 @@ ghost use Rattle.model.specs.CallDemand.{LentDemand};
 ghost use Rattle.model.specs.declared.Answer.the-variants.{Analyzed};
 ghost use Rattle.model.specs.declared.Counts.{Counts};
 ghost use Rattle.model.specs.declared.VerifierResources.{VerifierResources};
-use admission::Admission;
-use admission::admit;
-use answers::refuses;
-use containers::analyze_containers;
+use call_admission::Admission;
+use call_admission::admit;
+use call_containers::analyze_containers;
+use call_values::analyze_values;
 use model::Answer;
 use model::VerifierResources;
-use sequence::analyze_values;
-use stages::clear_table_if;
+use stage_memory::clear_table_if;
+use stage_outcome::refuses;
 
 // "Questions, in order", the charges and the three analyses. What it answers and what every lent buffer holds afterwards is the call that the
 // definitions give (`analyzed`); and of an answer with facts, each analysis took at most n × (1 + 2 × s) entries from its work list, and with

@@ -2,7 +2,7 @@
 use mathlib.Core.Path.{ap}
 use denote.Ref.{now}
 use Rattle.model.specs.Lookup.{reachabilityWithNumbers}
-use Rattle.cells.proofs.Rows.{not-reached, reached, unreadable}
+use Rattle.lookup_tables.proofs.Rows.{not-reached, reached, unreadable}
 use borrow.Author.Needs.{needs}
 use Rattle.lookup.proofs.is_reachable.Statement.{statement}
 use Rattle.lookup.proofs.is_reachable.Tie as tie

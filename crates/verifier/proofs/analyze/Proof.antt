@@ -2,19 +2,19 @@
 -- Assumes nothing.
 use mathlib.Core.Path.{_∙_}
 use Rattle.model.specs.Call.{table, scratch, lent}
-use Rattle.admission.proofs.Asking.{turned-away, admitted-asks}
-use Rattle.analyses.proofs.Ready.{clean, values-clear, demanded}
-use Rattle.analyses.proofs.Whole.{promise}
+use Rattle.call_admission.proofs.Asking.{turned-away, admitted-asks}
+use Rattle.call_next.proofs.Ready.{clean, values-clear, demanded}
+use Rattle.call_next.proofs.Whole.{promise}
 use borrow.Author.Needs.{needs}
 use Rattle.verifier.proofs.analyze.Statement.{statement}
 use Rattle.verifier.proofs.analyze.Tie as tie
 use Rattle.verifier.proofs.analyze.Reads as reads
 use Rattle.verifier.proofs.analyze.Lts as lts
-use Rattle.admission.proofs.admit.Reads as admit-reads
-use Rattle.containers.proofs.analyze_containers.Reads as analyze-containers-reads
-use Rattle.answers.proofs.refuses.Reads as refuses-reads
-use Rattle.sequence.proofs.analyze_values.Reads as analyze-values-reads
-use Rattle.stages.proofs.clear_table_if.Reads as clear-table-if-reads
+use Rattle.call_admission.proofs.admit.Reads as admit-reads
+use Rattle.call_containers.proofs.analyze_containers.Reads as analyze-containers-reads
+use Rattle.stage_outcome.proofs.refuses.Reads as refuses-reads
+use Rattle.call_values.proofs.analyze_values.Reads as analyze-values-reads
+use Rattle.stage_memory.proofs.clear_table_if.Reads as clear-table-if-reads
 
 admit-requires : tie.Need-admit-requires
 admit-requires c κs = tt

@@ -3,7 +3,7 @@ use mathlib.Core.Path.{_∙_}
 use native.Mathlib.Omega.{arith}
 use borrow.Author.Needs.{needs}
 use Rattle.sheet.proofs.Asked.{measured}
-use Rattle.writes.proofs.Rules.{in-code, in-table}
+use Rattle.transfer_written.proofs.Rules.{in-code, in-table}
 use Rattle.transfer.proofs.Found.{all-spans, own-spans}
 use Rattle.transfer.proofs.spans.ranges_written.Statement.{statement}
 use Rattle.transfer.proofs.spans.ranges_written.Tie as tie

@@ -1,0 +1,33 @@
+// Questions 1 to 6.
+ghost use mathlib.Core.Path.{_≡_};
+ghost use mathlib.Core.Bool.{_&&_};
+ghost use lib.Dec.{leb};
+ghost use Rattle.call_admission.specs.Admitted.{admittedIf, admission};
+use crate::Admission;
+use sheet::Sizes;
+use sheet_questions::SheetCheck;
+use sheet_questions::check_sheet;
+
+// "6. Have the marks and the closure's stack at least L entries each?"
+fn closure_room(sizes: Sizes, marks: usize, stack: usize) -> Admission
+    ensures { λ r. ⌜ r ≡ admittedIf (leb (sizes .«local_slots») marks && leb (sizes .«local_slots») stack) sizes ⌝ }
+{
+    if marks < sizes.local_slots {
+        return Admission::Refused { number: 6 };
+    }
+    if stack < sizes.local_slots {
+        return Admission::Refused { number: 6 };
+    }
+    Admission::Admitted { sizes }
+}
+
+// The sheet's sizes, or the number of the first of the questions 1 to 6 that refuses.
+pub fn admit(sheet: &[u8], marks: usize, stack: usize) -> Admission
+    ensures { λ r. ⌜ r ≡ admission (now (sheet .entry)) marks stack ⌝ }
+{
+    let checked = check_sheet(sheet);
+    match checked {
+        SheetCheck::Refused { number } => Admission::Refused { number },
+        SheetCheck::Accepted { sizes } => closure_room(sizes, marks, stack),
+    }
+}

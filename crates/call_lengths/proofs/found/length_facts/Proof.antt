@@ -1,0 +1,79 @@
+-- `call_lengths::length_facts` meets its contract, by the law of its loop. Assumes nothing.
+use Prim.Native.Nat.{_-_}
+use native.Mathlib.Omega.{arith}
+use Rattle.sheet.proofs.Counted.{counted}
+use Rattle.call_lengths.proofs.Stored.{small-fact, Stored, stored-none, stored-more, stored-all, lengths-read}
+use Rattle.fact_row.proofs.Facts.{value-of}
+use Rattle.call_lengths.proofs.found.length_facts.Statement.{statement}
+use Rattle.call_lengths.proofs.found.length_facts.Tie as tie
+
+abbrev Inv-loop : tie.InvT-loop
+Inv-loop sheet sizes slots present kinds values out-kinds₀ out-values₀ n pc₀ out-kinds out-values pc =
+    Stored sheet slots present kinds values n out-kinds₀ out-values₀ out-kinds out-values pc
+
+abbrev μ-loop : tie.MeasureT-loop
+μ-loop sheet sizes slots present kinds values out-kinds₀ out-values₀ n pc₀ out-kinds out-values pc =
+    n - pc
+
+loop-holds : tie.Need-loop-holds Inv-loop μ-loop
+loop-holds c =
+    stored-none _ _ _ _ _ _ _ _ (c .before .before .before .before .before .before .before .pre .1 .1) (c .before .before .before .before .before .before .before .pre .1 .2)
+
+length-fact-requires : tie.Need-length-fact-requires Inv-loop μ-loop
+length-fact-requires c κs =
+    (c .before .before .before .before .before .before .before .before .before .pre .0, (c .loop-test .taken, c .before .before .before .before .before .before .before .before .before .pre .1 .0))
+
+slice-write-out-kinds : tie.Need-slice-write-out-kinds Inv-loop μ-loop
+slice-write-out-kinds c = omega arith
+
+cast-out-values : tie.Need-cast-out-values Inv-loop μ-loop
+cast-out-values c =
+    let asked = c .before .before .before .before .before .before .before .before .before .before .before .pre in
+    let rows = asked .0 .1 .0 in
+    omega (arith, value-of _ (c .before .length-fact .ensures rows (asked .0 .1 .1)), small-fact (c .before .before .before .before .before .before .before .before .before .before .before .args .sheet .now) (c .before .before .before .before .before .before .before .before .before .before .before .args .slots .now) rows (c .before .before .before .loop .pc))
+
+mul-out-values : tie.Need-mul-out-values Inv-loop μ-loop
+mul-out-values c = omega arith
+
+slice-write-out-values : tie.Need-slice-write-out-values Inv-loop μ-loop
+slice-write-out-values c = omega arith
+
+add-pc : tie.Need-add-pc Inv-loop μ-loop
+add-pc c = omega arith
+
+loop-less : tie.Need-loop-less Inv-loop μ-loop
+loop-less c = omega arith
+
+loop-again : tie.Need-loop-again Inv-loop μ-loop
+loop-again c = stored-more _ _ _ _ _ _ _ _ (c .before .before .before .loop .inv) (c .before .before .loop-test .taken) (c .before .length-fact .ensures)
+
+same-length : tie.Need-same-length Inv-loop μ-loop
+same-length c = c .before .loop .inv .kinds-long
+
+same-length-2 : tie.Need-same-length-2 Inv-loop μ-loop
+same-length-2 c = c .before .loop .inv .values-long
+
+returns : tie.Need-returns Inv-loop μ-loop
+returns c =
+    let n = counted (c .before .before .before .before .before .before .before .before .before .pre .0 .0 .are) .code-count in
+    let all = stored-all _ _ _ _ _ _ _ _ (c .before .loop .inv) (c .loop-test .left) n in
+    (all, λ constants same e pc l o. lengths-read _ constants same _ _ (omega arith) (omega arith) (all (constants .rows) e .0) (all (constants .rows) e .1) pc l o)
+
+pub length-facts-spec : {M : Type 1} → statement M
+length-facts-spec =
+    tie.close
+    (tie.spec
+    Inv-loop
+    μ-loop
+    loop-holds
+    length-fact-requires
+    slice-write-out-kinds
+    cast-out-values
+    mul-out-values
+    slice-write-out-values
+    add-pc
+    loop-less
+    loop-again
+    same-length
+    same-length-2
+    returns)

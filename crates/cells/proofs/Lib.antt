@@ -1,2 +1,0 @@
--- What the tests of a row and its cell show
-pub mod Rows

@@ -1,0 +1,46 @@
+-- `check_corner_cases::question_of` meets its contract: each field at its place.
+-- Assumes nothing.
+use Rattle.check_corner_cases.specs.Heads.{questionOf}
+use borrow.Author.Needs.{needs}
+use Rattle.check_corner_cases.proofs.question_of.Statement.{statement}
+use Rattle.check_corner_cases.proofs.question_of.Tie as tie
+
+byte-at-requires : tie.Need-byte-at-requires
+byte-at-requires c κs = search needs
+
+u16-at-requires : tie.Need-u16-at-requires
+u16-at-requires c κs = search needs
+
+cast-t8 : tie.Need-cast-t8
+cast-t8 c = search needs
+
+u16-at-requires-2 : tie.Need-u16-at-requires-2
+u16-at-requires-2 c κs = search needs
+
+byte-at-requires-2 : tie.Need-byte-at-requires-2
+byte-at-requires-2 c κs = search needs
+
+u64-at-requires : tie.Need-u64-at-requires
+u64-at-requires c κs = search needs
+
+returns : tie.Need-returns
+unfolding questionOf
+returns c =
+    let u64-at = c in
+    let byte-at2 = u64-at .before .before in
+    let u16-at2 = byte-at2 .before .before in
+    let u16-at = u16-at2 .before .before in
+    let byte-at = u16-at .before .before in
+    rw (byte-at .byte-at .ensures, u16-at .u16-at .ensures, u16-at2 .u16-at2 .ensures, byte-at2 .byte-at2 .ensures, u64-at .u64-at .ensures)
+
+pub question-of-spec : {M : Type 1} → statement M
+question-of-spec =
+    tie.close
+    (tie.spec
+    byte-at-requires
+    u16-at-requires
+    cast-t8
+    u16-at-requires-2
+    byte-at-requires-2
+    u64-at-requires
+    returns)

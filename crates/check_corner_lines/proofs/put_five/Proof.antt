@@ -1,0 +1,47 @@
+-- `check_corner_lines::put_five` meets its contract: one number behind the other.
+-- Assumes nothing.
+use Rattle.text_words.proofs.Writing.{then}
+use Rattle.check_corner_lines.specs.Lines.{five}
+use borrow.Author.Needs.{needs}
+use Rattle.check_corner_lines.proofs.put_five.Statement.{statement}
+use Rattle.check_corner_lines.proofs.put_five.Tie as tie
+
+put-spaced-requires : tie.Need-put-spaced-requires
+put-spaced-requires c κs = search needs
+
+put-spaced-requires-2 : tie.Need-put-spaced-requires-2
+put-spaced-requires-2 c κs = search needs
+
+put-spaced-requires-3 : tie.Need-put-spaced-requires-3
+put-spaced-requires-3 c κs = search needs
+
+put-spaced-requires-4 : tie.Need-put-spaced-requires-4
+put-spaced-requires-4 c κs = search needs
+
+put-spaced-requires-5 : tie.Need-put-spaced-requires-5
+put-spaced-requires-5 c κs = search needs
+
+same-length : tie.Need-same-length
+same-length c = search needs
+
+returns : tie.Need-returns
+unfolding five
+returns c =
+    let put-spaced5 = c .before .before in
+    let put-spaced4 = put-spaced5 .before .before .before .before in
+    let put-spaced3 = put-spaced4 .before .before .before .before in
+    let put-spaced2 = put-spaced3 .before .before .before .before in
+    let put-spaced = put-spaced2 .before .before .before .before in
+    then (then (then (then (put-spaced .put-spaced .ensures) (put-spaced2 .put-spaced2 .ensures)) (put-spaced3 .put-spaced3 .ensures)) (put-spaced4 .put-spaced4 .ensures)) (put-spaced5 .put-spaced5 .ensures)
+
+pub put-five-spec : {M : Type 1} → statement M
+put-five-spec =
+    tie.close
+    (tie.spec
+    put-spaced-requires
+    put-spaced-requires-2
+    put-spaced-requires-3
+    put-spaced-requires-4
+    put-spaced-requires-5
+    same-length
+    returns)

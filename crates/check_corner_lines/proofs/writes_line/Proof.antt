@@ -1,0 +1,47 @@
+-- `check_corner_lines::writes_line` meets its contract: one part behind the other.
+-- Assumes nothing.
+use Rattle.model.specs.Listing.{ascii}
+use Rattle.text_words.proofs.Writing.{then}
+use Rattle.check_corner_lines.specs.Lines.{writesLine}
+use borrow.Author.Needs.{needs}
+use Rattle.check_corner_lines.proofs.writes_line.Statement.{statement}
+use Rattle.check_corner_lines.proofs.writes_line.Tie as tie
+
+slice-aggregate-put : tie.Need-slice-aggregate-put
+slice-aggregate-put c = search needs
+
+put-requires : tie.Need-put-requires
+put-requires c κs = search needs
+
+put-spaced-requires : tie.Need-put-spaced-requires
+put-spaced-requires c κs = search needs
+
+put-spaced-requires-2 : tie.Need-put-spaced-requires-2
+put-spaced-requires-2 c κs = search needs
+
+put-answer-requires : tie.Need-put-answer-requires
+put-answer-requires c κs = search needs
+
+same-length : tie.Need-same-length
+same-length c = search needs
+
+returns : tie.Need-returns
+unfolding ascii writesLine
+returns c =
+    let put-answer = c .before .before in
+    let put-spaced2 = put-answer .before .before .before .before in
+    let put-spaced = put-spaced2 .before .before .before .before in
+    let put = put-spaced .before .before .before .before in
+    then (then (then (put .put .ensures) (put-spaced .put-spaced .ensures)) (put-spaced2 .put-spaced2 .ensures)) (put-answer .put-answer .ensures)
+
+pub writes-line-spec : {M : Type 1} → statement M
+writes-line-spec =
+    tie.close
+    (tie.spec
+    slice-aggregate-put
+    put-requires
+    put-spaced-requires
+    put-spaced-requires-2
+    put-answer-requires
+    same-length
+    returns)

@@ -1,0 +1,14 @@
+-- `check_input::so_far` meets its contract. Assumes nothing.
+use mathlib.Core.Path.{refl}
+use native.Mathlib.Omega.{arith}
+use Rattle.check_input.proofs.so_far.Statement.{statement}
+use Rattle.check_input.proofs.so_far.Tie as tie
+
+add-t3 : tie.Need-add-t3
+add-t3 c = omega arith
+
+returns : tie.Need-returns
+returns c = refl
+
+pub so-far-spec : {M : Type 1} → statement M
+so-far-spec = tie.close (tie.spec add-t3 returns)

@@ -1,0 +1,5 @@
+-- The edges of an instruction, by the definitions of `model`.
+pub mod Rows
+-- The edges found by their destination: what the tables of chains hold, and what a chain tells.
+pub mod Links
+pub mod Chain

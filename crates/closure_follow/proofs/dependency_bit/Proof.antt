@@ -1,0 +1,31 @@
+-- `closure_follow::dependency_bit` meets its contract.
+-- Assumes nothing.
+use Rattle.model.specs.Dependencies.{dependencyBit}
+use borrow.Author.Needs.{needs}
+use Rattle.closure_follow.proofs.dependency_bit.Statement.{statement}
+use Rattle.closure_follow.proofs.dependency_bit.Tie as tie
+
+enum-told : tie.Need-enum-told
+enum-told c = search needs
+
+enum-told-2 : tie.Need-enum-told-2
+enum-told-2 c = search needs
+
+enum-told-3 : tie.Need-enum-told-3
+enum-told-3 c = search needs
+
+returns : tie.Need-returns
+unfolding dependencyBit
+returns c = rw (c .enum-told .given .1)
+
+returns-2 : tie.Need-returns-2
+unfolding dependencyBit
+returns-2 c = rw (c .enum-told2 .given .1)
+
+returns-3 : tie.Need-returns-3
+unfolding dependencyBit
+returns-3 c = rw (c .enum-told3 .given .1)
+
+pub dependency-bit-spec : {M : Type 1} → statement M
+dependency-bit-spec =
+    tie.close (tie.spec enum-told enum-told-2 enum-told-3 returns returns-2 returns-3)

@@ -1,0 +1,78 @@
+-- `closure_follow::follow_instruction` meets its contract.
+-- Assumes nothing.
+use native.Mathlib.Omega.{arith}
+use Rattle.closure_follow.proofs.Following.{outside-reach, followed-nothing, followed-none, followed-some}
+use borrow.Author.Needs.{needs}
+use Rattle.closure_follow.proofs.follow_instruction.Statement.{statement}
+use Rattle.closure_follow.proofs.follow_instruction.Tie as tie
+
+cast-a : tie.Need-cast-a
+cast-a c = search needs
+
+reach-requires : tie.Need-reach-requires
+reach-requires c κs = search needs
+
+wrapping-sub-usize-requires : tie.Need-wrapping-sub-usize-requires
+wrapping-sub-usize-requires c κs = search needs
+
+returns : tie.Need-returns
+returns c =
+    let start = c .before .before .before .before .before .before in (
+      omega arith,
+      followed-nothing _
+          (outside-reach (start .args .inst) (c .before .before .reach .ensures .1) _ _ (c .before .wrapping-sub-usize .ensures) (omega arith) (omega arith) (c .if1 .taken)),
+    )
+
+edges-to-requires : tie.Need-edges-to-requires
+edges-to-requires c κs = search needs
+
+cast-count : tie.Need-cast-count
+cast-count c = search needs
+
+add-count : tie.Need-add-count
+add-count c = search needs
+
+returns-2 : tie.Need-returns-2
+returns-2 c =
+    let edges-to = c .before .before .before .before .before in
+    let start = edges-to .before .before .before .before .before .before .before in (
+      omega arith,
+      followed-none _ _ (edges-to .edges-to .result) (edges-to .edges-to .ensures .0) (edges-to .edges-to .ensures .1) (start .args .from) (c .if2 .taken),
+    )
+
+mark-slots-requires : tie.Need-mark-slots-requires
+mark-slots-requires c κs = search needs
+
+same-length : tie.Need-same-length
+same-length c = search needs
+
+same-length-2 : tie.Need-same-length-2
+same-length-2 c = search needs
+
+returns-3 : tie.Need-returns-3
+returns-3 c = (
+  omega arith,
+  let mark-slots = c .before .before .before .before in
+      let else2 = mark-slots .before .before .before in
+      let edges-to = else2 .before .before .before .before .before in
+      let start = edges-to .before .before .before .before .before .before .before in
+      followed-some _ _ (edges-to .edges-to .result) (edges-to .edges-to .ensures .0) (edges-to .edges-to .ensures .1) (start .args .from) (else2 .if2 .left)
+      (mark-slots .mark-slots .ensures),
+)
+
+pub follow-instruction-spec : {M : Type 1} → statement M
+follow-instruction-spec =
+    tie.close
+    (tie.spec
+    cast-a
+    reach-requires
+    wrapping-sub-usize-requires
+    returns
+    edges-to-requires
+    cast-count
+    add-count
+    returns-2
+    mark-slots-requires
+    same-length
+    same-length-2
+    returns-3)

@@ -1,2 +1,0 @@
--- The edges of an instruction, by the definitions of `model`.
-pub mod Rows

@@ -1,2 +1,0 @@
--- The loop of the closure
-pub mod Expanding

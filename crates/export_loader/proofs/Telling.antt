@@ -1,0 +1,185 @@
+-- What a loader is told, by each way out of the functions.
+-- Assumes nothing.
+use mathlib.Core.Path.{_≡_, refl, sym, ap, _∙_}
+use mathlib.Core.Bool.{Bool, true, false}
+use mathlib.Core.List.{List, [], _∷_}
+use mathlib.Core.Option.{Option, none, some}
+use Prim.Native.Nat.{ℕ, zero, _*_, _≤_, _<_}
+use native.Mathlib.Nat.{mul-le-mul}
+use native.Mathlib.Omega.{arith}
+use lib.Dec.{leb, ltb}
+use lib.ListN.{length, set}
+use borrow.Author.Tests.{le-leb, lt-leb, leb-true, lt-ltb, le-ltb}
+use Rattle.model.specs.Sheet.{codeCount, localSlots, layoutCount, sheetRefusal}
+use Rattle.model.specs.Charges.{overBudget, noRoom, Spent, ok, stop, unfinished}
+use Rattle.model.specs.Closure.{trackedSlots}
+use Rattle.model.specs.Call.{zeros}
+use Rattle.model.specs.Listing.{lowest}
+use Rattle.model.specs.declared.VerifierResources.{VerifierResources}
+use Rattle.model.specs.declared.AnalysisKind.{AnalysisKind}
+use Rattle.model.specs.declared.AnalysisKind.the-variants.{Constant, IndexCheck, Container}
+use Rattle.model.proofs.Tests.{both-left, both-right}
+use Rattle.sheet.specs.Sizes.{sizesOf}
+use Rattle.sheet.specs.Measured.{Measured, Accepted}
+use Rattle.sheet.specs.declared.Sizes.{Sizes}
+use Rattle.sheet.proofs.Counted.{counted}
+use Rattle.sheet.proofs.Limited.{limited}
+use Rattle.sheet_questions.specs.Check.{checkOf, sheetCheck}
+use Rattle.sheet_questions.specs.declared.SheetCheck.{SheetCheck}
+use Rattle.sheet_questions.specs.declared.SheetCheck.the-variants as Q
+use Rattle.call_admission.specs.Admitted.{admittedIf, admissionOf, admission}
+use Rattle.call_admission.specs.declared.Admission.{Admission}
+use Rattle.call_admission.specs.declared.Admission.the-variants as A
+use Rattle.closure.specs.Closed.{Ended, closedTo, closedOf}
+use Rattle.closure.specs.declared.Closed.{Closed}
+use Rattle.closure.specs.declared.Closed.the-variants.{Tracked, Refused}
+use Rattle.finality.proofs.Lengths.{zeros-length, zeros-same}
+use Rattle.model.specs.Interface.{looked, inFront}
+use Rattle.model.specs.Room.{closureSlots, room, roomNumbers, roomIf, roomAfterFive, roomOf, lowestIf, lowestAfterFive, lowestOf}
+use Rattle.export_loader.proofs.Free.{slots-same, slots-given}
+
+-- ---- the s of one analysis
+
+first-part : {a b : Closed} {x y : List ℕ} → closedTo a x ≡ closedTo b y → a ≡ b
+first-part {a} {b} {x} {y} e =
+    let p : _≡_ {A = Ended} (record { answer = a; slots = x }) (record { answer = b; slots = y }) = cc in ap (λ (r : Ended). r .answer) p
+
+module _ (which : AnalysisKind) (sheet : List ℕ) (budget : VerifierResources) (old : List ℕ) {closed : Closed} {slots : List ℕ}
+    (e : closedTo closed slots ≡ closedOf old (trackedSlots which sheet budget)) where
+  -- whatever the budget
+  pub counted-slots : {s : ℕ} {left : VerifierResources} → closed ≡ Tracked s left → s ≡ length (closureSlots which sheet)
+  counted-slots {s} c = go (trackedSlots which sheet budget) refl e
+    where
+      go : (r : Spent (List ℕ)) → trackedSlots which sheet budget ≡ r → closedTo closed slots ≡ closedOf old r → s ≡ length (closureSlots which sheet)
+      go (ok found rest) h p = unfold closedOf in (
+          let a = first-part p in
+          let q : s ≡ length found = cc in
+          q ∙ ap length (slots-same which sheet budget found rest h))
+      go (stop (overBudget stage requested remaining) rest) h p = unfold closedOf in (let a = first-part p in let z : _≡_ {A = ℕ} 0 1 = cc in absurd (omega arith))
+      go (stop noRoom rest) h p = unfold closedOf in (let z : _≡_ {A = ℕ} 0 1 = cc in absurd (omega arith))
+      go unfinished h p = unfold closedOf in (let z : _≡_ {A = ℕ} 0 1 = cc in absurd (omega arith))
+
+  -- from enough: 3 bytes for each of 65,535 slots, and the work of 2 edges for each of them and each of 4,096 instructions
+  pub not-refused : {sizes : Sizes} → Measured sheet sizes → 196605 ≤ budget .bytes → 536862720 ≤ budget .work
+      → {requested remaining : ℕ} {left : VerifierResources} → closed ≡ Refused requested remaining left → ⊥
+  unfolding closedOf
+  not-refused m bytes work c =
+      let n = counted (m .are) in
+      let l = limited m in
+      let p : localSlots sheet ≤ 65535 = omega (arith, n .local-slots, l .local-slots) in
+      let q : 2 * codeCount sheet ≤ 8192 = omega (arith, n .code-count, l .code-count) in
+      let g = slots-given which sheet budget (omega arith) (omega (arith, mul-le-mul p q)) in
+      let a : closed ≡ Tracked (length (closureSlots which sheet)) (g .left) = first-part (e ∙ ap (closedOf old) (g .is)) in
+      let z : _≡_ {A = ℕ} 0 1 = cc in omega arith
+
+-- marks or a stack that are as they were: zero, and as long
+module _ {old new : List ℕ} (e : new ≡ old) where
+  pub still-zero : old ≡ zeros old → new ≡ zeros new
+  still-zero h = e ∙ h ∙ ap zeros (sym e)
+
+  pub still-long : {l : ℕ} → l ≤ length old → l ≤ length new
+  still-long h = rw e h
+
+-- marks or a stack that were cleared
+module _ (old : List ℕ) {new : List ℕ} (e : new ≡ zeros old) where
+  pub cleared-zero : new ≡ zeros new
+  cleared-zero = e ∙ zeros-same old new (sym (ap length e ∙ zeros-length old))
+
+  pub cleared-long : {l : ℕ} → l ≤ length old → l ≤ length new
+  cleared-long h = omega (arith, ap length e, zeros-length old)
+
+-- ---- the four numbers
+
+pub four-told : (sheet : List ℕ) {n c i k : ℕ} → n ≡ codeCount sheet → c ≡ length (closureSlots Constant sheet) → i ≡ length (closureSlots IndexCheck sheet)
+    → k ≡ length (closureSlots Container sheet) → (out : List ℕ) → inFront (n ∷ c ∷ i ∷ k ∷ []) out ≡ inFront (roomNumbers sheet) out
+unfolding roomNumbers
+four-told sheet pn pc pi pk out = rw (pn, pc, pi, pk) refl
+
+-- ---- the questions
+
+module _ (sheet marks stack out : List ℕ) where
+  pub out-too-short : length out < 4 → room 255 marks stack out ≡ roomOf (leb 4 (length out)) sheet marks stack out
+  unfolding roomOf
+  out-too-short h = rw (lt-leb 4 (length out) h) refl
+
+  module _ (long : 4 ≤ length out) {given : Admission} (e : given ≡ admission sheet (length marks) (length stack)) where
+    pub turned-away : {number : ℕ} → given ≡ A.Refused number → room number marks stack out ≡ roomOf (leb 4 (length out)) sheet marks stack out
+    unfolding roomOf admission
+    turned-away {number} c = rw (le-leb 4 (length out) long) (go (sheetRefusal sheet) (sym c ∙ e))
+      where
+        six : (b : Bool) → A.Refused number ≡ admittedIf b (sizesOf sheet) → room number marks stack out ≡ roomIf b sheet marks stack out
+        six true p = unfold admittedIf in (let z : _≡_ {A = ℕ} 0 1 = cc in absurd (omega arith))
+        six false p = unfold admittedIf roomIf in (let q : number ≡ 6 = cc in ap (λ (k : ℕ). room k marks stack out) q)
+
+        go : (r : Option ℕ) → A.Refused number ≡ admissionOf r sheet (length marks) (length stack) → room number marks stack out ≡ roomAfterFive r sheet marks stack out
+        go none p = unfold admissionOf roomAfterFive in (six _ p)
+        go (some n) p = unfold admissionOf roomAfterFive in (let q : number ≡ n = cc in ap (λ (k : ℕ). room k marks stack out) q)
+
+    -- what the closures begin with
+    pub taken-in : {sizes : Sizes} → given ≡ A.Admitted sizes → Accepted sheet sizes × (localSlots sheet ≤ length marks) × (localSlots sheet ≤ length stack)
+    unfolding admission
+    taken-in {sizes} c = go (sheetRefusal sheet) refl (sym c ∙ e)
+      where
+        six : (b : Bool) → A.Admitted sizes ≡ admittedIf b (sizesOf sheet) → (sizes ≡ sizesOf sheet) × (b ≡ true)
+        six true p = unfold admittedIf in (let q : sizes ≡ sizesOf sheet = cc in (q, refl))
+        six false p = unfold admittedIf in (let z : _≡_ {A = ℕ} 0 1 = cc in absurd (omega arith))
+
+        go : (r : Option ℕ) → sheetRefusal sheet ≡ r → A.Admitted sizes ≡ admissionOf r sheet (length marks) (length stack)
+            → Accepted sheet sizes × (localSlots sheet ≤ length marks) × (localSlots sheet ≤ length stack)
+        go none h p = unfold admissionOf in (
+            let s = six _ p in (
+              record { are = s .0; accepted = h },
+              leb-true _ _ (both-left (leb (localSlots sheet) (length marks)) _ (s .1)),
+              leb-true _ _ (both-right (leb (localSlots sheet) (length marks)) _ (s .1)),
+            ))
+        go (some n) h p = unfold admissionOf in (let z : _≡_ {A = ℕ} 0 1 = cc in absurd (omega arith))
+
+    -- all four told
+    pub told : {sizes : Sizes} {marks′ stack′ out′ : List ℕ} → given ≡ A.Admitted sizes → marks′ ≡ zeros marks → stack′ ≡ zeros stack → out′ ≡ inFront (roomNumbers sheet) out
+        → room 0 marks′ stack′ out′ ≡ roomOf (leb 4 (length out)) sheet marks stack out
+    unfolding roomOf roomAfterFive roomIf
+    told c p q o =
+        let t = taken-in c in
+        rw (le-leb 4 (length out) long, t .0 .accepted, le-leb _ _ (t .1), le-leb _ _ (t .2), p, q, o) refl
+
+-- ---- the lowest layout
+
+module _ (sheet : List ℕ) (layout : ℕ) (out : List ℕ) where
+  pub no-layout : layoutCount sheet ≤ layout → looked 254 out ≡ lowestIf (ltb layout (layoutCount sheet)) sheet layout out
+  unfolding lowestIf
+  no-layout h = rw (le-ltb layout (layoutCount sheet) h) refl
+
+  pub put-one : {low : ℕ} → layout < layoutCount sheet → 1 ≤ length out → low ≡ lowest sheet layout
+      → looked 0 (set out 0 low) ≡ lowestIf (ltb layout (layoutCount sheet)) sheet layout out
+  unfolding lowestIf
+  put-one {low} h k e = rw (lt-ltb layout (layoutCount sheet) h, e) (ap (looked 0) (go out k))
+    where
+      go : (old : List ℕ) → 1 ≤ length old → set old 0 (lowest sheet layout) ≡ inFront (lowest sheet layout ∷ []) old
+      go [] z = absurd (omega arith)
+      go (x ∷ xs) z = unfold inFront in refl
+
+  pub no-entry : length out < 1 → looked 255 out ≡ lowestOf (leb 1 (length out)) sheet layout out
+  unfolding lowestOf
+  no-entry h = rw (lt-leb 1 (length out) h) refl
+
+  module _ (long : 1 ≤ length out) {checked : SheetCheck} (e : checked ≡ sheetCheck sheet) where
+    pub sheet-refused : {number : ℕ} → checked ≡ Q.Refused number → looked number out ≡ lowestOf (leb 1 (length out)) sheet layout out
+    unfolding lowestOf sheetCheck
+    sheet-refused {number} c = rw (le-leb 1 (length out) long) (go (sheetRefusal sheet) (sym c ∙ e))
+      where
+        go : (r : Option ℕ) → Q.Refused number ≡ checkOf (sizesOf sheet) r → looked number out ≡ lowestAfterFive r sheet layout out
+        go none p = unfold checkOf in (let z : _≡_ {A = ℕ} 0 1 = cc in absurd (omega arith))
+        go (some n) p = unfold checkOf lowestAfterFive in (let q : number ≡ n = cc in ap (λ (k : ℕ). looked k out) q)
+
+    pub accepted : {sizes : Sizes} → checked ≡ Q.Accepted sizes → Accepted sheet sizes
+    unfolding sheetCheck
+    accepted {sizes} c = go (sheetRefusal sheet) refl (sym c ∙ e)
+      where
+        go : (r : Option ℕ) → sheetRefusal sheet ≡ r → Q.Accepted sizes ≡ checkOf (sizesOf sheet) r → Accepted sheet sizes
+        go none h p = unfold checkOf in (record { are = cc; accepted = h })
+        go (some n) h p = unfold checkOf in (let z : _≡_ {A = ℕ} 0 1 = cc in absurd (omega arith))
+
+    pub searched : {sizes : Sizes} {returned : ℕ} {out′ : List ℕ} → checked ≡ Q.Accepted sizes
+        → looked returned out′ ≡ lowestIf (ltb layout (layoutCount sheet)) sheet layout out → looked returned out′ ≡ lowestOf (leb 1 (length out)) sheet layout out
+    unfolding lowestOf lowestAfterFive
+    searched c p = rw (le-leb 1 (length out) long, accepted c .accepted) p

@@ -1,2 +1,0 @@
--- What a cell is where a test holds, by the definitions of `model`.
-pub mod Target

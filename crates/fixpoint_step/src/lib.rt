@@ -1,0 +1,66 @@
+// One step of a run, from the entry that was taken: "A copy of that instruction's row goes through its transfer. Then each successor in order".
+ghost use Rattle.fixpoint_step.specs.Stepped.{Stepping, Step, Copied};
+use fixpoint_visit::offer_successors;
+use model::AnalysisKind;
+use model::FactCell;
+use sheet::Sizes;
+use transfer::transfer_row;
+
+// "A copy of that instruction's row goes through its transfer. Then each successor in order": p is the entry taken, the row scratch holds
+// the copy. The list's new top.
+pub fn step(
+    which: AnalysisKind,
+    sheet: &[u8],
+    sizes: Sizes,
+    firsts: &[u16],
+    starts: &[u16],
+    slots: &[u16],
+    length_kinds: &[u8],
+    length_values: &[u16],
+    p: usize,
+    top: usize,
+    present: &mut [u8],
+    kinds: &mut [u8],
+    values: &mut [u64],
+    row_kinds: &mut [u8],
+    row_values: &mut [u64],
+    list: &mut [u16],
+) -> usize
+    requires { ⌜ Stepping which (now sheet) sizes (now firsts) (now starts) (now slots) (now «length_kinds») (now «length_values») p top (now present) (now kinds) (now values) (now «row_kinds») (now «row_values») (now list) ⌝ }
+    ensures { λ r. ⌜ Step which (now (sheet .entry)) (now (slots .entry)) (now («length_kinds» .entry)) (now («length_values» .entry)) p (now (present .entry)) (now (kinds .entry)) (now (values .entry)) (now (list .entry)) top (now (present .exit)) (now (kinds .exit)) (now (values .exit)) (now (list .exit)) r × Copied which (now (sheet .entry)) (now (slots .entry)) (now («length_kinds» .entry)) (now («length_values» .entry)) p (now (present .entry)) (now (kinds .entry)) (now (values .entry)) (now («row_kinds» .exit)) (now («row_values» .exit)) ⌝ }
+{
+    let s = slots.len();
+    let at = p * s;
+    let end = at + s;
+    let fact = FactCell {
+        kind: length_kinds[p],
+        value: length_values[p] as u64,
+    };
+    transfer_row(
+        which,
+        sheet,
+        sizes,
+        firsts,
+        slots,
+        p,
+        fact,
+        &kinds[at..end],
+        &values[at..end],
+        row_kinds,
+        row_values,
+    );
+    offer_successors(
+        which,
+        sheet,
+        sizes,
+        starts,
+        p,
+        top,
+        row_kinds,
+        row_values,
+        present,
+        kinds,
+        values,
+        list,
+    )
+}

@@ -1,3 +1,0 @@
--- The edges found by their destination: what the tables of chains hold, and what a chain tells.
-pub mod Links
-pub mod Chain

@@ -1,0 +1,21 @@
+-- `join::containers::merge_container_fact` meets its contract: the answer is handed what the rule says of the two cells.
+-- Assumes nothing.
+use mathlib.Core.Path.{_∙_}
+use denote.Ref.{now}
+use borrow.Author.Needs.{needs}
+use Rattle.model.specs.Fact.{equalContainers}
+use Rattle.join.proofs.Cells.{merged-by, containers-shift}
+use Rattle.join.proofs.containers.merge_container_fact.Statement.{statement}
+use Rattle.join.proofs.containers.merge_container_fact.Tie as tie
+
+equal-containers-requires : tie.Need-equal-containers-requires
+equal-containers-requires c κs = search needs
+
+merge-fact-requires : tie.Need-merge-fact-requires
+merge-fact-requires c κs = search needs
+
+returns : tie.Need-returns
+returns c = c .merge-fact .ensures ∙ merged-by (equalContainers (now (c .before .before .before .before .args .sheet))) (containers-shift (now (c .before .before .before .before .args .sheet))) _ _ _ (c .before .equal-containers .ensures)
+
+pub merge-container-fact-spec : {M : Type 1} → statement M
+merge-container-fact-spec = tie.close (tie.spec equal-containers-requires merge-fact-requires returns)

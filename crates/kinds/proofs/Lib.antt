@@ -1,2 +1,0 @@
--- Passes over all entries
-pub mod Every

@@ -1,0 +1,70 @@
+-- `lookup_tables::question::ascending` meets its contract. Assumes nothing.
+use mathlib.Core.Path.{sym}
+use Prim.Native.Nat.{_-_, _≤_}
+use lib.ListN.{length}
+use Rattle.lookup_tables.proofs.Ascending.{Rising, rising-all, rising-more, falling}
+use native.Mathlib.Omega.{arith}
+use denote.Ref.{now}
+use Rattle.lookup_tables.proofs.question.ascending.Statement.{statement}
+use Rattle.lookup_tables.proofs.question.ascending.Tie as tie
+
+abbrev Inv-loop : tie.InvT-loop
+Inv-loop slots i₀ i = (1 ≤ i) × Rising slots i
+
+abbrev μ-loop : tie.MeasureT-loop
+μ-loop slots i₀ i = length slots - i
+
+loop-holds : tie.Need-loop-holds Inv-loop μ-loop
+loop-holds c = (omega arith, λ k l. omega arith)
+
+mul-if1 : tie.Need-mul-if1 Inv-loop μ-loop
+mul-if1 c = omega arith
+
+shared-slice-read-if1 : tie.Need-shared-slice-read-if1 Inv-loop μ-loop
+shared-slice-read-if1 c = omega arith
+
+sub-if1 : tie.Need-sub-if1 Inv-loop μ-loop
+sub-if1 c = omega arith
+
+mul-if1-2 : tie.Need-mul-if1-2 Inv-loop μ-loop
+mul-if1-2 c = omega arith
+
+shared-slice-read-if1-2 : tie.Need-shared-slice-read-if1-2 Inv-loop μ-loop
+shared-slice-read-if1-2 c = omega arith
+
+returns : tie.Need-returns Inv-loop μ-loop
+returns c =
+    let l = c .before .before .before .before .loop in
+    falling (now (c .before .before .before .before .before .args .slots)) (l .i) (l .inv .0) (c .before .before .before .loop-test .taken) (c .if1 .taken)
+
+add-i : tie.Need-add-i Inv-loop μ-loop
+add-i c = omega arith
+
+loop-less : tie.Need-loop-less Inv-loop μ-loop
+loop-less c = omega arith
+
+loop-again : tie.Need-loop-again Inv-loop μ-loop
+loop-again c =
+    let l = c .before .before .before .before .loop in
+    (omega arith, rising-more (now (c .before .before .before .before .before .args .slots)) (l .i) (l .inv .0) (l .inv .1) (c .if1 .left))
+
+returns-2 : tie.Need-returns-2 Inv-loop μ-loop
+returns-2 c = sym (rising-all (now (c .before .before .args .slots)) (λ k l. c .before .loop .inv .1 k (omega arith)))
+
+pub ascending-spec : {M : Type 1} → statement M
+ascending-spec =
+    tie.close
+    (tie.spec
+    Inv-loop
+    μ-loop
+    loop-holds
+    mul-if1
+    shared-slice-read-if1
+    sub-if1
+    mul-if1-2
+    shared-slice-read-if1-2
+    returns
+    add-i
+    loop-less
+    loop-again
+    returns-2)

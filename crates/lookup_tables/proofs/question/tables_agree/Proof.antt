@@ -1,0 +1,43 @@
+-- `lookup_tables::question::tables_agree` meets its contract. Assumes nothing.
+use mathlib.Core.Path.{sym, _∙_}
+use borrow.Author.Tests.{not-true, not-false}
+use Rattle.lookup_tables.proofs.Agreement.{unordered, other-kinds, by-values}
+use borrow.Author.Needs.{needs}
+use denote.Ref.{now}
+use Rattle.lookup_tables.proofs.question.tables_agree.Statement.{statement}
+use Rattle.lookup_tables.proofs.question.tables_agree.Tie as tie
+
+ascending-requires : tie.Need-ascending-requires
+ascending-requires c κs = search needs
+
+returns : tie.Need-returns
+returns c =
+    let a = c .before .before .before .before .before .before .args in
+    unordered (now (a .slots)) (now (a .present)) (now (a .kinds)) (now (a .values)) (sym (c .before .ascending .ensures) ∙ not-true _ (c .if1 .taken))
+
+is-product-requires : tie.Need-is-product-requires
+is-product-requires c κs = search needs
+
+returns-2 : tie.Need-returns-2
+returns-2 c =
+    let a = c .before .before .before .before .before .before .before .before .args in
+    other-kinds (now (a .slots)) (now (a .present)) (now (a .kinds)) (now (a .values)) (sym (c .before .before .before .ascending .ensures) ∙ not-false _ (c .before .before .if1 .left)) (sym (c .before .is-product .ensures) ∙ not-true _ (c .if2 .taken))
+
+is-product-requires-2 : tie.Need-is-product-requires-2
+is-product-requires-2 c κs = search needs
+
+returns-3 : tie.Need-returns-3
+returns-3 c =
+    let a = c .before .before .before .before .before .before .before .before .before .args in
+    c .is-product2 .ensures ∙ by-values (now (a .slots)) (now (a .present)) (now (a .kinds)) (now (a .values)) (sym (c .before .before .before .before .ascending .ensures) ∙ not-false _ (c .before .before .before .if1 .left)) (sym (c .before .before .is-product .ensures) ∙ not-false _ (c .before .if2 .left))
+
+pub tables-agree-spec : {M : Type 1} → statement M
+tables-agree-spec =
+    tie.close
+    (tie.spec
+    ascending-requires
+    returns
+    is-product-requires
+    returns-2
+    is-product-requires-2
+    returns-3)

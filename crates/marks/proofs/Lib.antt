@@ -1,4 +1,0 @@
--- Marks and stack, as they lie in lent memory
-pub mod Marking
--- The places of the marks
-pub mod Listing

@@ -1,3 +1,0 @@
--- Marks and stack as they lie in lent memory, and the marked slots where they are written.
-pub mod Marks
-pub mod Slots

@@ -1,5 +1,0 @@
--- When a slot is in a range, and in one of several
-pub mod InRange
-pub mod Several
--- The elements of SlotSetN, by its note
-pub mod Notes

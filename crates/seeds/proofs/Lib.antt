@@ -1,2 +1,0 @@
--- The seeds of an analysis
-pub mod Seeding

@@ -1,0 +1,16 @@
+-- `sheet_bytes::byte_at` meets its contract. Assumes nothing.
+use mathlib.Core.Path.{refl}
+use Rattle.model.specs.Bytes.{byte}
+use borrow.Author.Needs.{needs}
+use Rattle.sheet_bytes.proofs.byte_at.Statement.{statement}
+use Rattle.sheet_bytes.proofs.byte_at.Tie as tie
+
+shared-slice-read-result : tie.Need-shared-slice-read-result
+shared-slice-read-result c = search needs
+
+returns : tie.Need-returns
+unfolding byte
+returns c = refl
+
+pub byte-at-spec : {M : Type 1} → statement M
+byte-at-spec = tie.close (tie.spec shared-slice-read-result returns)

@@ -1,0 +1,14 @@
+-- `sheet_fields::note_b_at` meets its contract. Assumes nothing.
+use mathlib.Core.Path.{_∙_}
+use Rattle.sheet.proofs.Inside.{note-b-inside, note-b-is}
+use Rattle.sheet_fields.proofs.instructions.note_b_at.Statement.{statement}
+use Rattle.sheet_fields.proofs.instructions.note_b_at.Tie as tie
+
+u16-in-requires : tie.Need-u16-in-requires
+u16-in-requires c κs = note-b-inside (c .before .pre .0) _ (c .before .pre .1)
+
+returns : tie.Need-returns
+returns c = c .u16-in .ensures ∙ note-b-is (c .before .before .pre .0) (c .before .before .args .pc)
+
+pub note-b-at-spec : {M : Type 1} → statement M
+note-b-at-spec = tie.close (tie.spec u16-in-requires returns)

@@ -1,0 +1,14 @@
+-- `sheet_fields::param_kind_at` meets its contract. Assumes nothing.
+use mathlib.Core.Path.{_∙_}
+use Rattle.sheet.proofs.Inside.{param-kind-inside, param-kind-is}
+use Rattle.sheet_fields.proofs.pools.param_kind_at.Statement.{statement}
+use Rattle.sheet_fields.proofs.pools.param_kind_at.Tie as tie
+
+byte-in-requires : tie.Need-byte-in-requires
+byte-in-requires c κs = param-kind-inside (c .before .pre .0) _ (c .before .pre .1)
+
+returns : tie.Need-returns
+returns c = c .byte-in .ensures ∙ param-kind-is (c .before .before .pre .0) (c .before .before .args .i)
+
+pub param-kind-at-spec : {M : Type 1} → statement M
+param-kind-at-spec = tie.close (tie.spec byte-in-requires returns)

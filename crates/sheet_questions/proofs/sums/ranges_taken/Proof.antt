@@ -1,0 +1,55 @@
+-- `sheet_questions::sums::ranges_taken` meets its contract. Assumes nothing.
+use Prim.Native.Nat.{_-_}
+use Rattle.model.specs.Sheet.{rangesOf, firstRange}
+use Rattle.sheet.proofs.Limited.{limited}
+use Rattle.sheet.proofs.Counted.{counted}
+use Rattle.sheet.proofs.Adding.{Added, added-none, added-more, added-all}
+use native.Mathlib.Omega.{arith}
+use Rattle.sheet_questions.proofs.sums.ranges_taken.Statement.{statement}
+use Rattle.sheet_questions.proofs.sums.ranges_taken.Tie as tie
+
+abbrev Inv-loop : tie.InvT-loop
+Inv-loop sheet sizes n sum₀ pc₀ sum pc = Added (rangesOf sheet) n sum pc
+
+abbrev μ-loop : tie.MeasureT-loop
+μ-loop sheet sizes n sum₀ pc₀ sum pc = n - pc
+
+loop-holds : tie.Need-loop-holds Inv-loop μ-loop
+loop-holds c = added-none _ _
+
+ranges-of-requires : tie.Need-ranges-of-requires Inv-loop μ-loop
+ranges-of-requires c κs = (c .before .before .before .pre, c .loop-test .taken)
+
+cast-sum : tie.Need-cast-sum Inv-loop μ-loop
+cast-sum c = omega arith
+
+add-sum : tie.Need-add-sum Inv-loop μ-loop
+add-sum c = let l = limited (c .before .before .before .before .pre) in omega arith
+
+add-pc : tie.Need-add-pc Inv-loop μ-loop
+add-pc c = omega arith
+
+loop-less : tie.Need-loop-less Inv-loop μ-loop
+loop-less c = omega arith
+
+loop-again : tie.Need-loop-again Inv-loop μ-loop
+loop-again c = added-more (c .before .before .loop .inv) (c .before .loop-test .taken) (c .ranges-of .ensures) (omega arith)
+
+returns : tie.Need-returns Inv-loop μ-loop
+unfolding firstRange
+returns c = added-all (c .before .loop .inv) (c .loop-test .left) (counted (c .before .before .before .pre .are) .code-count)
+
+pub ranges-taken-spec : {M : Type 1} → statement M
+ranges-taken-spec =
+    tie.close
+    (tie.spec
+    Inv-loop
+    μ-loop
+    loop-holds
+    ranges-of-requires
+    cast-sum
+    add-sum
+    add-pc
+    loop-less
+    loop-again
+    returns)

@@ -1,0 +1,17 @@
+// Question 5: is every kind byte named and every used layout number below y? Each loop is one pass without an early end, which compiles to
+// a loop over several entries at a time.
+// Questions 1 to 5 of a sheet.
+mod limits;
+mod question_5;
+mod sums;
+mod whole;
+
+pub use question_5::kinds_named;
+use sheet::Sizes;
+pub use whole::check_sheet;
+
+// What questions 1 to 5 come to: the sheet's sizes, or the number of the first that refuses it.
+pub enum SheetCheck {
+    Accepted { sizes: Sizes },
+    Refused { number: u8 },
+}

@@ -1,0 +1,58 @@
+-- `stage_entry::params::transfer_slots` meets its contract: the law of loops that add. Assumes nothing.
+use Prim.Native.Nat.{_-_}
+use Rattle.model.specs.Sheet.{paramWidth}
+use Rattle.model.specs.Parameters.{transferSlots}
+use Rattle.sheet.proofs.Limited.{limited}
+use Rattle.sheet.proofs.Counted.{counted}
+use Rattle.sheet.proofs.Adding.{Added, added-none, added-more, added-all}
+use native.Mathlib.Omega.{arith}
+use borrow.Author.Needs.{needs}
+use Rattle.stage_entry.proofs.params.transfer_slots.Statement.{statement}
+use Rattle.stage_entry.proofs.params.transfer_slots.Tie as tie
+
+abbrev Inv-loop : tie.InvT-loop
+Inv-loop sheet sizes count sum₀ i₀ sum i = Added (λ j. paramWidth sheet j) count sum i
+
+abbrev μ-loop : tie.MeasureT-loop
+μ-loop sheet sizes count sum₀ i₀ sum i = count - i
+
+loop-holds : tie.Need-loop-holds Inv-loop μ-loop
+loop-holds c = added-none _ _
+
+param-width-at-requires : tie.Need-param-width-at-requires Inv-loop μ-loop
+param-width-at-requires c κs = search needs
+
+cast-sum : tie.Need-cast-sum Inv-loop μ-loop
+cast-sum c = omega arith
+
+add-sum : tie.Need-add-sum Inv-loop μ-loop
+add-sum c = let l = limited (c .before .before .before .before .pre) in omega arith
+
+add-i : tie.Need-add-i Inv-loop μ-loop
+add-i c = omega arith
+
+loop-less : tie.Need-loop-less Inv-loop μ-loop
+loop-less c = omega arith
+
+loop-again : tie.Need-loop-again Inv-loop μ-loop
+loop-again c = added-more (c .before .before .loop .inv) (c .before .loop-test .taken) (c .param-width-at .ensures) (omega arith)
+
+returns : tie.Need-returns Inv-loop μ-loop
+unfolding transferSlots
+returns c =
+    (added-all (c .before .loop .inv) (c .loop-test .left) (counted (c .before .before .before .pre .are) .param-count), let l = limited (c .before .before .before .pre) in omega arith)
+
+pub transfer-slots-spec : {M : Type 1} → statement M
+transfer-slots-spec =
+    tie.close
+    (tie.spec
+    Inv-loop
+    μ-loop
+    loop-holds
+    param-width-at-requires
+    cast-sum
+    add-sum
+    add-i
+    loop-less
+    loop-again
+    returns)

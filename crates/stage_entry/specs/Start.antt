@@ -1,0 +1,11 @@
+-- Where the parameters begin, as `model` says it.
+-- Assumes nothing.
+use mathlib.Core.Option.{Option, none, some}
+use Prim.Native.Nat.{ℕ}
+use Rattle.stage_entry.specs.declared.params.ParamStart.{ParamStart}
+use Rattle.stage_entry.specs.declared.params.ParamStart.the-variants.{At, Nowhere}
+
+-- the start that is answered
+abbrev pub startOf : ParamStart → Option ℕ
+startOf (At slot) = some slot
+startOf Nowhere = none

@@ -1,0 +1,33 @@
+-- `with_counts` meets its contract.
+-- Assumes nothing.
+use Rattle.stage_outcome.specs.Answers.{counted}
+use borrow.Author.Needs.{needs}
+use Rattle.stage_outcome.proofs.answers.with_counts.Statement.{statement}
+use Rattle.stage_outcome.proofs.answers.with_counts.Tie as tie
+use Rattle.stage_outcome.proofs.answers.with_counts.Reads as reads
+use Rattle.stage_outcome.proofs.answers.with_counts.Lts as lts
+
+enum-told : tie.Need-enum-told
+enum-told c = search needs
+
+enum-told-2 : tie.Need-enum-told-2
+enum-told-2 c = search needs
+
+enum-told-3 : tie.Need-enum-told-3
+enum-told-3 c = search needs
+
+returns : tie.Need-returns
+unfolding counted
+returns c = rw (c .enum-told .given .1)
+
+returns-2 : tie.Need-returns-2
+unfolding counted
+returns-2 c = rw (c .enum-told2 .given .1)
+
+returns-3 : tie.Need-returns-3
+unfolding counted
+returns-3 c = rw (c .enum-told3 .given .1)
+
+pub with-counts-spec : {M : Type 1} → statement M
+with-counts-spec =
+    tie.close (tie.spec enum-told enum-told-2 enum-told-3 returns returns-2 returns-3)

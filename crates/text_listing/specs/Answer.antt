@@ -1,0 +1,47 @@
+-- What is written of a call's answer and of the tables that it left.
+-- Assumes nothing.
+use mathlib.Core.List.{List, [], _++_}
+use Prim.Native.Nat.{ℕ, _*_, _≤_}
+use lib.ListN.{length}
+use Rattle.model.specs.Sheet.{codeCount}
+use Rattle.model.specs.Call.{Table, Lent}
+use Rattle.model.specs.Listing.{leftLine, refusedLine, tooLarge}
+use Rattle.model.specs.declared.Counts.{Counts}
+use Rattle.model.specs.declared.AnalysisKind.{AnalysisKind}
+use Rattle.model.specs.declared.AnalysisKind.the-variants.{Constant, IndexCheck, Container}
+use Rattle.model.specs.declared.Answer.{Answer}
+use Rattle.model.specs.declared.Answer.the-variants.{Analyzed, Invalid, OverBudget, NoRoom}
+use Rattle.text_listing.specs.Rows.{printedAnalysis}
+
+-- a table that is at least as long as n rows of s cells
+pub record Listable (sheet : List ℕ) (c : Counts) (table : Table) : Type 0 where
+  pub slots : c .tracked ≤ length (table .slots)
+  pub present : codeCount sheet ≤ length (table .present)
+  pub kinds : codeCount sheet * c .tracked ≤ length (table .kinds)
+  pub values : codeCount sheet * c .tracked ≤ length (table .values)
+
+-- the one of an analysis, of three
+unfoldable pub choose : AnalysisKind → Counts → Counts → Counts → Counts
+choose Constant constant index container = constant
+choose IndexCheck constant index container = index
+choose Container constant index container = container
+
+-- the lines of an analysis: none of a call that was refused
+unfoldable pub answerPart : AnalysisKind → List ℕ → Answer → Table → List ℕ
+answerPart which sheet (Analyzed constant index container left) table = printedAnalysis which sheet (choose which constant index container) table
+answerPart which sheet (Invalid number left) table = []
+answerPart which sheet (OverBudget stage requested remaining left) table = []
+answerPart which sheet (NoRoom left) table = []
+
+-- the last line
+unfoldable pub lastLine : Answer → List ℕ
+lastLine (Analyzed constant index container left) = leftLine left
+lastLine (Invalid number left) = refusedLine number
+lastLine (OverBudget stage requested remaining left) = refusedLine 7
+lastLine (NoRoom left) = tooLarge
+
+-- the three analyses and the last line
+unfoldable pub answerText : List ℕ → Answer → Lent → List ℕ
+answerText sheet answer lent =
+    answerPart Constant sheet answer (lent .constants) ++ answerPart IndexCheck sheet answer (lent .index) ++ answerPart Container sheet answer (lent .containers)
+    ++ lastLine answer

@@ -1,2 +1,0 @@
--- What an instruction writes, by its opcode
-pub mod Rules
