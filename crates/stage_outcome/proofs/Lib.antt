@@ -1,2 +1,1 @@
--- The laws of this crate.
-pub mod Cleared
+-- This crate has no laws beside the proofs of its functions.

@@ -8,6 +8,9 @@ use Rattle.model.specs.declared.AnalysisKind.the-variants.{Constant, IndexCheck
 use Rattle.model.specs.declared.Counts.{Counts}
 use Rattle.model.specs.declared.Answer.{Answer}
 use Rattle.model.specs.declared.Answer.the-variants.{Analyzed, Invalid, OverBudget, NoRoom}
+use Prim.Native.Nat.{ℕ}
+use Rattle.stage_outcome.specs.declared.Run.{Run}
+use Rattle.stage_outcome.specs.Answer.{stagedOf}
 use Rattle.stage_outcome.specs.declared.Staged.{Staged}
 use Rattle.stage_outcome.specs.declared.Staged.the-variants as S
 
@@ -22,6 +25,13 @@ unfoldable pub afterStage : AnalysisKind → Staged → Counts → Counts → Co
 afterStage which (S.Done counts left) constant index container = counted which counts constant index container left
 afterStage which (S.OverBudget requested remaining left) constant index container = OverBudget (stageNumber which) requested remaining left
 afterStage which (S.NoRoom left) constant index container = NoRoom left
+
+-- the answer with how the run of s tracked slots ended; a refusal stands
+unfoldable pub afterRun : AnalysisKind → ℕ → Answer → Run → Answer
+afterRun which s (Analyzed constant index container left) ended = afterStage which (stagedOf s (left .bytes) ended) constant index container
+afterRun which s (Invalid number left) ended = Invalid number left
+afterRun which s (OverBudget number requested remaining left) ended = OverBudget number requested remaining left
+afterRun which s (NoRoom left) ended = NoRoom left
 
 -- whether an answer is no success
 unfoldable pub refusing : Answer → Bool

@@ -1,5 +1,3 @@
--- What a run leaves behind it, and what its stage answers
-pub mod Result
+-- What a stage comes to, and the answer so far with it
 pub mod Answer
--- What the functions of this crate answer, by the definitions of `model`.
 pub mod Answers

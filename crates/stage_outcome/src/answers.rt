@@ -1,8 +1,10 @@
 // The answer so far, with what a stage came to; whether an answer is no success.
 ghost use mathlib.Core.Path.{_≡_};
 ghost use Rattle.model.specs.Closure.{stageNumber};
-ghost use Rattle.stage_outcome.specs.Answers.{counted, afterStage, refusing};
+ghost use Rattle.stage_outcome.specs.Answers.{counted, afterStage, afterRun, refusing};
+use crate::Run;
 use crate::Staged;
+use crate::answering::run_staged;
 use model::AnalysisKind;
 use model::Answer;
 use model::Counts;
@@ -82,6 +84,31 @@ pub fn after_stage(
             left,
         },
         Staged::NoRoom { left } => Answer::NoRoom { left },
+    }
+}
+
+// The answer of s tracked slots, with how their run ended; a refusal stands.
+pub fn after_run(which: AnalysisKind, s: usize, answer: Answer, ended: Run) -> Answer
+    ensures { λ r. ⌜ r ≡ afterRun which s answer ended ⌝ }
+{
+    match answer {
+        Answer::Analyzed {
+            constant,
+            index,
+            container,
+            left,
+        } => {
+            let staged = run_staged(s, left.bytes, ended);
+            after_stage(which, staged, constant, index, container)
+        }
+        Answer::Invalid { number: _, left: _ } => answer,
+        Answer::OverBudget {
+            stage: _,
+            requested: _,
+            remaining: _,
+            left: _,
+        } => answer,
+        Answer::NoRoom { left: _ } => answer,
     }
 }
 

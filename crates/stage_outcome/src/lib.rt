@@ -1,14 +1,12 @@
-// How a run ends and what is cleared behind it; what its stage comes to.
-// The answer so far, with what a stage came to; whether an answer is no success.
+// How a run ends, what a stage comes to, and the answer so far with either.
 mod answering;
 mod answers;
-mod clearing;
 
-pub use answering::answered;
 pub use answering::at_once;
+pub use answering::staged_by;
+pub use answers::after_run;
 pub use answers::after_stage;
 pub use answers::refuses;
-pub use clearing::finish;
 use model::Counts;
 use model::VerifierResources;
 

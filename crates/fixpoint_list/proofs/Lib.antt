@@ -1,0 +1,2 @@
+-- The laws of the list's operations
+pub mod Listed

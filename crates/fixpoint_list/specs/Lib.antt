@@ -1,0 +1,2 @@
+-- The work list as a list of numbers
+pub mod Listed

@@ -1,0 +1,23 @@
+// A stage up to its run: closure, question 8, matrix charge and entry row. It sees neither tables nor work list.
+mod begin;
+mod entry;
+mod preparing;
+
+use model::Answer;
+pub use preparing::prepare;
+
+// How long the tables and the work list are, of which question 8 asks.
+pub struct Room {
+    present: usize,
+    kinds: usize,
+    values: usize,
+    work_list: usize,
+}
+
+// What is to run: whether anything is, how many slots are tracked and the work units left; and the answer so far.
+pub struct Prepared {
+    runs: bool,
+    s: usize,
+    work: u64,
+    answer: Answer,
+}
