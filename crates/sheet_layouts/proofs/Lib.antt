@@ -1,2 +1,4 @@
--- The search for equal layouts
+-- The search for equal layouts; for other crates to cite: Equal, Classes
 pub mod Search
+pub mod Equal
+pub mod Classes
