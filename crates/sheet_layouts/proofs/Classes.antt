@@ -3,11 +3,11 @@
 use mathlib.Core.Path.{_≡_, refl, sym, _∙_, fun-ext}
 use mathlib.Core.Bool.{Bool, true, false}
 use mathlib.Core.List.{List}
-use Prim.Native.Nat.{ℕ, zero, suc, _-_, _/_, _%_, _≤_, _<_}
+use Prim.Native.Nat.{ℕ, zero, suc, _-_, _/_, _%_, _≤_, _<_, min}
 use native.Mathlib.Nat.{min-eq-left, min-eq-right}
 use native.Mathlib.Omega.{arith}
 use lib.Dec.{eqb, ltb}
-use lib.ListN.{length, getD, replicate, length-replicate, getD-replicate}
+use lib.ListN.{length, getD, replicate, length-replicate, getD-replicate, List·getD-eq-default}
 use lib.Seq.{getD-set-other}
 use borrow.Author.Tests.{ltb-true, ltb-false}
 use Rattle.model.specs.Fact.{equalLayouts, equalContainers, equalKnown}
@@ -74,17 +74,29 @@ layout-classes-hold sheet old {classes} e h =
 
 -- ---- what is read of it
 
+module _ (classes : List ℕ) (i : ℕ) where
+  pub class-at : i < length classes → getD classes i 0 ≡ classOf classes i
+  unfolding classOf
+  class-at h = rw (min-eq-left {n = i} {m = length classes - 1} (omega arith))
+
+  pub class-none : length classes ≡ 0 → 0 ≡ classOf classes i
+  unfolding classOf
+  class-none e = sym (List·getD-eq-default classes 0 {n = min i (length classes - 1)} (omega arith))
+
+  pub class-last : length classes ≤ i → getD classes (length classes - 1) 0 ≡ classOf classes i
+  unfolding classOf
+  class-last h = rw (min-eq-right {n = length classes - 1} {m = i} (omega arith))
+
 module _ {sheet classes : List ℕ} (c : Classes sheet classes) where
   pub class-is : (i : ℕ) → classOf classes i ≡ lowest sheet i
-  unfolding classOf
   class-is i = go (ltb i (length classes)) refl
     where
       go : (b : Bool) → ltb i (length classes) ≡ b → classOf classes i ≡ lowest sheet i
-      go true t = let h = ltb-true i (length classes) t in rw (min-eq-left {n = i} {m = length classes - 1} (omega arith)) (c .holds .at i h)
+      go true t = let h = ltb-true i (length classes) t in sym (class-at classes i h) ∙ c .holds .at i h
       go false t =
           let h = ltb-false i (length classes) t in
-          rw (min-eq-right {n = length classes - 1} {m = i} (omega arith))
-          (c .holds .at (length classes - 1) (omega (arith, c .spare)) ∙ sym (past sheet (length classes - 1) (omega (arith, c .spare))) ∙ past sheet i (omega (arith, c .spare)))
+          let k = c .spare in
+          sym (class-last classes i h) ∙ c .holds .at (length classes - 1) (omega arith) ∙ sym (past sheet (length classes - 1) (omega arith)) ∙ past sheet i (omega arith)
 
   -- two layouts are equal exactly where their classes are
   pub equal-classes : (i j : ℕ) → eqb (classOf classes i) (classOf classes j) ≡ equalLayouts sheet i j
