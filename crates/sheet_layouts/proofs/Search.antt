@@ -5,7 +5,7 @@ use mathlib.Core.Bool.{Bool, true, false}
 use mathlib.Core.Logic.{_⊎_, inl, inr}
 use mathlib.Core.List.{List, []}
 use Prim.Native.Nat.{ℕ, zero, suc, _+_, _-_, _≤_, _<_}
-use native.Mathlib.Nat.{add-assoc, eq-or-lt-of-le}
+use native.Mathlib.Nat.{add-assoc, eq-or-lt-of-le, eq-zero-or-pos}
 use native.Mathlib.Omega.{arith}
 use lib.ListN.{length, getD, take, drop}
 use borrow.Author.Tests.{lt-ltb, le-ltb}
@@ -13,12 +13,11 @@ use Rattle.model.specs.Bytes.{byte}
 use Rattle.model.specs.Sheet.{layout, layoutCount, layoutLength, layoutStart, slotKindsAt}
 use Rattle.model.specs.Fact.{equalContent, equalLayouts}
 use Rattle.model.specs.Listing.{lowestFrom, lowest}
-use Rattle.finality.proofs.Invariant.{zero-or-above}
 use Rattle.sheet.specs.declared.Sizes.{Sizes}
 use Rattle.sheet.proofs.Counted.{counted}
 use Rattle.sheet.proofs.Asked.{layout-fits}
-use Rattle.sheet_offsets.proofs.Content.{parts-differ, parts-same}
-use Rattle.sheet_offsets.proofs.Equal.{named, layout-inside, both-empty, same-content}
+use Rattle.sheet_layouts.proofs.Content.{parts-differ, parts-same}
+use Rattle.sheet_layouts.proofs.Layouts.{named, layout-inside, both-empty, same-content}
 use Rattle.sheet_layouts.specs.Readable.{Readable, startOf}
 
 -- ---- the layouts in order
@@ -134,7 +133,7 @@ module _ {sheet : List ℕ} {sizes : Sizes} {starts : List ℕ} (r : Readable sh
 
     pub kinds-agree : Agree sheet a b count → equalLayouts sheet j i ≡ true
     unfolding byte
-    kinds-agree all = go (zero-or-above count)
+    kinds-agree all = go (eq-zero-or-pos count)
       where
         at : (c k : ℕ) → getD sheet (slotKindsAt sheet + c + k) 0 ≡ getD sheet (slotKindsAt sheet + (c + k)) 0
         at c k = rw add-assoc
