@@ -3,4 +3,3 @@ pub mod Few
 pub mod Free
 pub mod Exact
 pub mod Telling
-pub mod Equal

@@ -20,7 +20,6 @@ use Rattle.finality.proofs.Joins.{length-joinRow}
 use Rattle.finality.proofs.Cells.{length-present, stacked-push, present-at, present-set, cells-part, cells-set}
 use Rattle.finality.proofs.Invariant.{stored}
 use Rattle.join.specs.Rows.{Encoded, JoinedRow}
-use Rattle.sheet.specs.declared.Sizes.{Sizes}
 use Rattle.fixpoint_visit.specs.Laid.{Sized, RowsLaid, RowLaid, Visiting, Visit, StateLaid, successorAt, Offering, Offer}
 use Rattle.model.proofs.Facts.{facts-back}
 
@@ -178,13 +177,13 @@ encoded s q rows present kinds values t h old m =
     (ap (midOf (q * s) (q * s + s - q * s)) (t .kinds-are) ∙ mid-row kind s q rows (t .sized) h ∙ ap (rowCells kind s) m)
     (ap (midOf (q * s) (q * s + s - q * s)) (t .values-are) ∙ mid-row value s q rows (t .sized) h ∙ ap (rowCells value s) m)
 
-module _ {sheet : List ℕ} {sizes : Sizes} {starts : List ℕ} {q : ℕ} {rowKinds rowValues present kinds values : List ℕ} where
+module _ {q : ℕ} {rowKinds rowValues present kinds values : List ℕ} where
   -- the row of q lies within both tables
-  pub visiting-end : Visiting sheet sizes starts q rowKinds rowValues present kinds values
+  pub visiting-end : Visiting q rowKinds rowValues present kinds values
       → (q * length rowKinds + length rowKinds ≤ length kinds) × (q * length rowKinds + length rowKinds ≤ length values)
   visiting-end v = let h = row-end (length rowKinds) (v .below) in (omega (arith, h, v .kinds-length), omega (arith, h, v .values-length))
 
-  pub visiting-row : Visiting sheet sizes starts q rowKinds rowValues present kinds values → getD present q 0 ≢ 0
+  pub visiting-row : Visiting q rowKinds rowValues present kinds values → getD present q 0 ≢ 0
       → Encoded (midOf (q * length rowKinds) (q * length rowKinds + length rowKinds - q * length rowKinds) kinds)
       (midOf (q * length rowKinds) (q * length rowKinds + length rowKinds - q * length rowKinds) values)
   visiting-row v e =
@@ -194,7 +193,7 @@ module _ {sheet : List ℕ} {sizes : Sizes} {starts : List ℕ} {q : ℕ} {rowKi
       encoded (length rowKinds) q (v .rows) present kinds values t h (found .0) (found .1)
 
   -- and as long as the row to join
-  pub visiting-lengths : Visiting sheet sizes starts q rowKinds rowValues present kinds values
+  pub visiting-lengths : Visiting q rowKinds rowValues present kinds values
       → (length rowKinds ≡ length (midOf (q * length rowKinds) (q * length rowKinds + length rowKinds - q * length rowKinds) kinds))
       × (length rowValues ≡ length (midOf (q * length rowKinds) (q * length rowKinds + length rowKinds - q * length rowKinds) kinds))
   visiting-lengths v =
@@ -202,12 +201,10 @@ module _ {sheet : List ℕ} {sizes : Sizes} {starts : List ℕ} {q : ℕ} {rowKi
       (omega (arith, k), omega (arith, k, v .row-values-length))
 
 -- what an offer asks is what the visit in it asks
-pub offering-visit : {sheet : List ℕ} {sizes : Sizes} {starts : List ℕ} {successors : InstructionSuccessors} {k top : ℕ} {rowKinds rowValues present kinds values list : List ℕ}
-    → Offering sheet sizes starts successors k top rowKinds rowValues present kinds values list → k < successors .len
-    → Visiting sheet sizes starts (getD (successors .pcs) k 0) rowKinds rowValues present kinds values
+pub offering-visit : {successors : InstructionSuccessors} {k top : ℕ} {rowKinds rowValues present kinds values list : List ℕ}
+    → Offering successors k top rowKinds rowValues present kinds values list → k < successors .len
+    → Visiting (getD (successors .pcs) k 0) rowKinds rowValues present kinds values
 offering-visit o h = record {
-  accepted = o .accepted;
-  starts-are = o .starts-are;
   below = o .below h;
   row-values-length = o .row-values-length;
   kinds-length = o .kinds-length;

@@ -136,8 +136,8 @@ pub next-is : {sheet : List ℕ} {sizes : Sizes} (p : ℕ) (inst : Instruction) 
 unfolding sheetSuccessors
 next-is p inst next a e k = k ∙ ap₂ (λ (n : ℕ) (i : Instruction). asRecord (successors n p i)) (counted (a .are) .code-count) e
 
-module _ {same : ℕ → ℕ → ℕ → ℕ → Bool} {sheet : List ℕ} {sizes : Sizes} {starts : List ℕ} {p top : ℕ} {rowKinds rowValues present kinds values list : List ℕ}
-    (f : Following same sheet sizes starts p top rowKinds rowValues present kinds values list) where
+module _ {same : ℕ → ℕ → ℕ → ℕ → Bool} {sheet : List ℕ} {sizes : Sizes} {p top : ℕ} {rowKinds rowValues present kinds values list : List ℕ}
+    (f : Following same sheet sizes p top rowKinds rowValues present kinds values list) where
   -- what reading the instruction and its successors asks
   pub following-inside : 40 + 8 * p + 8 ≤ length sheet
   following-inside = code-inside (measured (f .accepted)) p (rw (counted (f .accepted .are) .code-count) (f .below))
@@ -152,10 +152,8 @@ module _ {same : ℕ → ℕ → ℕ → ℕ → Bool} {sheet : List ℕ} {sizes
         subst (λ (x : InstructionSuccessors). (k : ℕ) → k < x .len → getD (x .pcs) k 0 < codeCount sheet) (sym e)
         (λ k h. successors-below sheet p _ (list-at (sheetSuccessors sheet p) k h))
 
-    pub first-offering : (k : ℕ) → k < 2 → Offering sheet sizes starts next k top rowKinds rowValues present kinds values list
+    pub first-offering : (k : ℕ) → k < 2 → Offering next k top rowKinds rowValues present kinds values list
     first-offering k h = record {
-      accepted = f .accepted;
-      starts-are = f .starts-are;
       among = h;
       below = λ i. rw (f .present-length) (target-below k i);
       little = rw (f .present-length) (f .little);
@@ -173,14 +171,12 @@ module _ {same : ℕ → ℕ → ℕ → ℕ → Bool} {sheet : List ℕ} {sizes
     pub second-offering : (present′ kinds′ values′ list′ : List ℕ) (top′ : ℕ)
         → Offer same (length rowKinds) next 0 rowKinds rowValues present kinds values list top present′ kinds′ values′ list′ top′
         → length present′ ≡ length present → length kinds′ ≡ length kinds → length values′ ≡ length values → length list′ ≡ length list
-        → Offering sheet sizes starts next 1 top′ rowKinds rowValues present′ kinds′ values′ list′
+        → Offering next 1 top′ rowKinds rowValues present′ kinds′ values′ list′
     unfolding Offer
     second-offering present′ kinds′ values′ list′ top′ o hp hk hv hl =
         let enough = visits-list same (f .copy) (sheetSuccessors sheet p) (f .st) in
         let first = o (length list) (f .st) (f .copy) (f .laid) (f .row-laid) (omega (arith, f .room)) in
         let l = (rw (ap (λ (x : InstructionSuccessors). successorAt x 0) e ∙ successor-first (sheetSuccessors sheet p)) at first) in record {
-          accepted = f .accepted;
-          starts-are = f .starts-are;
           among = omega arith;
           below = λ i. rw (hp, f .present-length) (target-below 1 i);
           little = rw (hp, f .present-length) (f .little);

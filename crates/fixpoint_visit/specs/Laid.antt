@@ -10,9 +10,8 @@ use lib.ListN.{length, getD, set}
 use Rattle.model.specs.Fact.{Row, kind, value}
 use Rattle.model.specs.Run.{State, rowAt, merged, news, visits}
 use Rattle.model.specs.Tables.{presentBytes, cells, stacked}
-use Rattle.model.specs.Sheet.{codeCount, layoutCount, layoutStart}
+use Rattle.model.specs.Sheet.{codeCount}
 use Rattle.model.specs.Successors.{sheetSuccessors}
-use Rattle.memory.specs.Front.{Holds}
 use Rattle.sheet.specs.Measured.{Accepted}
 use Rattle.sheet.specs.declared.Sizes.{Sizes}
 use Rattle.model.specs.declared.InstructionSuccessors.{InstructionSuccessors}
@@ -40,11 +39,8 @@ pub record StateLaid (s room : ℕ) (st : State) (present kinds values list : Li
   pub list-is : list ≡ stacked room (st .list)
   pub top-is : top ≡ length (st .list)
 
--- What a visit asks: the sheet and where its layouts begin, tables in which rows lie, and a row to copy or to join. (The lengths follow
--- from what lies there; arithmetic reads them.)
-pub record Visiting (sheet : List ℕ) (sizes : Sizes) (starts : List ℕ) (q : ℕ) (rowKinds rowValues present kinds values : List ℕ) : Type 0 where
-  pub accepted : Accepted sheet sizes
-  pub starts-are : Holds (layoutStart sheet) (layoutCount sheet) starts
+-- What a visit asks: tables in which rows lie, and a row to copy or to join. (The lengths follow from what lies there; arithmetic reads them.)
+pub record Visiting (q : ℕ) (rowKinds rowValues present kinds values : List ℕ) : Type 0 where
   pub below : q < length present
   pub row-values-length : length rowValues ≡ length rowKinds
   pub kinds-length : length kinds ≡ length present * length rowKinds
@@ -66,9 +62,7 @@ successorAt successors k = cond (ltb k (successors .len)) (getD (successors .pcs
 
 -- What an offer asks: what a visit does, a state in the tables and the list, room for one more entry, and that the successor, if there is
 -- one, is an instruction.
-pub record Offering (sheet : List ℕ) (sizes : Sizes) (starts : List ℕ) (successors : InstructionSuccessors) (k top : ℕ) (rowKinds rowValues present kinds values list : List ℕ) : Type 0 where
-  pub accepted : Accepted sheet sizes
-  pub starts-are : Holds (layoutStart sheet) (layoutCount sheet) starts
+pub record Offering (successors : InstructionSuccessors) (k top : ℕ) (rowKinds rowValues present kinds values list : List ℕ) : Type 0 where
   pub among : k < 2
   pub below : k < successors .len → getD (successors .pcs) k 0 < length present
   pub little : length present ≤ 4096
@@ -89,9 +83,8 @@ Offer same s successors k rowKinds rowValues present kinds values list top prese
     → StateLaid s room (visits same copy (successorAt successors k) st) present′ kinds′ values′ list′ top′
 
 -- What the offers to all successors of p ask: a row and a state in the tables, and room behind them for one more entry.
-pub record Following (same : ℕ → ℕ → ℕ → ℕ → Bool) (sheet : List ℕ) (sizes : Sizes) (starts : List ℕ) (p top : ℕ) (rowKinds rowValues present kinds values list : List ℕ) : Type 0 where
+pub record Following (same : ℕ → ℕ → ℕ → ℕ → Bool) (sheet : List ℕ) (sizes : Sizes) (p top : ℕ) (rowKinds rowValues present kinds values list : List ℕ) : Type 0 where
   pub accepted : Accepted sheet sizes
-  pub starts-are : Holds (layoutStart sheet) (layoutCount sheet) starts
   pub below : p < codeCount sheet
   pub little : codeCount sheet ≤ 4096
   pub present-length : length present ≡ codeCount sheet

@@ -1,7 +1,7 @@
 // The successors of an instruction, at most two.
 ghost use lib.ListN.{length};
-ghost use Rattle.model.specs.Fact.{equalKnown};
 ghost use Rattle.model.specs.Successors.{sheetSuccessors};
+ghost use Rattle.sheet_layouts.specs.Classes.{equalBy};
 ghost use Rattle.fixpoint_visit.specs.Laid.{Following, Follow};
 use crate::visiting::offer;
 use cfg::instruction_successors;
@@ -14,7 +14,7 @@ pub fn offer_successors(
     which: AnalysisKind,
     sheet: &[u8],
     sizes: Sizes,
-    starts: &[u16],
+    classes: &[u16],
     p: usize,
     from: usize,
     row_kinds: &[u8],
@@ -24,15 +24,13 @@ pub fn offer_successors(
     values: &mut [u64],
     list: &mut [u16],
 ) -> usize
-    requires { ⌜ Following (equalKnown which (now sheet)) (now sheet) sizes (now starts) p from (now «row_kinds») (now «row_values») (now present) (now kinds) (now values) (now list) ⌝ }
-    ensures { λ r. ⌜ Follow (equalKnown which (now (sheet .entry))) (length (now («row_kinds» .entry))) (sheetSuccessors (now (sheet .entry)) p) (now («row_kinds» .entry)) (now («row_values» .entry)) (now (present .entry)) (now (kinds .entry)) (now (values .entry)) (now (list .entry)) from (now (present .exit)) (now (kinds .exit)) (now (values .exit)) (now (list .exit)) r ⌝ }
+    requires { ⌜ Following (equalBy which (now classes)) (now sheet) sizes p from (now «row_kinds») (now «row_values») (now present) (now kinds) (now values) (now list) ⌝ }
+    ensures { λ r. ⌜ Follow (equalBy which (now (classes .entry))) (length (now («row_kinds» .entry))) (sheetSuccessors (now (sheet .entry)) p) (now («row_kinds» .entry)) (now («row_values» .entry)) (now (present .entry)) (now (kinds .entry)) (now (values .entry)) (now (list .entry)) from (now (present .exit)) (now (kinds .exit)) (now (values .exit)) (now (list .exit)) r ⌝ }
 {
     let next = instruction_successors(sizes.code_count, p, instruction_at(sheet, p));
     let top = offer(
         which,
-        sheet,
-        sizes,
-        starts,
+        classes,
         next,
         0,
         from,
@@ -45,9 +43,7 @@ pub fn offer_successors(
     );
     offer(
         which,
-        sheet,
-        sizes,
-        starts,
+        classes,
         next,
         1,
         top,

@@ -3,4 +3,5 @@ mod following;
 mod visiting;
 
 pub use following::offer_successors;
+pub use visiting::join_into;
 pub use visiting::offer;

@@ -1,21 +1,18 @@
 // One successor of a step: its row gets the copy or is joined with it, and it is added to the list where that is news.
 ghost use Prim.Native.Nat.{_+_, _*_, _<_};
 ghost use lib.ListN.{length};
-ghost use Rattle.model.specs.Fact.{equalKnown};
+ghost use Rattle.sheet_layouts.specs.Classes.{equalBy};
 ghost use Rattle.fixpoint_visit.specs.Laid.{Visiting, Visit, Offering, Offer};
 use join::join_row;
 use memory::copy_u8;
 use memory::copy_u64;
 use model::AnalysisKind;
 use model::InstructionSuccessors;
-use sheet::Sizes;
 
 // "without a row, it gets the copy; with one, the copy is joined into it": whether "the row is new or a kind or value changed".
-fn visit(
+pub fn join_into(
     which: AnalysisKind,
-    sheet: &[u8],
-    sizes: Sizes,
-    starts: &[u16],
+    classes: &[u16],
     q: usize,
     row_kinds: &[u8],
     row_values: &[u64],
@@ -23,8 +20,8 @@ fn visit(
     kinds: &mut [u8],
     values: &mut [u64],
 ) -> bool
-    requires { ⌜ Visiting (now sheet) sizes (now starts) q (now «row_kinds») (now «row_values») (now present) (now kinds) (now values) ⌝ }
-    ensures { λ r. ⌜ Visit (equalKnown which (now (sheet .entry))) (length (now («row_kinds» .entry))) q (now («row_kinds» .entry)) (now («row_values» .entry)) (now (present .entry)) (now (kinds .entry)) (now (values .entry)) (now (present .exit)) (now (kinds .exit)) (now (values .exit)) r ⌝ }
+    requires { ⌜ Visiting q (now «row_kinds») (now «row_values») (now present) (now kinds) (now values) ⌝ }
+    ensures { λ r. ⌜ Visit (equalBy which (now (classes .entry))) (length (now («row_kinds» .entry))) q (now («row_kinds» .entry)) (now («row_values» .entry)) (now (present .entry)) (now (kinds .entry)) (now (values .entry)) (now (present .exit)) (now (kinds .exit)) (now (values .exit)) r ⌝ }
 {
     let s = row_kinds.len();
     let at = q * s;
@@ -37,9 +34,7 @@ fn visit(
     }
     join_row(
         which,
-        sheet,
-        sizes,
-        starts,
+        classes,
         &mut kinds[at..end],
         &mut values[at..end],
         row_kinds,
@@ -50,9 +45,7 @@ fn visit(
 // "If the row is new or a kind or value changed, the successor is added once, even if it is listed already": the list's new top.
 pub fn offer(
     which: AnalysisKind,
-    sheet: &[u8],
-    sizes: Sizes,
-    starts: &[u16],
+    classes: &[u16],
     successors: InstructionSuccessors,
     k: usize,
     top: usize,
@@ -63,18 +56,16 @@ pub fn offer(
     values: &mut [u64],
     list: &mut [u16],
 ) -> usize
-    requires { ⌜ Offering (now sheet) sizes (now starts) successors k top (now «row_kinds») (now «row_values») (now present) (now kinds) (now values) (now list) ⌝ }
-    ensures { λ r. ⌜ Offer (equalKnown which (now (sheet .entry))) (length (now («row_kinds» .entry))) successors k (now («row_kinds» .entry)) (now («row_values» .entry)) (now (present .entry)) (now (kinds .entry)) (now (values .entry)) (now (list .entry)) top (now (present .exit)) (now (kinds .exit)) (now (values .exit)) (now (list .exit)) r ⌝ }
+    requires { ⌜ Offering successors k top (now «row_kinds») (now «row_values») (now present) (now kinds) (now values) (now list) ⌝ }
+    ensures { λ r. ⌜ Offer (equalBy which (now (classes .entry))) (length (now («row_kinds» .entry))) successors k (now («row_kinds» .entry)) (now («row_values» .entry)) (now (present .entry)) (now (kinds .entry)) (now (values .entry)) (now (list .entry)) top (now (present .exit)) (now (kinds .exit)) (now (values .exit)) (now (list .exit)) r ⌝ }
 {
     let len = successors.len as usize;
     if k < len {
         let pcs = successors.pcs;
         let q = pcs[k];
-        if visit(
+        if join_into(
             which,
-            sheet,
-            sizes,
-            starts,
+            classes,
             q,
             row_kinds,
             row_values,

@@ -6,9 +6,10 @@ use mathlib.Core.Bool.{Bool, true, false, cond}
 use mathlib.Core.List.{List}
 use Prim.Native.Nat.{ℕ, zero, suc}
 use lib.Dec.{eqb·suc-suc}
-use Rattle.model.specs.Fact.{conflict, known, kind, value, join, equalNumbers, equalContainers}
+use Rattle.model.specs.Fact.{conflict, known, kind, value, join, equalNumbers}
 use Rattle.model.specs.Tables.{factOf, factIn, cellOf}
 use Rattle.model.specs.declared.FactCell.{FactCell}
+use Rattle.sheet_layouts.specs.Classes.{equalContainersBy}
 
 abbrev pub cell : ℕ → ℕ → FactCell
 cell k v = record { kind = k; value = v }
@@ -89,6 +90,6 @@ pub numbers-shift : Shifts equalNumbers
 unfolding equalNumbers
 numbers-shift k v l w = rw (eqb·suc-suc (suc k) (suc l), eqb·suc-suc k l)
 
-pub containers-shift : (sheet : List ℕ) → Shifts (equalContainers sheet)
-unfolding equalContainers
-containers-shift sheet k v l w = rw (eqb·suc-suc (suc k) (suc l), eqb·suc-suc k l)
+pub containers-shift : (classes : List ℕ) → Shifts (equalContainersBy classes)
+unfolding equalContainersBy
+containers-shift classes k v l w = rw (eqb·suc-suc (suc k) (suc l), eqb·suc-suc k l)

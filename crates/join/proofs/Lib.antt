@@ -1,7 +1,7 @@
 -- Joins of two cells, by the tests of the code
 pub mod Cells
--- Containers, by kind and layouts
-pub mod Layouts
+-- Containers, by kind and classes
+pub mod Classes
 -- A row that a loop joins from the left
 pub mod Fill
 pub mod Changes

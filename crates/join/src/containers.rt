@@ -1,25 +1,28 @@
-// The join of container facts: "Layouts are equal by length and content, and the stored numbers stay."
+// The join of container facts: "Layouts are equal by length and content, and the stored numbers stay." Equal layouts are of one class.
 ghost use mathlib.Core.Path.{_≡_};
-ghost use Rattle.model.specs.Fact.{join, equalContainers};
-ghost use Rattle.model.specs.Sheet.{layoutStart, layoutCount};
+ghost use Rattle.model.specs.Fact.{join};
 ghost use Rattle.model.specs.Tables.{factIn, cellOf};
-ghost use Rattle.memory.specs.Front.{Holds};
-ghost use Rattle.sheet.specs.Measured.{Accepted};
+ghost use Rattle.sheet_layouts.specs.Classes.{classOf, equalContainersBy};
 use crate::facts::merge_fact;
 use model::FactCell;
-use sheet::Sizes;
-use sheet_offsets::equal_layouts;
 
-// Whether two containers are equal: by kind, and A and B by content ("value A × 65,536 + B"). Equal values are answered at once.
-pub fn equal_containers(
-    sheet: &[u8],
-    sizes: Sizes,
-    starts: &[u16],
-    old: FactCell,
-    new: FactCell,
-) -> bool
-    requires { ⌜ Accepted (now sheet) sizes × Holds (layoutStart (now sheet)) (layoutCount (now sheet)) (now starts) ⌝ }
-    ensures { λ r. ⌜ r ≡ equalContainers (now (sheet .entry)) (old .kind) (old .value) (new .kind) (new .value) ⌝ }
+// The class of layout i. classes is what layout_classes has filled; a number from its end up names no layout, and has the last one's class.
+pub fn class_of(classes: &[u16], i: usize) -> u16
+    ensures { λ r. ⌜ r ≡ classOf (now (classes .entry)) i ⌝ }
+{
+    let n = classes.len();
+    if i < n {
+        return classes[i];
+    }
+    if n == 0 {
+        return 0;
+    }
+    classes[n - 1]
+}
+
+// Whether two containers are equal: by kind, and A and B by class ("value A × 65,536 + B"). Equal values are answered at once.
+pub fn equal_containers(classes: &[u16], old: FactCell, new: FactCell) -> bool
+    ensures { λ r. ⌜ r ≡ equalContainersBy (now (classes .entry)) (old .kind) (old .value) (new .kind) (new .value) ⌝ }
 {
     if old.kind != new.kind {
         return false;
@@ -29,34 +32,15 @@ pub fn equal_containers(
     if was == is {
         return true;
     }
-    if equal_layouts(
-        sheet,
-        sizes,
-        starts,
-        (was / 65536) as usize,
-        (is / 65536) as usize,
-    ) {
-        return equal_layouts(
-            sheet,
-            sizes,
-            starts,
-            (was % 65536) as usize,
-            (is % 65536) as usize,
-        );
+    if class_of(classes, (was / 65536) as usize) != class_of(classes, (is / 65536) as usize) {
+        return false;
     }
-    false
+    class_of(classes, (was % 65536) as usize) == class_of(classes, (is % 65536) as usize)
 }
 
-// The join of two container facts. `starts` holds where each layout's slot kinds begin.
-pub fn merge_container_fact(
-    sheet: &[u8],
-    sizes: Sizes,
-    starts: &[u16],
-    old: FactCell,
-    new: FactCell,
-) -> FactCell
-    requires { ⌜ Accepted (now sheet) sizes × Holds (layoutStart (now sheet)) (layoutCount (now sheet)) (now starts) ⌝ }
-    ensures { λ r. ⌜ r ≡ cellOf (join (equalContainers (now (sheet .entry))) (factIn old) (factIn new)) ⌝ }
+// The join of two container facts.
+pub fn merge_container_fact(classes: &[u16], old: FactCell, new: FactCell) -> FactCell
+    ensures { λ r. ⌜ r ≡ cellOf (join (equalContainersBy (now (classes .entry))) (factIn old) (factIn new)) ⌝ }
 {
-    merge_fact(old, new, equal_containers(sheet, sizes, starts, old, new))
+    merge_fact(old, new, equal_containers(classes, old, new))
 }

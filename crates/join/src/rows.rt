@@ -1,35 +1,24 @@
 // The join of a row: its cells are parts of the tables' kinds and values.
 ghost use mathlib.Core.Path.{_≡_};
 ghost use lib.ListN.{length};
-ghost use Rattle.model.specs.Fact.{join, equalKnown};
-ghost use Rattle.model.specs.Sheet.{layoutStart, layoutCount};
+ghost use Rattle.model.specs.Fact.{join};
 ghost use Rattle.model.specs.Tables.{factIn, cellOf};
-ghost use Rattle.memory.specs.Front.{Holds};
-ghost use Rattle.sheet.specs.Measured.{Accepted};
+ghost use Rattle.sheet_layouts.specs.Classes.{equalBy};
 ghost use Rattle.join.specs.Rows.{Encoded, JoinedRow};
 use crate::containers::merge_container_fact;
 use crate::facts::merge_constant_fact;
 use crate::facts::merge_index_check_fact;
 use model::AnalysisKind;
 use model::FactCell;
-use sheet::Sizes;
 
 // The join of two facts of an analysis.
-fn merge_fact_of(
-    which: AnalysisKind,
-    sheet: &[u8],
-    sizes: Sizes,
-    starts: &[u16],
-    old: FactCell,
-    new: FactCell,
-) -> FactCell
-    requires { ⌜ Accepted (now sheet) sizes × Holds (layoutStart (now sheet)) (layoutCount (now sheet)) (now starts) ⌝ }
-    ensures { λ r. ⌜ r ≡ cellOf (join (equalKnown which (now (sheet .entry))) (factIn old) (factIn new)) ⌝ }
+fn merge_fact_of(which: AnalysisKind, classes: &[u16], old: FactCell, new: FactCell) -> FactCell
+    ensures { λ r. ⌜ r ≡ cellOf (join (equalBy which (now (classes .entry))) (factIn old) (factIn new)) ⌝ }
 {
     match which {
         AnalysisKind::Constant => merge_constant_fact(old, new),
         AnalysisKind::IndexCheck => merge_index_check_fact(old, new),
-        AnalysisKind::Container => merge_container_fact(sheet, sizes, starts, old, new),
+        AnalysisKind::Container => merge_container_fact(classes, old, new),
     }
 }
 
@@ -37,18 +26,15 @@ fn merge_fact_of(
 // Conflict, so a change of value is a change of kind too: only then something is stored.
 pub fn join_row(
     which: AnalysisKind,
-    sheet: &[u8],
-    sizes: Sizes,
-    starts: &[u16],
+    classes: &[u16],
     kinds: &mut [u8],
     values: &mut [u64],
     new_kinds: &[u8],
     new_values: &[u64],
 ) -> bool
-    requires { ⌜ Accepted (now sheet) sizes × Holds (layoutStart (now sheet)) (layoutCount (now sheet)) (now starts) ⌝ }
     requires { ⌜ Encoded (now kinds) (now values) ⌝ }
     requires { ⌜ (length (now «new_kinds») ≡ length (now kinds)) × (length (now «new_values») ≡ length (now kinds)) ⌝ }
-    ensures { λ r. ⌜ JoinedRow (equalKnown which (now (sheet .entry))) (now (kinds .entry)) (now (values .entry)) (now («new_kinds» .entry)) (now («new_values» .entry)) (now (kinds .exit)) (now (values .exit)) r ⌝ }
+    ensures { λ r. ⌜ JoinedRow (equalBy which (now (classes .entry))) (now (kinds .entry)) (now (values .entry)) (now («new_kinds» .entry)) (now («new_values» .entry)) (now (kinds .exit)) (now (values .exit)) r ⌝ }
 {
     let mut changed = false;
     let mut i = 0;
@@ -62,7 +48,7 @@ pub fn join_row(
             kind: new_kinds[i],
             value: new_values[i],
         };
-        let joined = merge_fact_of(which, sheet, sizes, starts, old, new);
+        let joined = merge_fact_of(which, classes, old, new);
         let kind = joined.kind;
         if kind != was {
             kinds[i] = kind;

@@ -1,2 +1,8 @@
+-- Equal layouts, by what is read of them
+pub mod Content
+pub mod Layouts
 -- The search for equal layouts
 pub mod Search
+-- For other crates to cite: equal layouts have one lowest number, and one class
+pub mod Equal
+pub mod Classes

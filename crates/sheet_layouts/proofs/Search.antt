@@ -5,21 +5,19 @@ use mathlib.Core.Bool.{Bool, true, false}
 use mathlib.Core.Logic.{_⊎_, inl, inr}
 use mathlib.Core.List.{List, []}
 use Prim.Native.Nat.{ℕ, zero, suc, _+_, _-_, _≤_, _<_}
-use native.Mathlib.Nat.{add-assoc, eq-or-lt-of-le}
+use native.Mathlib.Nat.{add-assoc, eq-or-lt-of-le, eq-zero-or-pos}
 use native.Mathlib.Omega.{arith}
 use lib.ListN.{length, getD, take, drop}
-use borrow.Author.Tests.{lt-ltb}
+use borrow.Author.Tests.{lt-ltb, le-ltb}
 use Rattle.model.specs.Bytes.{byte}
-use Rattle.model.specs.Sheet.{layout, layoutLength, layoutStart, slotKindsAt}
+use Rattle.model.specs.Sheet.{layout, layoutCount, layoutLength, layoutStart, slotKindsAt}
 use Rattle.model.specs.Fact.{equalContent, equalLayouts}
 use Rattle.model.specs.Listing.{lowestFrom, lowest}
-use Rattle.finality.proofs.Invariant.{zero-or-above}
 use Rattle.sheet.specs.declared.Sizes.{Sizes}
 use Rattle.sheet.proofs.Counted.{counted}
-use Rattle.sheet.proofs.Inside.{layout-length-past}
-use Rattle.sheet.proofs.Asked.{measured, layout-fits}
-use Rattle.sheet_offsets.proofs.Content.{parts-differ, parts-same}
-use Rattle.sheet_offsets.proofs.Equal.{named, layout-inside, both-empty, same-content}
+use Rattle.sheet.proofs.Asked.{layout-fits}
+use Rattle.sheet_layouts.proofs.Content.{parts-differ, parts-same}
+use Rattle.sheet_layouts.proofs.Layouts.{named, layout-inside, both-empty, same-content}
 use Rattle.sheet_layouts.specs.Readable.{Readable, startOf}
 
 -- ---- the layouts in order
@@ -60,30 +58,34 @@ module _ (sheet : List ℕ) (i : ℕ) where
 
 -- ---- from y up
 
-module _ (sheet : List ℕ) (y : ℕ) (empty : (i : ℕ) → y ≤ i → layout sheet i ≡ []) where
-  alike : (i k : ℕ) → y ≤ i → equalLayouts sheet k i ≡ equalLayouts sheet k y
+module _ (sheet : List ℕ) where
+  empty-past : (i : ℕ) → layoutCount sheet ≤ i → layout sheet i ≡ []
+  unfolding layout layoutLength
+  empty-past i h = rw (le-ltb i (layoutCount sheet) h)
+
+  alike : (i k : ℕ) → layoutCount sheet ≤ i → equalLayouts sheet k i ≡ equalLayouts sheet k (layoutCount sheet)
   unfolding equalLayouts
-  alike i k h = rw (empty i h, empty y (omega arith))
+  alike i k h = rw (empty-past i h, empty-past (layoutCount sheet) (omega arith))
 
-  at-end : (i : ℕ) → y ≤ i → equalLayouts sheet y i ≡ true
+  at-end : (i : ℕ) → layoutCount sheet ≤ i → equalLayouts sheet (layoutCount sheet) i ≡ true
   unfolding equalLayouts equalContent
-  at-end i h = rw (empty i h, empty y (omega arith))
+  at-end i h = rw (empty-past i h, empty-past (layoutCount sheet) (omega arith))
 
-  longer : (i : ℕ) → y ≤ i → (n m at total : ℕ) → at + n ≡ y → total ≡ n + suc m → lowestFrom sheet i at total ≡ lowestFrom sheet y at n
+  longer : (i : ℕ) → layoutCount sheet ≤ i → (n m at total : ℕ) → at + n ≡ layoutCount sheet → total ≡ n + suc m → lowestFrom sheet i at total ≡ lowestFrom sheet (layoutCount sheet) at n
   unfolding lowestFrom
   longer i h zero m at zero e t = absurd (omega arith)
-  longer i h zero m at (suc total) e t = let p : at ≡ y = omega arith in rw (p, at-end i h)
+  longer i h zero m at (suc total) e t = let p : at ≡ layoutCount sheet = omega arith in rw (p, at-end i h)
   longer i h (suc n) m at zero e t = absurd (omega arith)
   longer i h (suc n) m at (suc total) e t = rw (alike i at h, longer i h n m (suc at) total (omega arith) (omega arith))
 
   -- any number from y up finds what y does
-  pub past : (i : ℕ) → y ≤ i → lowest sheet y ≡ lowest sheet i
+  pub past : (i : ℕ) → layoutCount sheet ≤ i → lowest sheet (layoutCount sheet) ≡ lowest sheet i
   unfolding lowest
   past i h = go (eq-or-lt-of-le h)
     where
-      go : (y ≡ i) ⊎ (y < i) → lowestFrom sheet y 0 y ≡ lowestFrom sheet i 0 i
+      go : (layoutCount sheet ≡ i) ⊎ (layoutCount sheet < i) → lowestFrom sheet (layoutCount sheet) 0 (layoutCount sheet) ≡ lowestFrom sheet i 0 i
       go (inl e) = rw e
-      go (inr l) = sym (longer i h y (i - y - 1) 0 i (omega arith) (omega arith))
+      go (inr l) = sym (longer i h (layoutCount sheet) (i - layoutCount sheet - 1) 0 i (omega arith) (omega arith))
 
 -- ---- the slot kinds of one
 
@@ -92,9 +94,9 @@ abbrev pub Agree : List ℕ → ℕ → ℕ → ℕ → Type 0
 Agree sheet a b n = (k : ℕ) → k < n → byte sheet (slotKindsAt sheet + (a + k)) ≡ byte sheet (slotKindsAt sheet + (b + k))
 
 module _ {sheet : List ℕ} {sizes : Sizes} {starts : List ℕ} (r : Readable sheet sizes starts) where
-  pub empty-past : (i : ℕ) → sizes .«layout_count» ≤ i → layout sheet i ≡ []
-  unfolding layout
-  empty-past i h = rw (← layout-length-past (measured (r .accepted)) i h)
+  -- the same, by the number of layouts that was read
+  pub past-count : (i : ℕ) → sizes .«layout_count» ≤ i → lowest sheet (sizes .«layout_count») ≡ lowest sheet i
+  past-count i h = let n = counted (r .accepted .are) in ap (lowest sheet) (n .layout-count) ∙ past sheet i (omega arith)
 
   pub starts-long : sizes .«layout_count» ≤ length starts
   starts-long = let n = counted (r .accepted .are) in omega (arith, r .begins .long)
@@ -131,7 +133,7 @@ module _ {sheet : List ℕ} {sizes : Sizes} {starts : List ℕ} (r : Readable sh
 
     pub kinds-agree : Agree sheet a b count → equalLayouts sheet j i ≡ true
     unfolding byte
-    kinds-agree all = go (zero-or-above count)
+    kinds-agree all = go (eq-zero-or-pos count)
       where
         at : (c k : ℕ) → getD sheet (slotKindsAt sheet + c + k) 0 ≡ getD sheet (slotKindsAt sheet + (c + k)) 0
         at c k = rw add-assoc

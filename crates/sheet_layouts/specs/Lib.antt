@@ -1,2 +1,3 @@
--- What the search for an equal layout asks.
+-- What the search for an equal layout asks, and the classes that it finds.
+pub mod Classes
 pub mod Readable

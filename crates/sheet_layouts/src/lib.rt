@@ -1,8 +1,9 @@
-// "with the lowest layout number of equal content"
+// "with the lowest layout number of equal content": of one layout, and once a call of all
 ghost use mathlib.Core.Path.{_≡_};
-ghost use Prim.Native.Nat.{_≤_};
-ghost use lib.ListN.{length};
+ghost use Prim.Native.Nat.{_≤_, _<_};
+ghost use lib.ListN.{length, replicate};
 ghost use Rattle.model.specs.Listing.{lowest};
+ghost use Rattle.sheet_layouts.specs.Classes.{layoutClasses};
 ghost use Rattle.sheet_layouts.specs.Readable.{Readable, startOf};
 use sheet::Sizes;
 use sheet_fields::layout_length_at;
@@ -58,4 +59,29 @@ pub fn lowest(sheet: &[u8], sizes: Sizes, starts: &[u16], i: u64) -> u64
         return lowest_of(sheet, sizes, starts, n) as u64;
     }
     lowest_of(sheet, sizes, starts, y) as u64
+}
+
+// One class in every place.
+fn fill(classes: &mut [u16], class: u16)
+    ensures { λ r. ⌜ now (classes .exit) ≡ replicate (length (now (classes .entry))) class ⌝ }
+{
+    let mut i = 0;
+    while i < classes.len() {
+        classes[i] = class;
+        i += 1;
+    }
+}
+
+// The class of every layout: the lowest number of equal content. From y up a layout is empty, and its class is that of y.
+pub fn layout_classes(sheet: &[u8], sizes: Sizes, starts: &[u16], classes: &mut [u16])
+    requires { ⌜ Readable (now sheet) sizes (now starts) × (sizes .«layout_count» < length (now classes)) ⌝ }
+    ensures { λ r. ⌜ now (classes .exit) ≡ layoutClasses (now (sheet .entry)) (now (classes .entry)) ⌝ }
+{
+    let y = sizes.layout_count;
+    fill(classes, lowest_of(sheet, sizes, starts, y) as u16);
+    let mut i = 0;
+    while i < y {
+        classes[i] = lowest_of(sheet, sizes, starts, i) as u16;
+        i += 1;
+    }
 }

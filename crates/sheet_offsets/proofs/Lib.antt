@@ -1,5 +1,3 @@
--- The laws of this crate. For other crates to cite: Content, Equal, Tabled.
-pub mod Content
-pub mod Equal
+-- The laws of this crate. For other crates to cite: Tabled.
 pub mod Summed
 pub mod Tabled

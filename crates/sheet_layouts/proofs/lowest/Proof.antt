@@ -1,8 +1,7 @@
 -- `sheet_layouts::lowest` meets its contract. Assumes nothing.
 use mathlib.Core.Path.{_∙_}
-use Rattle.sheet_layouts.proofs.Search.{empty-past, past}
+use Rattle.sheet_layouts.proofs.Search.{past-count}
 use borrow.Author.Needs.{needs}
-use denote.Ref.{now}
 use Rattle.sheet_layouts.proofs.lowest.Statement.{statement}
 use Rattle.sheet_layouts.proofs.lowest.Tie as tie
 
@@ -17,9 +16,7 @@ lowest-of-requires-2 c κs = search needs
 
 returns-2 : tie.Need-returns-2
 returns-2 c =
-    let a = c .before .before .before .before .args in
-    let r = c .before .before .before .before .pre in
-    c .lowest-of2 .ensures ∙ past (now (a .sheet)) (a .sizes .«layout_count») (empty-past r) (a .i) (c .before .if1 .left)
+    c .lowest-of2 .ensures ∙ past-count (c .before .before .before .before .pre) (c .before .before .before .before .args .i) (c .before .if1 .left)
 
 pub lowest-spec : {M : Type 1} → statement M
 lowest-spec = tie.close (tie.spec lowest-of-requires returns lowest-of-requires-2 returns-2)

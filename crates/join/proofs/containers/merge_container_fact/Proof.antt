@@ -3,7 +3,7 @@
 use mathlib.Core.Path.{_∙_}
 use denote.Ref.{now}
 use borrow.Author.Needs.{needs}
-use Rattle.model.specs.Fact.{equalContainers}
+use Rattle.sheet_layouts.specs.Classes.{equalContainersBy}
 use Rattle.join.proofs.Cells.{merged-by, containers-shift}
 use Rattle.join.proofs.containers.merge_container_fact.Statement.{statement}
 use Rattle.join.proofs.containers.merge_container_fact.Tie as tie
@@ -15,7 +15,7 @@ merge-fact-requires : tie.Need-merge-fact-requires
 merge-fact-requires c κs = search needs
 
 returns : tie.Need-returns
-returns c = c .merge-fact .ensures ∙ merged-by (equalContainers (now (c .before .before .before .before .args .sheet))) (containers-shift (now (c .before .before .before .before .args .sheet))) _ _ _ (c .before .equal-containers .ensures)
+returns c = c .merge-fact .ensures ∙ merged-by (equalContainersBy (now (c .before .before .before .args .classes))) (containers-shift (now (c .before .before .before .args .classes))) _ _ _ (c .before .equal-containers .ensures)
 
 pub merge-container-fact-spec : {M : Type 1} → statement M
 merge-container-fact-spec = tie.close (tie.spec equal-containers-requires merge-fact-requires returns)

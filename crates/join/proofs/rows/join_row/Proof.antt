@@ -5,38 +5,38 @@ use Prim.Native.Nat.{_-_}
 use native.Mathlib.Omega.{arith}
 use borrow.Author.Needs.{needs}
 use lib.ListN.{length}
-use Rattle.model.specs.Fact.{equalKnown}
+use Rattle.sheet_layouts.specs.Classes.{equalBy}
 use Rattle.join.proofs.Joining.{Partly, carried, partly-start, partly-changed, partly-kept, partly-end}
 use Rattle.join.proofs.rows.join_row.Statement.{statement}
 use Rattle.join.proofs.rows.join_row.Tie as tie
 
 abbrev Inv-loop : tie.InvT-loop
-Inv-loop which sheet sizes starts kinds₀ values₀ new-kinds new-values changed₀ i₀ kinds values changed i =
-    Partly (equalKnown which sheet) kinds₀ values₀ new-kinds new-values kinds values changed i
+Inv-loop which classes kinds₀ values₀ new-kinds new-values changed₀ i₀ kinds values changed i =
+    Partly (equalBy which classes) kinds₀ values₀ new-kinds new-values kinds values changed i
 
 abbrev μ-loop : tie.MeasureT-loop
-μ-loop which sheet sizes starts kinds₀ values₀ new-kinds new-values changed₀ i₀ kinds values changed i = length kinds₀ - i
+μ-loop which classes kinds₀ values₀ new-kinds new-values changed₀ i₀ kinds values changed i = length kinds₀ - i
 
 loop-holds : tie.Need-loop-holds Inv-loop μ-loop
-loop-holds c = partly-start (c .before .before .before .before .before .before .pre .1 .0) (c .before .before .before .before .before .before .pre .1 .1 .0) (c .before .before .before .before .before .before .pre .1 .1 .1)
+loop-holds c = partly-start (c .before .before .before .before .before .pre .0) (c .before .before .before .before .before .pre .1 .0) (c .before .before .before .before .before .pre .1 .1)
 
 slice-read-was : tie.Need-slice-read-was Inv-loop μ-loop
 slice-read-was c = omega arith
 
-mul-t16 : tie.Need-mul-t16 Inv-loop μ-loop
-mul-t16 c = omega arith
+mul-t14 : tie.Need-mul-t14 Inv-loop μ-loop
+mul-t14 c = omega arith
 
-slice-read-t21 : tie.Need-slice-read-t21 Inv-loop μ-loop
-slice-read-t21 c = omega arith
+slice-read-t19 : tie.Need-slice-read-t19 Inv-loop μ-loop
+slice-read-t19 c = omega arith
+
+shared-slice-read-t17 : tie.Need-shared-slice-read-t17 Inv-loop μ-loop
+shared-slice-read-t17 c = omega arith
+
+mul-t14-2 : tie.Need-mul-t14-2 Inv-loop μ-loop
+mul-t14-2 c = omega arith
 
 shared-slice-read-t19 : tie.Need-shared-slice-read-t19 Inv-loop μ-loop
 shared-slice-read-t19 c = omega arith
-
-mul-t16-2 : tie.Need-mul-t16-2 Inv-loop μ-loop
-mul-t16-2 c = omega arith
-
-shared-slice-read-t21 : tie.Need-shared-slice-read-t21 Inv-loop μ-loop
-shared-slice-read-t21 c = omega arith
 
 merge-fact-of-requires : tie.Need-merge-fact-of-requires Inv-loop μ-loop
 merge-fact-of-requires c κs = search needs
@@ -73,4 +73,4 @@ returns : tie.Need-returns Inv-loop μ-loop
 returns c = partly-end (c .before .loop .inv) (c .loop-test .left)
 
 pub join-row-spec : {M : Type 1} → statement M
-join-row-spec = tie.close (tie.spec Inv-loop μ-loop loop-holds slice-read-was mul-t16 slice-read-t21 shared-slice-read-t19 mul-t16-2 shared-slice-read-t21 merge-fact-of-requires slice-write-kinds mul-values slice-write-values add-i loop-less loop-again same-length same-length-2 returns)
+join-row-spec = tie.close (tie.spec Inv-loop μ-loop loop-holds slice-read-was mul-t14 slice-read-t19 shared-slice-read-t17 mul-t14-2 shared-slice-read-t19 merge-fact-of-requires slice-write-kinds mul-values slice-write-values add-i loop-less loop-again same-length same-length-2 returns)

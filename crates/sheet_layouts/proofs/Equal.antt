@@ -3,17 +3,18 @@
 use mathlib.Core.Path.{_≡_, refl, sym, ap, _∙_}
 use mathlib.Core.Bool.{Bool, true, false, _&&_, cond, false≢true}
 use mathlib.Core.List.{List}
-use Prim.Native.Nat.{ℕ, zero, suc, _+_, _/_, _%_, _<_}
+use Prim.Native.Nat.{ℕ, zero, suc, _+_, _/_, _%_, _≤_, _<_}
 use native.Mathlib.Numerals.{add-one}
 use native.Mathlib.Omega.{arith}
 use lib.Dec.{eqb}
 use borrow.Author.Count.{below-none, below-more}
+use borrow.Author.Tests.{eq-eqb, ne-eqb}
 use Rattle.model.specs.Sheet.{layout}
 use Rattle.model.specs.Fact.{equalLayouts, equalContainers}
 use Rattle.model.specs.Listing.{lowestFrom, lowest}
 use Rattle.model.proofs.Equality.{eqb-self, eqb-path, content-self, content-path}
 use Rattle.model.proofs.Tests.{both-left, both-right}
 use Rattle.sheet_layouts.proofs.Search.{None}
 
 module _ (sheet : List ℕ) where
   same-layout : (i j : ℕ) → equalLayouts sheet i j ≡ true → layout sheet i ≡ layout sheet j
@@ -60,6 +61,18 @@ module _ (sheet : List ℕ) where
 
   pub lowest-equal : (i j : ℕ) → lowest sheet i ≡ lowest sheet j → equalLayouts sheet i j ≡ true
   lowest-equal i j e = equal-layout i j (sym (least i .same) ∙ ap (layout sheet) e ∙ least j .same)
+
+  -- the two at once
+  pub by-lowest : (i j : ℕ) → eqb (lowest sheet i) (lowest sheet j) ≡ equalLayouts sheet i j
+  by-lowest i j = go (equalLayouts sheet i j) refl
+    where
+      go : (b : Bool) → equalLayouts sheet i j ≡ b → eqb (lowest sheet i) (lowest sheet j) ≡ b
+      go true t = eq-eqb (lowest sheet i) (lowest sheet j) (equal-lowest i j t)
+      go false t = ne-eqb (lowest sheet i) (lowest sheet j) (λ e. false≢true (sym t ∙ lowest-equal i j e))
+
+  pub lowest-within : (i : ℕ) → lowest sheet i ≤ i
+  lowest-within i =
+      let h : i < lowest sheet i → ⊥ = λ l. false≢true (sym (least i .none i l) ∙ equal-layout i i refl) in omega (arith, h)
 
   -- ---- container facts
 

@@ -11,18 +11,13 @@ use lib.Seq.{length-take-le}
 use borrow.Author.Tests.{ltb-true, ltb-false}
 use Rattle.model.specs.Fact.{equalContent, equalLayouts}
 use Rattle.model.specs.Sheet.{layout, layoutLength, layoutStart, slotKindsAt}
-use Rattle.model.proofs.Equality.{content-self}
 use Rattle.sheet.specs.Measured.{Accepted}
 use Rattle.sheet.specs.declared.Sizes.{Sizes}
 use Rattle.sheet.proofs.Counted.{counted}
 use Rattle.sheet.proofs.Laid.{laid}
 use Rattle.sheet.proofs.Inside.{layout-length-past}
 use Rattle.sheet.proofs.Asked.{measured, layout-fits}
-use Rattle.sheet_offsets.proofs.Content.{content-false}
-
-pub same-number : (sheet : List ℕ) {i j : ℕ} → i ≡ j → true ≡ equalLayouts sheet i j
-unfolding equalLayouts
-same-number sheet {i} {j} e = rw e (sym (content-self (layout sheet j)))
+use Rattle.sheet_layouts.proofs.Content.{content-false}
 
 module _ {sheet : List ℕ} {sizes : Sizes} (a : Accepted sheet sizes) (i : ℕ) where
   -- a layout that is not empty is one of the y

@@ -1,0 +1,54 @@
+-- `sheet_layouts::fill` meets its contract, by the law of loops that store an element a turn. Assumes nothing.
+use Prim.Native.Nat.{_-_}
+use lib.ListN.{length}
+use mathlib.Core.Path.{refl}
+use Rattle.memory.proofs.Turned.{Turned, start, turn}
+use Rattle.sheet_layouts.proofs.Classes.{filled}
+use native.Mathlib.Omega.{arith}
+use Rattle.sheet_layouts.proofs.fill.Statement.{statement}
+use Rattle.sheet_layouts.proofs.fill.Tie as tie
+
+abbrev Inv-loop : tie.InvT-loop
+Inv-loop classes₀ class i₀ classes i = Turned (λ j. class) classes₀ classes i
+
+abbrev μ-loop : tie.MeasureT-loop
+μ-loop classes₀ class i₀ classes i = length classes₀ - i
+
+loop-holds : tie.Need-loop-holds Inv-loop μ-loop
+loop-holds c = start _ _
+
+mul-classes : tie.Need-mul-classes Inv-loop μ-loop
+mul-classes c = omega arith
+
+slice-write-classes : tie.Need-slice-write-classes Inv-loop μ-loop
+slice-write-classes c = omega arith
+
+add-i : tie.Need-add-i Inv-loop μ-loop
+add-i c = omega arith
+
+loop-less : tie.Need-loop-less Inv-loop μ-loop
+loop-less c = omega arith
+
+loop-again : tie.Need-loop-again Inv-loop μ-loop
+loop-again c = turn (c .before .loop .inv) (c .loop-test .taken) refl
+
+same-length : tie.Need-same-length Inv-loop μ-loop
+same-length c = c .before .loop .inv .long
+
+returns : tie.Need-returns Inv-loop μ-loop
+returns c = filled (c .before .loop .inv) (c .loop-test .left)
+
+pub fill-spec : {M : Type 1} → statement M
+fill-spec =
+    tie.close
+    (tie.spec
+    Inv-loop
+    μ-loop
+    loop-holds
+    mul-classes
+    slice-write-classes
+    add-i
+    loop-less
+    loop-again
+    same-length
+    returns)
