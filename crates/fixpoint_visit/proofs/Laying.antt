@@ -1,4 +1,4 @@
--- What a visit and an offer do to tables in which rows lie.
+-- What a visit does to tables in which rows lie.
 -- Assumes nothing.
 use mathlib.Core.Path.{_≡_, refl, sym, ap, ap₂, _∙_}
 use mathlib.Core.Logic.{_≢_, _⊎_, inl, inr}
@@ -10,17 +10,17 @@ use native.Mathlib.Nat.{mul-le-mul-right}
 use native.Mathlib.Omega.{arith}
 use lib.ListN.{length, getD, set, length-map}
 use lib.Seq.{set-getD}
-use borrow.Author.Tests.{lt-ltb, le-ltb}
 use borrow.Rule.Slice.PartMut.{midOf, putMid, post-is, mid-len}
 use Rattle.model.specs.Fact.{Fact, kind, value, Row, joinRow}
-use Rattle.model.specs.Run.{rowAt, merged, news, State, visit, visits}
+use Rattle.model.specs.Run.{rowAt, merged, news}
 use Rattle.model.specs.Tables.{presentByte, presentBytes, rowCells, cells, factsOf}
-use Rattle.model.specs.declared.InstructionSuccessors.{InstructionSuccessors}
 use Rattle.finality.proofs.Joins.{length-joinRow}
-use Rattle.finality.proofs.Cells.{length-present, stacked-push, present-at, present-set, cells-part, cells-set}
+use Rattle.finality.proofs.Cells.{length-present, present-at, present-set, cells-part, cells-set}
 use Rattle.finality.proofs.Invariant.{stored}
 use Rattle.join.specs.Rows.{Encoded, JoinedRow}
-use Rattle.fixpoint_visit.specs.Laid.{Sized, RowsLaid, RowLaid, Visiting, Visit, StateLaid, successorAt, Offering, Offer}
+use Rattle.fixpoint_visit.specs.Laid.{Sized, RowsLaid, RowLaid}
+use Rattle.fixpoint_visit.specs.News.{rowsVisited}
+use Rattle.fixpoint_visit.specs.Visits.{JoinRequires, JoinEnsures}
 use Rattle.model.proofs.Facts.{facts-back}
 
 -- the row of q ends within the table
@@ -79,8 +79,8 @@ module _ (same : ℕ → ℕ → ℕ → ℕ → Bool) where
 
   module _ (s q : ℕ) (rowKinds rowValues present kinds values kinds′ values′ : List ℕ) where
     pub visit-absent : getD present q 0 ≡ 0 → kinds′ ≡ rowKinds → values′ ≡ rowValues
-        → Visit same s q rowKinds rowValues present kinds values (set present q 1) (putMid (q * s) (q * s + s - q * s) kinds kinds′) (putMid (q * s) (q * s + s - q * s) values values′) true
-    unfolding Visit merged news presentByte
+        → JoinEnsures same s q rowKinds rowValues present kinds values (set present q 1) (putMid (q * s) (q * s + s - q * s) kinds kinds′) (putMid (q * s) (q * s + s - q * s) values values′) true
+    unfolding JoinEnsures rowsVisited merged news presentByte
     visit-absent e k v rows copy t c h = (
       record {
         sized = sized-set s q rows x (t .sized) h (length-merged s (rowAt rows q) copy (c .sized) (t .sized q));
@@ -126,45 +126,11 @@ module _ (same : ℕ → ℕ → ℕ → ℕ → Bool) where
 
     pub visit-present : (r : Bool) → getD present q 0 ≢ 0
         → JoinedRow same (midOf (q * s) (q * s + s - q * s) kinds) (midOf (q * s) (q * s + s - q * s) values) rowKinds rowValues kinds′ values′ r
-        → Visit same s q rowKinds rowValues present kinds values present (putMid (q * s) (q * s + s - q * s) kinds kinds′) (putMid (q * s) (q * s + s - q * s) values values′) r
-    unfolding Visit
+        → JoinEnsures same s q rowKinds rowValues present kinds values present (putMid (q * s) (q * s + s - q * s) kinds kinds′) (putMid (q * s) (q * s + s - q * s) values values′) r
+    unfolding JoinEnsures rowsVisited
     visit-present r e j rows copy t c h =
         let found : (o : Row) × (rowAt rows q ≡ some o) = there (rowAt rows q) (λ z. e (rw (t .present-are) (present-at rows q ∙ z))) in
         visit-there r j rows copy t c h (found .0) (found .1)
-
-  -- ---- an offer
-
-  module _ (s : ℕ) (successors : InstructionSuccessors) (k : ℕ) (rowKinds rowValues present kinds values list : List ℕ) (top : ℕ) (present′ kinds′ values′ : List ℕ) where
-    module _ (r : Bool) (some-left : k < successors .len) (b : getD (successors .pcs) k 0 < length present) (v : Visit same s (getD (successors .pcs) k 0) rowKinds rowValues present kinds values present′ kinds′ values′ r)
-        (room : ℕ) (st : State) (copy : Row) (l : StateLaid s room st present kinds values list top) (c : RowLaid s copy rowKinds rowValues) where
-      visited-laid : RowsLaid s (set (st .rows) (getD (successors .pcs) k 0) (some (merged same (rowAt (st .rows) (getD (successors .pcs) k 0)) copy))) present′ kinds′ values′
-          × (r ≡ news same (rowAt (st .rows) (getD (successors .pcs) k 0)) copy)
-      unfolding Visit
-      visited-laid = v (st .rows) copy (l .rows-laid) c (omega (arith, rows-are s (st .rows) present kinds values (l .rows-laid)))
-
-    pub offer-push : (r : Bool) → k < successors .len → getD (successors .pcs) k 0 < length present
-        → Visit same s (getD (successors .pcs) k 0) rowKinds rowValues present kinds values present′ kinds′ values′ r → r ≡ true
-        → Offer same s successors k rowKinds rowValues present kinds values list top present′ kinds′ values′ (set list top (getD (successors .pcs) k 0)) (top + 1)
-    unfolding Offer successorAt visits visit
-    offer-push r i b v e room st copy l c h =
-        let is = visited-laid r i b v room st copy l c in
-        rw (lt-ltb k (successors .len) i, ← (is .1), e) (record {
-          rows-laid = is .0;
-          list-is = rw (l .list-is, l .top-is) (stacked-push room (st .list) (getD (successors .pcs) k 0) h);
-          top-is = omega (arith, l .top-is);
-        })
-
-    pub offer-quiet : (r : Bool) → k < successors .len → getD (successors .pcs) k 0 < length present
-        → Visit same s (getD (successors .pcs) k 0) rowKinds rowValues present kinds values present′ kinds′ values′ r → r ≡ false
-        → Offer same s successors k rowKinds rowValues present kinds values list top present′ kinds′ values′ list top
-    unfolding Offer successorAt visits visit
-    offer-quiet r i b v e room st copy l c h =
-        let is = visited-laid r i b v room st copy l c in
-        rw (lt-ltb k (successors .len) i, ← (is .1), e) (record { rows-laid = is .0; list-is = l .list-is; top-is = l .top-is })
-
-    pub offer-none : successors .len ≤ k → Offer same s successors k rowKinds rowValues present kinds values list top present kinds values list top
-    unfolding Offer successorAt visits
-    offer-none i room st copy l c h = rw (le-ltb k (successors .len) i) l
 
 -- ---- what a visit asks, put to use
 
@@ -179,38 +145,23 @@ encoded s q rows present kinds values t h old m =
 
 module _ {q : ℕ} {rowKinds rowValues present kinds values : List ℕ} where
   -- the row of q lies within both tables
-  pub visiting-end : Visiting q rowKinds rowValues present kinds values
+  pub visiting-end : JoinRequires q rowKinds rowValues present kinds values
       → (q * length rowKinds + length rowKinds ≤ length kinds) × (q * length rowKinds + length rowKinds ≤ length values)
-  visiting-end v = let h = row-end (length rowKinds) (v .below) in (omega (arith, h, v .kinds-length), omega (arith, h, v .values-length))
+  visiting-end v = let h = row-end (length rowKinds) (v .below) in (omega (arith, h, v .visitable .kinds-length), omega (arith, h, v .visitable .values-length))
 
-  pub visiting-row : Visiting q rowKinds rowValues present kinds values → getD present q 0 ≢ 0
+  pub visiting-row : JoinRequires q rowKinds rowValues present kinds values → getD present q 0 ≢ 0
       → Encoded (midOf (q * length rowKinds) (q * length rowKinds + length rowKinds - q * length rowKinds) kinds)
       (midOf (q * length rowKinds) (q * length rowKinds + length rowKinds - q * length rowKinds) values)
   visiting-row v e =
-      let t = v .laid in
-      let found : (o : Row) × (rowAt (v .rows) q ≡ some o) = there (rowAt (v .rows) q) (λ z. e (rw (t .present-are) (present-at (v .rows) q ∙ z))) in
-      let h : q < length (v .rows) = omega (arith, v .below, rows-are (length rowKinds) (v .rows) present kinds values t) in
-      encoded (length rowKinds) q (v .rows) present kinds values t h (found .0) (found .1)
+      let t = v .visitable .laid in
+      let found : (o : Row) × (rowAt (v .visitable .rows) q ≡ some o) = there (rowAt (v .visitable .rows) q) (λ z. e (rw (t .present-are) (present-at (v .visitable .rows) q ∙ z))) in
+      let h : q < length (v .visitable .rows) = omega (arith, v .below, rows-are (length rowKinds) (v .visitable .rows) present kinds values t) in
+      encoded (length rowKinds) q (v .visitable .rows) present kinds values t h (found .0) (found .1)
 
   -- and as long as the row to join
-  pub visiting-lengths : Visiting q rowKinds rowValues present kinds values
+  pub visiting-lengths : JoinRequires q rowKinds rowValues present kinds values
       → (length rowKinds ≡ length (midOf (q * length rowKinds) (q * length rowKinds + length rowKinds - q * length rowKinds) kinds))
       × (length rowValues ≡ length (midOf (q * length rowKinds) (q * length rowKinds + length rowKinds - q * length rowKinds) kinds))
   visiting-lengths v =
       let k = mid-len (q * length rowKinds) (q * length rowKinds + length rowKinds) kinds (visiting-end v .0) in
-      (omega (arith, k), omega (arith, k, v .row-values-length))
-
--- what an offer asks is what the visit in it asks
-pub offering-visit : {successors : InstructionSuccessors} {k top : ℕ} {rowKinds rowValues present kinds values list : List ℕ}
-    → Offering successors k top rowKinds rowValues present kinds values list → k < successors .len
-    → Visiting (getD (successors .pcs) k 0) rowKinds rowValues present kinds values
-offering-visit o h = record {
-  below = o .below h;
-  row-values-length = o .row-values-length;
-  kinds-length = o .kinds-length;
-  values-length = o .values-length;
-  rows = o .st .rows;
-  copy = o .copy;
-  laid = o .laid .rows-laid;
-  row-laid = o .row-laid;
-}
+      (omega (arith, k), omega (arith, k, v .visitable .row-values-length))

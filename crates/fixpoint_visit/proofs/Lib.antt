@@ -1,3 +1,3 @@
--- The laws of this crate. For other crates to cite: Laying, Offers.
+-- The laws of this crate, in order: one visit, then those of the successors.
 pub mod Laying
-pub mod Offers
+pub mod Visits

@@ -1,2 +1,4 @@
--- How the state of a run lies in the lent slices, and what a visit and an offer make of it
+-- How rows lie in the lent slices, and what visits make of them
 pub mod Laid
+pub mod News
+pub mod Visits

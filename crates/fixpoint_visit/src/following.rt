@@ -1,57 +1,114 @@
 // The successors of an instruction, at most two.
+ghost use mathlib.Core.Path.{_≡_};
 ghost use lib.ListN.{length};
 ghost use Rattle.model.specs.Successors.{sheetSuccessors};
 ghost use Rattle.sheet_layouts.specs.Classes.{equalBy};
-ghost use Rattle.fixpoint_visit.specs.Laid.{Following, Follow};
-use crate::visiting::offer;
+ghost use Rattle.fixpoint_visit.specs.News.{withNews};
+ghost use Rattle.fixpoint_visit.specs.Visits.{NextRequires, NextEnsures, SuccessorsRequires, SuccessorsEnsures};
+use crate::visiting::join_into;
 use cfg::instruction_successors;
 use model::AnalysisKind;
+use model::InstructionSuccessors;
 use sheet::Sizes;
 use sheet_fields::instruction_at;
 
-// "Then each successor in order": each of p's is offered the copy. The list's new top.
-pub fn offer_successors(
+// The k-th successor, if there is one: whether its row is new or changed.
+fn join_next(
     which: AnalysisKind,
-    sheet: &[u8],
-    sizes: Sizes,
     classes: &[u16],
-    p: usize,
-    from: usize,
+    successors: InstructionSuccessors,
+    k: usize,
     row_kinds: &[u8],
     row_values: &[u64],
     present: &mut [u8],
     kinds: &mut [u8],
     values: &mut [u64],
-    list: &mut [u16],
-) -> usize
-    requires { ⌜ Following (equalBy which (now classes)) (now sheet) sizes p from (now «row_kinds») (now «row_values») (now present) (now kinds) (now values) (now list) ⌝ }
-    ensures { λ r. ⌜ Follow (equalBy which (now (classes .entry))) (length (now («row_kinds» .entry))) (sheetSuccessors (now (sheet .entry)) p) (now («row_kinds» .entry)) (now («row_values» .entry)) (now (present .entry)) (now (kinds .entry)) (now (values .entry)) (now (list .entry)) from (now (present .exit)) (now (kinds .exit)) (now (values .exit)) (now (list .exit)) r ⌝ }
+) -> bool
+    requires { ⌜ NextRequires successors k (now «row_kinds») (now «row_values») (now present) (now kinds) (now values) ⌝ }
+    ensures { λ r. ⌜ NextEnsures (equalBy which (now (classes .entry))) successors k (now («row_kinds» .entry)) (now («row_values» .entry)) (now (present .entry)) (now (kinds .entry)) (now (values .entry)) (now (present .exit)) (now (kinds .exit)) (now (values .exit)) r ⌝ }
+{
+    let len = successors.len as usize;
+    if k < len {
+        let pcs = successors.pcs;
+        let q = pcs[k];
+        return join_into(
+            which,
+            classes,
+            q,
+            row_kinds,
+            row_values,
+            present,
+            kinds,
+            values,
+        );
+    }
+    false
+}
+
+// Those of the successors that had news, in order.
+fn with_news(successors: InstructionSuccessors, first: bool, second: bool) -> InstructionSuccessors
+    ensures { λ r. ⌜ r ≡ withNews successors first second ⌝ }
+{
+    let pcs = successors.pcs;
+    if first {
+        if second {
+            return successors;
+        }
+        return InstructionSuccessors {
+            pcs: [pcs[0], 0],
+            len: 1,
+        };
+    }
+    if second {
+        return InstructionSuccessors {
+            pcs: [pcs[1], 0],
+            len: 1,
+        };
+    }
+    InstructionSuccessors {
+        pcs: [0, 0],
+        len: 0,
+    }
+}
+
+// "Then each successor in order": each of p's gets the copy or is joined with it. Those that had news, which are to be added to the list.
+pub fn visit_successors(
+    which: AnalysisKind,
+    sheet: &[u8],
+    sizes: Sizes,
+    classes: &[u16],
+    p: usize,
+    row_kinds: &[u8],
+    row_values: &[u64],
+    present: &mut [u8],
+    kinds: &mut [u8],
+    values: &mut [u64],
+) -> InstructionSuccessors
+    requires { ⌜ SuccessorsRequires (now sheet) sizes p (now «row_kinds») (now «row_values») (now present) (now kinds) (now values) ⌝ }
+    ensures { λ r. ⌜ SuccessorsEnsures (equalBy which (now (classes .entry))) (sheetSuccessors (now (sheet .entry)) p) (now («row_kinds» .entry)) (now («row_values» .entry)) (now (present .entry)) (now (kinds .entry)) (now (values .entry)) (now (present .exit)) (now (kinds .exit)) (now (values .exit)) r ⌝ }
 {
     let next = instruction_successors(sizes.code_count, p, instruction_at(sheet, p));
-    let top = offer(
+    let first = join_next(
         which,
         classes,
         next,
         0,
-        from,
         row_kinds,
         row_values,
         present,
         kinds,
         values,
-        list,
     );
-    offer(
+    let second = join_next(
         which,
         classes,
         next,
         1,
-        top,
         row_kinds,
         row_values,
         present,
         kinds,
         values,
-        list,
-    )
+    );
+    with_news(next, first, second)
 }
