@@ -11,11 +11,12 @@ use borrow.Rule.Slice.PartMut.{midOf}
 use Rattle.model.specs.Sheet.{codeCount, firstRange}
 use Rattle.model.specs.Successors.{sheetSuccessors}
 use Rattle.model.specs.Fact.{kind, value, Row, equalKnown}
-use Rattle.model.specs.Run.{rowAt, carry}
+use Rattle.model.specs.Run.{rowAt}
 use Rattle.model.specs.Tables.{rowCells, factsOf, factIn, lengthTable}
 use Rattle.model.specs.Transfer.{indexTransfer, transferRow}
 use Rattle.model.specs.Analyses.{analysis}
 use Rattle.model.specs.declared.AnalysisKind.{AnalysisKind}
+use Rattle.model.specs.declared.InstructionSuccessors.{InstructionSuccessors}
 use Rattle.model.specs.declared.AnalysisKind.the-variants.{Constant, IndexCheck, Container}
 use Rattle.finality.proofs.Lawful.{lawful}
 use Rattle.memory.specs.Front.{Holds}
@@ -23,8 +24,11 @@ use Rattle.sheet.specs.Measured.{Accepted}
 use Rattle.sheet.specs.declared.Sizes.{Sizes}
 use Rattle.sheet.proofs.Counted.{counted}
 use Rattle.fact_row.specs.Rows.{Lies, Tracked}
-use Rattle.fixpoint_visit.specs.Laid.{RowsLaid, RowLaid, Following, Follow}
-use Rattle.fixpoint_step.specs.Stepped.{ranAnalysis, Stepping, Step, Copied}
+use Rattle.sheet_layouts.specs.Classes.{equalBy}
+use Rattle.sheet_layouts.proofs.Classes.{equal-by}
+use Rattle.fixpoint_visit.specs.Laid.{RowsLaid, RowLaid}
+use Rattle.fixpoint_visit.specs.Visits.{SuccessorsRequires, SuccessorsEnsures}
+use Rattle.fixpoint_step.specs.Stepped.{StepRequires, StepEnsures, CopyEnsures}
 use Rattle.fixpoint_visit.proofs.Laying.{row-end, mid-row, rows-are}
 use Rattle.model.proofs.Facts.{facts-back}
 
@@ -51,8 +55,8 @@ module _ (s p : ℕ) (rows : List (Option Row)) (present kinds values : List ℕ
   part-row : factsOf (midOf (p * s) (p * s + s - p * s) kinds) (midOf (p * s) (p * s + s - p * s) values) ≡ row
   part-row = ap₂ factsOf part-kinds part-values ∙ facts-back row
 
-module _ {which : AnalysisKind} {sheet : List ℕ} {sizes : Sizes} {firsts starts slots lengthKinds lengthValues : List ℕ} {p top : ℕ} {present kinds values rowKinds rowValues list : List ℕ}
-    (t : Stepping which sheet sizes firsts starts slots lengthKinds lengthValues p top present kinds values rowKinds rowValues list) where
+module _ {which : AnalysisKind} {sheet : List ℕ} {sizes : Sizes} {firsts classes slots lengthKinds lengthValues : List ℕ} {p : ℕ} {present kinds values rowKinds rowValues : List ℕ}
+    (t : StepRequires which sheet sizes firsts classes slots lengthKinds lengthValues p present kinds values rowKinds rowValues) where
   present-below : p < length present
   present-below = rw (t .present-length) (t .below)
 
@@ -60,22 +64,22 @@ module _ {which : AnalysisKind} {sheet : List ℕ} {sizes : Sizes} {firsts start
   pub step-end : (p * length slots + length slots ≤ length kinds) × (p * length slots + length slots ≤ length values) × (p * length slots + length slots ≤ 268431360)
   step-end =
       let k = row-end (length slots) (t .below) in
-      let m = mul-le-mul-right (length slots) (t .lending .little) in
-      (omega (arith, t .kinds-length), omega (arith, t .values-length), omega (arith, t .lending .few-slots))
+      let m = mul-le-mul-right (length slots) (t .tracked .little) in
+      (omega (arith, t .kinds-length), omega (arith, t .values-length), omega (arith, t .tracked .few-slots))
 
   -- what the transfer asks
   pub transfer-asks : (Accepted sheet sizes × Holds (firstRange sheet) (codeCount sheet) firsts × (p < sizes .«code_count»))
       × (Tracked slots (midOf (p * length slots) (p * length slots + length slots - p * length slots) kinds) (midOf (p * length slots) (p * length slots + length slots - p * length slots) values)
       × (length rowKinds ≡ length slots) × (length rowValues ≡ length slots))
   transfer-asks =
-      let k = part-kinds (length slots) p (t .st .rows) present kinds values (t .laid .rows-laid) present-below (t .row) (t .stands) in
-      let v = part-values (length slots) p (t .st .rows) present kinds values (t .laid .rows-laid) present-below (t .row) (t .stands) in
-      let back = part-row (length slots) p (t .st .rows) present kinds values (t .laid .rows-laid) present-below (t .row) (t .stands) in
-      let z : length (t .row) ≡ length slots = t .laid .rows-laid .sized p (t .row) (t .stands) in (
-        (t .lending .accepted, t .lending .firsts-are, rw (counted (t .lending .accepted .are) .code-count) (t .below)),
+      let k = part-kinds (length slots) p (t .rows) present kinds values (t .laid) present-below (t .row) (t .stands) in
+      let v = part-values (length slots) p (t .rows) present kinds values (t .laid) present-below (t .row) (t .stands) in
+      let back = part-row (length slots) p (t .rows) present kinds values (t .laid) present-below (t .row) (t .stands) in
+      let z : length (t .row) ≡ length slots = t .laid .sized p (t .row) (t .stands) in (
+        (t .index .accepted, t .index .firsts-are, rw (counted (t .index .accepted .are) .code-count) (t .below)),
         (
           record {
-            ascending = t .lending .ascending;
+            ascending = t .tracked .ascending;
             kinds-long = ap length k ∙ length-map (t .row) kind ∙ z;
             values-long = ap length v ∙ length-map (t .row) value ∙ z;
             lies = record { kinds-are = k ∙ ap (map kind) (sym back); values-are = v ∙ ap (map value) (sym back) };
@@ -100,43 +104,41 @@ module _ {which : AnalysisKind} {sheet : List ℕ} {sizes : Sizes} {firsts start
         }
       where
         transferred-length : (x : Row) → length x ≡ length slots → length (transferRow which sheet slots (lengthTable lengthKinds lengthValues) p x) ≡ length slots
-        transferred-length x h = unfold analysis in (lawful which sheet slots (lengthTable lengthKinds lengthValues) (t .entry) (t .lending .entry-length) .transfer-length p x h)
+        transferred-length x h = unfold analysis in (lawful which sheet slots (lengthTable lengthKinds lengthValues) x h .transfer-length p x h)
 
-    pub copied : Copied which sheet slots lengthKinds lengthValues p present kinds values rowKinds′ rowValues′
-    unfolding Copied
+    pub copied : CopyEnsures which sheet slots lengthKinds lengthValues p present kinds values rowKinds′ rowValues′
+    unfolding CopyEnsures
     copied = copy-laid
 
     -- it has s facts
     copy-length : (length rowKinds′ ≡ length slots) × (length rowValues′ ≡ length slots)
     copy-length =
-        let c = copy-laid (t .st .rows) (t .row) (t .laid .rows-laid) (t .stands) in
+        let c = copy-laid (t .rows) (t .row) (t .laid) (t .stands) in
         (ap length (c .kinds-are) ∙ simp length-map (c .sized), ap length (c .values-are) ∙ simp length-map (c .sized))
 
-    -- what the offers ask
-    pub following : Following (equalKnown which sheet) sheet sizes starts p top rowKinds′ rowValues′ present kinds values list
-    unfolding carry ranAnalysis analysis
-    following =
+    -- what the visits ask
+    pub visiting : SuccessorsRequires sheet sizes p rowKinds′ rowValues′ present kinds values
+    visiting =
         let w = copy-length in record {
-          accepted = t .lending .accepted;
-          starts-are = t .lending .starts-are;
+          accepted = t .index .accepted;
           below = t .below;
-          little = t .lending .little;
+          little = t .tracked .little;
           present-length = t .present-length;
-          list-little = t .list-little;
-          row-values-length = w .1 ∙ sym (w .0);
-          kinds-length = rw (w .0, t .present-length) (t .kinds-length);
-          values-length = rw (w .0, t .present-length) (t .values-length);
-          st = t .st;
-          copy = transferRow which sheet slots (lengthTable lengthKinds lengthValues) p (t .row);
-          laid = rw (w .0) (t .laid);
-          row-laid = rw (w .0) (copy-laid (t .st .rows) (t .row) (t .laid .rows-laid) (t .stands));
-          room = t .room;
+          visitable = record {
+            row-values-length = w .1 ∙ sym (w .0);
+            kinds-length = rw (w .0, t .present-length) (t .kinds-length);
+            values-length = rw (w .0, t .present-length) (t .values-length);
+            rows = t .rows;
+            copy = transferRow which sheet slots (lengthTable lengthKinds lengthValues) p (t .row);
+            laid = rw (w .0) (t .laid);
+            row-laid = rw (w .0) (copy-laid (t .rows) (t .row) (t .laid) (t .stands));
+          };
         }
 
     -- what they make of it is the step
-    pub stepped : (present′ kinds′ values′ list′ : List ℕ) (top′ : ℕ)
-        → Follow (equalKnown which sheet) (length rowKinds′) (sheetSuccessors sheet p) rowKinds′ rowValues′ present kinds values list top present′ kinds′ values′ list′ top′
-        → Step which sheet slots lengthKinds lengthValues p present kinds values list top present′ kinds′ values′ list′ top′
-    unfolding Follow Step carry ranAnalysis analysis
-    stepped present′ kinds′ values′ list′ top′ o entry room st row l m h =
-        (rw (copy-length .0) at o) room st (transferRow which sheet slots (lengthTable lengthKinds lengthValues) p row) l (copy-laid (st .rows) row (l .rows-laid) m) h
+    pub stepped : (present′ kinds′ values′ : List ℕ) (r : InstructionSuccessors)
+        → SuccessorsEnsures (equalBy which classes) (sheetSuccessors sheet p) rowKinds′ rowValues′ present kinds values present′ kinds′ values′ r
+        → StepEnsures which sheet slots lengthKinds lengthValues p present kinds values present′ kinds′ values′ r
+    unfolding SuccessorsEnsures StepEnsures
+    stepped present′ kinds′ values′ r o rows row l m =
+        (rw (copy-length .0, equal-by (t .index .classes-are) which) at o) rows (transferRow which sheet slots (lengthTable lengthKinds lengthValues) p row) l (copy-laid rows row l m)

@@ -1,33 +1,32 @@
 // One step of a run, from the entry that was taken: "A copy of that instruction's row goes through its transfer. Then each successor in order".
-ghost use Rattle.fixpoint_step.specs.Stepped.{Stepping, Step, Copied};
-use fixpoint_visit::offer_successors;
+ghost use Rattle.fixpoint_step.specs.Stepped.{StepRequires, StepEnsures, CopyEnsures};
+use fixpoint_visit::visit_successors;
 use model::AnalysisKind;
 use model::FactCell;
+use model::InstructionSuccessors;
 use sheet::Sizes;
 use transfer::transfer_row;
 
 // "A copy of that instruction's row goes through its transfer. Then each successor in order": p is the entry taken, the row scratch holds
-// the copy. The list's new top.
+// the copy. Those of the successors that had news, which are to be added to the list.
 pub fn step(
     which: AnalysisKind,
     sheet: &[u8],
     sizes: Sizes,
     firsts: &[u16],
-    starts: &[u16],
+    classes: &[u16],
     slots: &[u16],
     length_kinds: &[u8],
     length_values: &[u16],
     p: usize,
-    top: usize,
     present: &mut [u8],
     kinds: &mut [u8],
     values: &mut [u64],
     row_kinds: &mut [u8],
     row_values: &mut [u64],
-    list: &mut [u16],
-) -> usize
-    requires { ⌜ Stepping which (now sheet) sizes (now firsts) (now starts) (now slots) (now «length_kinds») (now «length_values») p top (now present) (now kinds) (now values) (now «row_kinds») (now «row_values») (now list) ⌝ }
-    ensures { λ r. ⌜ Step which (now (sheet .entry)) (now (slots .entry)) (now («length_kinds» .entry)) (now («length_values» .entry)) p (now (present .entry)) (now (kinds .entry)) (now (values .entry)) (now (list .entry)) top (now (present .exit)) (now (kinds .exit)) (now (values .exit)) (now (list .exit)) r × Copied which (now (sheet .entry)) (now (slots .entry)) (now («length_kinds» .entry)) (now («length_values» .entry)) p (now (present .entry)) (now (kinds .entry)) (now (values .entry)) (now («row_kinds» .exit)) (now («row_values» .exit)) ⌝ }
+) -> InstructionSuccessors
+    requires { ⌜ StepRequires which (now sheet) sizes (now firsts) (now classes) (now slots) (now «length_kinds») (now «length_values») p (now present) (now kinds) (now values) (now «row_kinds») (now «row_values») ⌝ }
+    ensures { λ r. ⌜ StepEnsures which (now (sheet .entry)) (now (slots .entry)) (now («length_kinds» .entry)) (now («length_values» .entry)) p (now (present .entry)) (now (kinds .entry)) (now (values .entry)) (now (present .exit)) (now (kinds .exit)) (now (values .exit)) r × CopyEnsures which (now (sheet .entry)) (now (slots .entry)) (now («length_kinds» .entry)) (now («length_values» .entry)) p (now (present .entry)) (now (kinds .entry)) (now (values .entry)) (now («row_kinds» .exit)) (now («row_values» .exit)) ⌝ }
 {
     let s = slots.len();
     let at = p * s;
@@ -49,18 +48,16 @@ pub fn step(
         row_kinds,
         row_values,
     );
-    offer_successors(
+    visit_successors(
         which,
         sheet,
         sizes,
-        starts,
+        classes,
         p,
-        top,
         row_kinds,
         row_values,
         present,
         kinds,
         values,
-        list,
     )
 }

@@ -1,31 +1,32 @@
 -- `step` meets its contract: the copy goes through the transfer, then to each successor.
 -- Assumes nothing.
 use native.Mathlib.Omega.{arith}
-use Rattle.fixpoint_step.proofs.Stepping.{step-end, transfer-asks, following, stepped, copied}
+use Rattle.fixpoint_step.proofs.Stepping.{step-end, transfer-asks, visiting, stepped, copied}
+use borrow.Author.Needs.{needs}
 use Rattle.fixpoint_step.proofs.step.Statement.{statement}
 use Rattle.fixpoint_step.proofs.step.Tie as tie
 use Rattle.fixpoint_step.proofs.step.Reads as reads
 use Rattle.fixpoint_step.proofs.step.Lts as lts
-use Rattle.fixpoint_visit.proofs.offer_successors.Reads as offer-successors-reads
+use Rattle.fixpoint_visit.proofs.visit_successors.Reads as visit-successors-reads
 use Rattle.transfer.proofs.transfer_row.Reads as transfer-row-reads
 
 mul-at : tie.Need-mul-at
-mul-at c = omega (arith, step-end (c .before .before .before .before .before .before .before .before .before .before .before .before .pre))
+mul-at c = omega (arith, step-end (c .before .before .before .before .before .before .before .before .before .before .before .pre))
 
 add-end : tie.Need-add-end
-add-end c = omega (arith, step-end (c .before .before .before .before .before .before .before .before .before .before .before .before .pre))
+add-end c = omega (arith, step-end (c .before .before .before .before .before .before .before .before .before .before .before .pre))
 
-shared-slice-read-t22 : tie.Need-shared-slice-read-t22
-shared-slice-read-t22 c = omega (arith, c .before .before .before .before .before .before .before .before .before .before .before .before .before .pre .below, c .before .before .before .before .before .before .before .before .before .before .before .before .before .pre .lending .length-kinds-length)
+shared-slice-read-t20 : tie.Need-shared-slice-read-t20
+shared-slice-read-t20 c = omega (arith, c .before .before .before .before .before .before .before .before .before .before .before .before .pre .below, c .before .before .before .before .before .before .before .before .before .before .before .before .pre .index .length-kinds-length)
 
-mul-t23 : tie.Need-mul-t23
-mul-t23 c = omega (arith, c .before .before .before .before .before .before .before .before .before .before .before .before .before .pre .below, c .before .before .before .before .before .before .before .before .before .before .before .before .before .pre .lending .little)
+mul-t21 : tie.Need-mul-t21
+mul-t21 c = omega (arith, c .before .before .before .before .before .before .before .before .before .before .before .before .pre .below, c .before .before .before .before .before .before .before .before .before .before .before .before .pre .tracked .little)
 
-shared-slice-read-t25 : tie.Need-shared-slice-read-t25
-shared-slice-read-t25 c = omega (arith, c .before .before .before .before .before .before .before .before .before .before .before .before .before .before .pre .below, c .before .before .before .before .before .before .before .before .before .before .before .before .before .before .pre .lending .length-values-length)
+shared-slice-read-t23 : tie.Need-shared-slice-read-t23
+shared-slice-read-t23 c = omega (arith, c .before .before .before .before .before .before .before .before .before .before .before .before .before .pre .below, c .before .before .before .before .before .before .before .before .before .before .before .before .before .pre .index .length-values-length)
 
-cast-t26 : tie.Need-cast-t26
-cast-t26 c = omega (arith, c .shared-slice-known8 .given (c .before .before .before .before .before .before .before .before .before .before .before .before .before .before .args .p))
+cast-t24 : tie.Need-cast-t24
+cast-t24 c = omega (arith, c .shared-slice-known8 .given (c .before .before .before .before .before .before .before .before .before .before .before .before .before .args .p))
 
 sub-transfer-row : tie.Need-sub-transfer-row
 sub-transfer-row c = omega arith
@@ -34,10 +35,10 @@ part-transfer-row-start : tie.Need-part-transfer-row-start
 part-transfer-row-start c = omega arith
 
 part-transfer-row-end : tie.Need-part-transfer-row-end
-part-transfer-row-end c = omega (arith, step-end (c .before .before .before .before .before .before .before .before .before .before .before .before .before .before .before .pre))
+part-transfer-row-end c = omega (arith, step-end (c .before .before .before .before .before .before .before .before .before .before .before .before .before .before .pre))
 
 mul-transfer-row : tie.Need-mul-transfer-row
-mul-transfer-row c = omega (arith, step-end (c .before .before .before .before .before .before .before .before .before .before .before .before .before .before .before .before .pre))
+mul-transfer-row c = omega (arith, step-end (c .before .before .before .before .before .before .before .before .before .before .before .before .before .before .before .pre))
 
 sub-transfer-row-2 : tie.Need-sub-transfer-row-2
 sub-transfer-row-2 c = omega arith
@@ -46,34 +47,31 @@ part-transfer-row-start-2 : tie.Need-part-transfer-row-start-2
 part-transfer-row-start-2 c = omega arith
 
 part-transfer-row-end-2 : tie.Need-part-transfer-row-end-2
-part-transfer-row-end-2 c = omega (arith, step-end (c .before .before .before .before .before .before .before .before .before .before .before .before .before .before .before .before .before .pre))
+part-transfer-row-end-2 c = omega (arith, step-end (c .before .before .before .before .before .before .before .before .before .before .before .before .before .before .before .before .pre))
 
 transfer-row-requires : tie.Need-transfer-row-requires
-transfer-row-requires c κs = transfer-asks (c .before .before .before .before .before .before .before .before .before .before .before .before .before .before .before .before .before .before .before .before .pre)
+transfer-row-requires c κs = transfer-asks (c .before .before .before .before .before .before .before .before .before .before .before .before .before .before .before .before .before .before .before .pre)
 
-offer-successors-requires : tie.Need-offer-successors-requires
-offer-successors-requires c κs = following (c .before .before .before .before .before .before .before .before .before .before .before .before .before .before .before .before .before .before .before .before .before .before .before .before .before .before .before .before .before .before .before .pre) _ _ (c .before .before .before .before .before .before .before .before .before .before .transfer-row .ensures)
+visit-successors-requires : tie.Need-visit-successors-requires
+visit-successors-requires c κs = visiting (c .before .before .before .before .before .before .before .before .before .before .before .before .before .before .before .before .before .before .before .before .before .before .before .before .before .before .before .before .before .pre) _ _ (c .before .before .before .before .before .before .before .before .before .transfer-row .ensures)
 
 same-length : tie.Need-same-length
-same-length c = (c .before .before .before .before .before .before .before .before .offer-successors .kept .1 .1 .1 .1 .1 .1 .1 .1 .0)
+same-length c = c .before .before .before .before .before .before .visit-successors .kept .1 .1 .1 .1 .1 .1 .1 .0
 
 same-length-2 : tie.Need-same-length-2
-same-length-2 c = (c .before .before .before .before .before .before .before .before .offer-successors .kept .1 .1 .1 .1 .1 .1 .1 .1 .1 .0)
+same-length-2 c = c .before .before .before .before .before .before .visit-successors .kept .1 .1 .1 .1 .1 .1 .1 .1 .0
 
 same-length-3 : tie.Need-same-length-3
-same-length-3 c = (c .before .before .before .before .before .before .before .before .offer-successors .kept .1 .1 .1 .1 .1 .1 .1 .1 .1 .1 .0)
+same-length-3 c = c .before .before .before .before .before .before .visit-successors .kept .1 .1 .1 .1 .1 .1 .1 .1 .1 .0
 
 same-length-4 : tie.Need-same-length-4
-same-length-4 c = (c .before .before .before .before .before .before .before .before .before .before .before .before .before .before .before .before .before .before .before .transfer-row .kept .1 .1 .1 .1 .1 .1 .1 .1 .1 .0)
+same-length-4 c = c .before .before .before .before .before .before .before .before .before .before .before .before .before .before .before .before .transfer-row .kept .1 .1 .1 .1 .1 .1 .1 .1 .1 .0
 
 same-length-5 : tie.Need-same-length-5
-same-length-5 c = (c .before .before .before .before .before .before .before .before .before .before .before .before .before .before .before .before .before .before .before .transfer-row .kept .1 .1 .1 .1 .1 .1 .1 .1 .1 .1 .0)
-
-same-length-6 : tie.Need-same-length-6
-same-length-6 c = (c .before .before .before .before .before .before .before .before .offer-successors .kept .1 .1 .1 .1 .1 .1 .1 .1 .1 .1 .1 .0)
+same-length-5 c = c .before .before .before .before .before .before .before .before .before .before .before .before .before .before .before .before .transfer-row .kept .1 .1 .1 .1 .1 .1 .1 .1 .1 .1 .0
 
 returns : tie.Need-returns
-returns c = (stepped (c .before .before .before .before .before .before .before .before .before .before .before .before .before .before .before .before .before .before .before .before .before .before .before .before .before .before .before .before .before .before .before .before .before .before .before .before .before .before .before .before .pre) _ _ (c .before .before .before .before .before .before .before .before .before .before .before .before .before .before .before .before .before .before .before .transfer-row .ensures) _ _ _ _ _ (c .before .before .before .before .before .before .before .before .offer-successors .ensures), copied (c .before .before .before .before .before .before .before .before .before .before .before .before .before .before .before .before .before .before .before .before .before .before .before .before .before .before .before .before .before .before .before .before .before .before .before .before .before .before .before .before .pre) _ _ (c .before .before .before .before .before .before .before .before .before .before .before .before .before .before .before .before .before .before .before .transfer-row .ensures))
+returns c = (stepped (c .before .before .before .before .before .before .before .before .before .before .before .before .before .before .before .before .before .before .before .before .before .before .before .before .before .before .before .before .before .before .before .before .before .before .before .before .pre) _ _ (c .before .before .before .before .before .before .before .before .before .before .before .before .before .before .before .before .transfer-row .ensures) _ _ _ _ (c .before .before .before .before .before .before .visit-successors .ensures), copied (c .before .before .before .before .before .before .before .before .before .before .before .before .before .before .before .before .before .before .before .before .before .before .before .before .before .before .before .before .before .before .before .before .before .before .before .before .pre) _ _ (c .before .before .before .before .before .before .before .before .before .before .before .before .before .before .before .before .transfer-row .ensures))
 
 pub step-spec : {M : Type 1} → statement M
 step-spec =
@@ -81,10 +79,10 @@ step-spec =
     (tie.spec
     mul-at
     add-end
-    shared-slice-read-t22
-    mul-t23
-    shared-slice-read-t25
-    cast-t26
+    shared-slice-read-t20
+    mul-t21
+    shared-slice-read-t23
+    cast-t24
     sub-transfer-row
     part-transfer-row-start
     part-transfer-row-end
@@ -93,11 +91,10 @@ step-spec =
     part-transfer-row-start-2
     part-transfer-row-end-2
     transfer-row-requires
-    offer-successors-requires
+    visit-successors-requires
     same-length
     same-length-2
     same-length-3
     same-length-4
     same-length-5
-    same-length-6
     returns)
