@@ -1,55 +1,121 @@
 -- The whole run: from the first row, through the loop, to what is left.
 -- Assumes nothing.
 use mathlib.Core.Path.{_≡_, refl, sym, ap, _∙_, subst}
-use mathlib.Core.List.{List, [], _∷_}
-use mathlib.Core.Option.{some}
-use Prim.Native.Nat.{ℕ}
-use lib.ListN.{length}
+use mathlib.Core.Bool.{Bool, true, cond}
+use mathlib.Core.List.{List, [], _∷_, map}
+use mathlib.Core.Option.{Option, none, some}
+use Prim.Native.Nat.{ℕ, _+_, _*_, _≤_, _<_}
+use native.Mathlib.Nat.{mul-le-mul-right}
+use native.Mathlib.Omega.{arith}
+use lib.ListN.{length, set, replicate, length-map, length-replicate, length-set}
 use Rattle.model.specs.Sheet.{codeCount}
-use Rattle.model.specs.Fact.{Row, equalKnown}
-use Rattle.model.specs.Run.{run}
+use Rattle.model.specs.Fact.{kind, value, Row, equalKnown}
+use Rattle.model.specs.Run.{Analysis, run}
 use Rattle.model.specs.Tables.{factsOf}
 use Rattle.model.specs.Analyses.{analysis}
+use Rattle.model.specs.Demand.{Lawful}
 use Rattle.model.specs.declared.AnalysisKind.{AnalysisKind}
 use Rattle.sheet.specs.declared.Sizes.{Sizes}
-use Rattle.fixpoint_visit.specs.Laid.{Offer}
-use Rattle.fixpoint_step.specs.Stepped.{ranAnalysis, Lending}
-use Rattle.fixpoint.specs.Turn.{firstOf, Turn, Ran, Fresh}
+use Rattle.sheet_layouts.specs.Classes.{equalBy}
+use Rattle.sheet_layouts.proofs.Classes.{equal-by}
+use Rattle.fixpoint_list.specs.Listed.{Listed}
+use Rattle.fixpoint_list.proofs.Listed.{empty-listed, listed-enter}
+use Rattle.fixpoint_visit.specs.Laid.{RowsLaid, RowLaid}
+use Rattle.fixpoint_visit.specs.News.{rowsVisited}
+use Rattle.fixpoint_visit.specs.Visits.{JoinRequires, JoinEnsures}
+use Rattle.fixpoint_step.specs.Stepped.{SheetIndex, TrackedSlots}
 use Rattle.stage_outcome.specs.declared.Run.{Run}
-use Rattle.fixpoint.proofs.Loop.{start-turn, start-first}
-use Rattle.stage_outcome.specs.Result.{RunResult, finishOf, ranOf}
+use Rattle.fixpoint.specs.Turn.{ranAnalysis, firstOf, Turn, Ran, RunRequires}
+use Rattle.fixpoint.specs.Result.{RunResult, finishOf, ranOf}
+use Rattle.fixpoint.proofs.Loop.{law, turn}
+use Rattle.fixpoint.proofs.Running as T
 use Rattle.fixpoint.proofs.Finishing.{ends}
 
-module _ (which : AnalysisKind) (sheet : List ℕ) (sizes : Sizes) (firsts starts slots lengthKinds lengthValues : List ℕ) (left : ℕ)
+module _ (which : AnalysisKind) (sheet : List ℕ) (sizes : Sizes) (firsts classes slots lengthKinds lengthValues : List ℕ) (left : ℕ)
     (present kinds values rowKinds rowValues list : List ℕ)
-    (l : Lending sheet sizes firsts starts slots lengthKinds lengthValues (factsOf rowKinds rowValues))
-    (f : Fresh (codeCount sheet) (length slots) present kinds values rowKinds rowValues list)
-    (present′ kinds′ values′ list′ : List ℕ) (top′ : ℕ)
-    (o : Offer (equalKnown which sheet) (length rowKinds) (record { pcs = 0 ∷ 0 ∷ []; len = 1 }) 0 rowKinds rowValues present kinds values list 0 present′ kinds′ values′ list′ top′) where
-  first-is : firstOf slots kinds′ values′ ≡ factsOf rowKinds rowValues
-  first-is = start-first which sheet sizes firsts starts slots lengthKinds lengthValues (factsOf rowKinds rowValues) left l present kinds values rowKinds rowValues list f refl present′ kinds′ values′ list′ top′ o
+    (i : SheetIndex sheet sizes firsts classes lengthKinds lengthValues) (s : TrackedSlots sheet slots)
+    (f : RunRequires (codeCount sheet) (length slots) present kinds values rowKinds rowValues list) where
+  abbrev first : Row
+  first = factsOf rowKinds rowValues
 
-  first-turn : Turn which sheet slots lengthKinds lengthValues (factsOf rowKinds rowValues) left present′ kinds′ values′ rowKinds rowValues list′ top′ 0 left
-  first-turn = start-turn which sheet sizes firsts starts slots lengthKinds lengthValues (factsOf rowKinds rowValues) left l present kinds values rowKinds rowValues list f refl present′ kinds′ values′ list′ top′ o
+  abbrev a : Analysis
+  a = ranAnalysis which sheet slots lengthKinds lengthValues first
 
-  -- what the loop asks
-  pub begun : Lending sheet sizes firsts starts slots lengthKinds lengthValues (firstOf slots kinds′ values′)
-      × Turn which sheet slots lengthKinds lengthValues (firstOf slots kinds′ values′) left present′ kinds′ values′ rowKinds rowValues list′ top′ 0 left
-  begun =
-      subst (λ (e : Row). Lending sheet sizes firsts starts slots lengthKinds lengthValues e
-      × Turn which sheet slots lengthKinds lengthValues e left present′ kinds′ values′ rowKinds rowValues list′ top′ 0 left) (sym first-is) (l, first-turn)
+  lawful : Lawful (ranAnalysis which sheet slots lengthKinds lengthValues (factsOf rowKinds rowValues))
+  lawful = law which sheet sizes firsts classes slots lengthKinds lengthValues first left (length list) i s (f .row-length) (f .list-fits)
 
-  -- and what is left behind it
-  pub whole : (r : Run) (present″ kinds″ values″ rowKinds″ rowValues″ list″ : List ℕ) (result : RunResult)
-      → length present″ ≡ length present′ → length kinds″ ≡ length kinds′ → length values″ ≡ length values′
-      → length rowKinds″ ≡ length rowKinds → length rowValues″ ≡ length rowValues → length list″ ≡ length list′
-      → Ran (ranAnalysis which sheet slots lengthKinds lengthValues (firstOf slots kinds′ values′)) left r present″ kinds″ values″ list″
-      → result ≡ finishOf r present″ kinds″ values″ rowKinds″ rowValues″ list″
-      → some result ≡ ranOf (codeCount sheet) (length slots) (run (ranAnalysis which sheet slots lengthKinds lengthValues (factsOf rowKinds rowValues)) left)
+  row-lengths : (length rowKinds ≡ length slots) × (length rowValues ≡ length slots)
+  row-lengths = (ap length (f .row-kinds-are) ∙ length-map first kind ∙ f .row-length, ap length (f .row-values-are) ∙ length-map first value ∙ f .row-length)
+
+  first-laid : RowLaid (length slots) first rowKinds rowValues
+  first-laid = record { sized = f .row-length; kinds-are = f .row-kinds-are; values-are = f .row-values-are }
+
+  none-laid : RowsLaid (length slots) (replicate (codeCount sheet) none) present kinds values
   unfolding ranAnalysis analysis
-  whole r present″ kinds″ values″ rowKinds″ rowValues″ list″ result hp hk hv hrk hrv hl ran e =
-      ap some e
-      ∙ ends (ranAnalysis which sheet slots lengthKinds lengthValues (firstOf slots kinds′ values′)) left r present″ kinds″ values″ rowKinds″ rowValues″ list″
-      (hp ∙ first-turn .present-length) (hk ∙ first-turn .kinds-length) (hv ∙ first-turn .values-length)
-      (hrk ∙ first-turn .row-kinds-length) (hrv ∙ first-turn .row-values-length) (hl ∙ first-turn .list-length) ran
-      ∙ ap (λ (x : Row). ranOf (codeCount sheet) (length slots) (run (ranAnalysis which sheet slots lengthKinds lengthValues x) left)) first-is
+  none-laid = rw (f .present-zero, f .kinds-zero, f .values-zero) (T.none-laid a lawful)
+
+  present-length : length present ≡ codeCount sheet
+  present-length = ap length (f .present-zero) ∙ length-replicate {A = ℕ} (codeCount sheet) 0
+
+  -- instruction 0 gets the first row
+  pub start-joins : JoinRequires 0 rowKinds rowValues present kinds values
+  start-joins =
+      let w = row-lengths in record {
+        below = rw present-length (s .some-code);
+        visitable = record {
+          row-values-length = w .1 ∙ sym (w .0);
+          kinds-length = rw (w .0, present-length) (ap length (f .kinds-zero) ∙ length-replicate {A = ℕ} (codeCount sheet * length slots) 0);
+          values-length = rw (w .0, present-length) (ap length (f .values-zero) ∙ length-replicate {A = ℕ} (codeCount sheet * length slots) 0);
+          rows = replicate (codeCount sheet) none;
+          copy = first;
+          laid = rw (w .0) none-laid;
+          row-laid = rw (w .0) first-laid;
+        };
+      }
+
+  -- and the list holds 0 alone
+  some-room : 0 < length list
+  some-room = let k = mul-le-mul-right (1 + 2 * length slots) (s .some-code) in omega (arith, f .list-fits)
+
+  pub start-enters : (fresh : Bool) → (fresh ≡ true → 0 < length list) × (fresh ≡ true → 0 ≤ 65535)
+  start-enters fresh = ((λ k. some-room), (λ k. omega arith))
+
+  module _ (present′ kinds′ values′ : List ℕ) (fresh : Bool) (j : JoinEnsures (equalBy which classes) (length rowKinds) 0 rowKinds rowValues present kinds values present′ kinds′ values′ fresh)
+      (list′ : List ℕ) (top′ : ℕ) (l′ : list′ ≡ cond fresh (set list 0 0) list) (t′ : top′ ≡ cond fresh (0 + 1) 0) where
+    joined : RowsLaid (length slots) (rowsVisited (equalKnown which sheet) first 0 (replicate (codeCount sheet) none)) present′ kinds′ values′ × (fresh ≡ true)
+    unfolding JoinEnsures ranAnalysis analysis
+    joined =
+        let x = (rw (row-lengths .0, equal-by (i .classes-are) which) at j) (replicate (codeCount sheet) none) first none-laid first-laid (rw (length-replicate {A = Option Row} (codeCount sheet) none) (s .some-code)) in
+        (x .0, x .1 ∙ T.first-news a lawful)
+
+    listed : Listed (0 ∷ []) list′ top′
+    listed = rw (l′, t′, joined .1) (listed-enter true 0 [] list 0 (empty-listed list (f .list-zero)) some-room)
+
+    list-length : length list′ ≡ length list
+    list-length = rw (l′, joined .1) (length-set list 0 0)
+
+    first-is : firstOf slots kinds′ values′ ≡ factsOf rowKinds rowValues
+    unfolding firstOf ranAnalysis analysis
+    first-is = T.started-row a lawful present′ kinds′ values′ (s .some-code) (joined .0)
+
+    -- what the loop asks
+    pub start-turn : Turn which sheet slots lengthKinds lengthValues (firstOf slots kinds′ values′) left (length list′) present′ kinds′ values′ rowKinds rowValues list′ top′ 0 left
+    unfolding ranAnalysis analysis
+    start-turn =
+        rw (first-is, list-length) (turn which sheet sizes firsts classes slots lengthKinds lengthValues first left (length list) i s (f .row-length) (f .list-fits)
+        present′ kinds′ values′ rowKinds rowValues list′ top′ 0 left (row-lengths .0) (row-lengths .1) list-length
+        (T.started a lawful left present′ kinds′ values′ list′ top′ (joined .0) listed))
+
+    -- and what is left behind it
+    pub whole : (r : Run) (present″ kinds″ values″ rowKinds″ rowValues″ : List ℕ) (result : RunResult)
+        → length present″ ≡ length present′ → length kinds″ ≡ length kinds′ → length values″ ≡ length values′ → length rowKinds″ ≡ length rowKinds → length rowValues″ ≡ length rowValues
+        → Ran (ranAnalysis which sheet slots lengthKinds lengthValues (firstOf slots kinds′ values′)) left r present″ kinds″ values″
+        → result ≡ finishOf r present″ kinds″ values″ rowKinds″ rowValues″
+        → some result ≡ ranOf (codeCount sheet) (length slots) (run (ranAnalysis which sheet slots lengthKinds lengthValues (factsOf rowKinds rowValues)) left)
+    unfolding ranAnalysis analysis
+    whole r present″ kinds″ values″ rowKinds″ rowValues″ result hp hk hv hrk hrv ran e =
+        let t = start-turn in
+        ap some e
+        ∙ ends (ranAnalysis which sheet slots lengthKinds lengthValues (firstOf slots kinds′ values′)) left r present″ kinds″ values″ rowKinds″ rowValues″
+        (hp ∙ t .present-length) (hk ∙ t .kinds-length) (hv ∙ t .values-length) (hrk ∙ t .row-kinds-length) (hrv ∙ t .row-values-length) ran
+        ∙ ap (λ (x : Row). ranOf (codeCount sheet) (length slots) (run (ranAnalysis which sheet slots lengthKinds lengthValues x) left)) first-is

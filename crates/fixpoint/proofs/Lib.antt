@@ -1,4 +1,5 @@
--- The laws of this crate, in order: the state between two turns, the loop, what is before it and behind it.
+-- The laws of this crate, in order: what had news is entered, the state between two turns, the loop, what is before it and behind it.
+pub mod Entering
 pub mod Running
 pub mod Loop
 pub mod Finishing

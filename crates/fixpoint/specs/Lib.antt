@@ -1,2 +1,3 @@
--- The loop between two turns
+-- The loop between two turns, and what a run answers and leaves
 pub mod Turn
+pub mod Result

@@ -8,53 +8,62 @@ use lib.ListN.{length, replicate}
 use Rattle.model.specs.Fact.{kind, value, Row}
 use Rattle.model.specs.Sheet.{codeCount}
 use Rattle.model.specs.Run.{Analysis, State, finished, overdrawn, bound, run}
-use Rattle.model.specs.Tables.{factsOf, tableRow}
+use Rattle.model.specs.Tables.{factsOf, tableRow, lengthTable}
+use Rattle.model.specs.Analyses.{analysis}
+use Rattle.model.specs.Call.{zeros}
 use Rattle.model.specs.Demand.{Visited}
 use Rattle.model.specs.declared.AnalysisKind.{AnalysisKind}
-use Rattle.fixpoint_visit.specs.Laid.{RowsLaid, StateLaid}
-use Rattle.fixpoint_step.specs.Stepped.{ranAnalysis}
+use Rattle.fixpoint_list.specs.Listed.{Listed}
+use Rattle.fixpoint_visit.specs.Laid.{RowsLaid}
 use Rattle.stage_outcome.specs.declared.Run.{Run}
 use Rattle.stage_outcome.specs.declared.Run.the-variants.{Finished, Overdrawn}
+
+-- the analysis that the loop runs, from its first row
+unfoldable pub ranAnalysis : AnalysisKind → List ℕ → List ℕ → List ℕ → List ℕ → Row → Analysis
+ranAnalysis which sheet slots lengthKinds lengthValues entry = analysis which sheet slots (lengthTable lengthKinds lengthValues) entry
 
 -- the row of instruction 0, as it lies in the tables
 unfoldable pub firstOf : List ℕ → List ℕ → List ℕ → Row
 firstOf slots kinds values = tableRow (length slots) kinds values 0
 
+-- the whole state lies in the tables and in the work list
+pub record StateLaid (s : ℕ) (st : State) (present kinds values workList : List ℕ) (top : ℕ) : Type 0 where
+  pub rows-laid : RowsLaid s (st .rows) present kinds values
+  pub listed : Listed (st .list) workList top
+
 -- A state that the run passes through lies in the slices; pops and the work left are its numbers.
-pub record Running (a : Analysis) (left : ℕ) (present kinds values rowKinds rowValues list : List ℕ) (top pops rest : ℕ) : Type 0 where
+pub record Running (a : Analysis) (left : ℕ) (present kinds values workList : List ℕ) (top pops rest : ℕ) : Type 0 where
   pub st : State
   pub visited : Visited a left st
-  pub laid : StateLaid (a .s) (bound a) st present kinds values list top
+  pub laid : StateLaid (a .s) st present kinds values workList top
   pub count-is : pops ≡ st .count
   pub left-is : rest ≡ st .left
-  pub row-kinds-length : length rowKinds ≡ a .s
-  pub row-values-length : length rowValues ≡ a .s
 
--- between two turns. (The lengths follow from what lies there; arithmetic reads them.)
-pub record Turn (which : AnalysisKind) (sheet slots lengthKinds lengthValues : List ℕ) (entry : Row) (left : ℕ) (present kinds values rowKinds rowValues list : List ℕ) (top pops rest : ℕ) : Type 0 where
-  pub running : Running (ranAnalysis which sheet slots lengthKinds lengthValues entry) left present kinds values rowKinds rowValues list top pops rest
+-- between two turns, with a work list of `room` cells. (The lengths follow from what lies there; arithmetic reads them.)
+pub record Turn (which : AnalysisKind) (sheet slots lengthKinds lengthValues : List ℕ) (entry : Row) (left room : ℕ) (present kinds values rowKinds rowValues workList : List ℕ) (top pops rest : ℕ) : Type 0 where
+  pub entry-length : length entry ≡ length slots
+  pub running : Running (ranAnalysis which sheet slots lengthKinds lengthValues entry) left present kinds values workList top pops rest
   pub fits : pops + top ≤ codeCount sheet * (1 + 2 * length slots)
   pub present-length : length present ≡ codeCount sheet
   pub kinds-length : length kinds ≡ codeCount sheet * length slots
   pub values-length : length values ≡ codeCount sheet * length slots
   pub row-kinds-length : length rowKinds ≡ length slots
   pub row-values-length : length rowValues ≡ length slots
-  pub list-length : length list ≡ codeCount sheet * (1 + 2 * length slots)
-  pub list-little : length list ≤ 536866816
+  pub list-length : length workList ≡ room
+  pub list-fits : codeCount sheet * (1 + 2 * length slots) ≤ room
 
--- What the loop answers: the defined run, refused, or with its rows in the tables and the list zero again.
-unfoldable pub Ran : Analysis → ℕ → Run → List ℕ → List ℕ → List ℕ → List ℕ → Type 0
-Ran a left (Finished pops work) present kinds values list =
-    (rows : List (Option Row)) × (run a left ≡ finished rows pops work) × RowsLaid (a .s) rows present kinds values × (list ≡ replicate (bound a) 0)
-Ran a left (Overdrawn requested remaining) present kinds values list = run a left ≡ overdrawn requested remaining
+-- What the loop answers: the defined run, refused, or with its rows in the tables.
+unfoldable pub Ran : Analysis → ℕ → Run → List ℕ → List ℕ → List ℕ → Type 0
+Ran a left (Finished pops work) present kinds values = (rows : List (Option Row)) × (run a left ≡ finished rows pops work) × RowsLaid (a .s) rows present kinds values
+Ran a left (Overdrawn requested remaining) present kinds values = run a left ≡ overdrawn requested remaining
 
--- ---- the whole run
-
--- What the run is lent: tables and a list of zeros, exactly as long as it needs, and the first row.
-pub record Fresh (n s : ℕ) (present kinds values rowKinds rowValues list : List ℕ) : Type 0 where
+-- What the whole run is lent: tables of zeros, exactly as long as it needs, a first row of s facts, and a work list of zeros with room for the bound.
+pub record RunRequires (n s : ℕ) (present kinds values rowKinds rowValues workList : List ℕ) : Type 0 where
   pub present-zero : present ≡ replicate n 0
   pub kinds-zero : kinds ≡ replicate (n * s) 0
   pub values-zero : values ≡ replicate (n * s) 0
-  pub list-zero : list ≡ replicate (n * (1 + 2 * s)) 0
+  pub row-length : length (factsOf rowKinds rowValues) ≡ s
   pub row-kinds-are : rowKinds ≡ map kind (factsOf rowKinds rowValues)
   pub row-values-are : rowValues ≡ map value (factsOf rowKinds rowValues)
+  pub list-zero : workList ≡ zeros workList
+  pub list-fits : n * (1 + 2 * s) ≤ length workList

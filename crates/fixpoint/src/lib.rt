@@ -1,4 +1,5 @@
 // The defined run, from its first row to its end, with what is cleared behind it. One loop for the three analyses.
-mod whole;
+mod clearing;
+mod list;
 
-pub use whole::propagate;
+pub use list::run_to_fixpoint;

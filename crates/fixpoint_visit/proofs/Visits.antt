@@ -78,7 +78,7 @@ successor-second [] = refl
 successor-second (q ∷ []) = refl
 successor-second (q ∷ r ∷ rs) = rw (lt-ltb 1 (length (q ∷ r ∷ rs)) (omega arith))
 
-list-length : (sheet : List ℕ) (p : ℕ) → length (sheetSuccessors sheet p) ≤ 2
+pub list-length : (sheet : List ℕ) (p : ℕ) → length (sheetSuccessors sheet p) ≤ 2
 unfolding sheetSuccessors
 list-length sheet p = successors-length (codeCount sheet) p (instruction sheet p)
 
