@@ -1,2 +1,4 @@
--- The laws of this crate. For other crates to cite: Closing.
-pub mod Closing
+-- The laws of this crate, in order: what was begun, nothing to run, what ran.
+pub mod Begun
+pub mod Idle
+pub mod Ran

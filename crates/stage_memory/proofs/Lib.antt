@@ -1,4 +1,2 @@
--- The laws of this crate. For other crates to cite: Paths, Stepwise.
+-- The laws of this crate, for other crates to cite.
 pub mod Paths
-pub mod Stepwise
-pub mod Begin

@@ -1,5 +1,2 @@
--- What a stage asks and leaves
+-- What is cleared
 pub mod Stage
-pub mod Parts
-pub mod Stocked
-pub mod Ends

@@ -1,6 +1,8 @@
 -- What a stage makes of the lent memory.
 -- Assumes nothing.
-use mathlib.Core.Bool.{Bool, true, false}
+use mathlib.Core.Bool.{Bool, true, false, cond}
+use mathlib.Core.List.{List}
+use Prim.Native.Nat.{ℕ}
 use Rattle.model.specs.Call.{Table, Scratch, scratch, zeros, zeroTable}
 
 -- scratch that is all zero
@@ -11,3 +13,7 @@ zeroScratch old = scratch (zeros (old .marks)) (zeros (old .stack)) (zeros (old 
 unfoldable pub tableIf : Bool → Table → Table
 tableIf true old = zeroTable old
 tableIf false old = old
+
+-- slots cleared where the test holds
+unfoldable pub slotsIf : Bool → List ℕ → List ℕ
+slotsIf test old = cond test (zeros old) old

@@ -1,8 +1,9 @@
-// What an analysis is made of beside its closure, question 8 and its run: its charges with the first row; and clearing.
+// What is cleared of the lent memory, before an analysis and behind it.
 mod clearing;
-mod entering;
+mod concluding;
 
+pub use clearing::clear_rows;
 pub use clearing::clear_scratch;
 pub use clearing::clear_table;
 pub use clearing::clear_table_if;
-pub use entering::enter;
+pub use concluding::conclude;

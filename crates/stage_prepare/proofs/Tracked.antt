@@ -60,7 +60,7 @@ module _ (n s slots present kinds values rowKinds rowValues list : ℕ) (e : roo
 -- ---- the entry row
 
 -- Unknown is zero
-unknown-cells : (k : ℕ) → (map kind (replicate k unknown) ≡ replicate k 0) × (map value (replicate k unknown) ≡ replicate k 0)
+pub unknown-cells : (k : ℕ) → (map kind (replicate k unknown) ≡ replicate k 0) × (map value (replicate k unknown) ≡ replicate k 0)
 unfolding kind value
 unknown-cells zero = (refl, refl)
 unknown-cells (suc k) = (ap (λ (xs : List ℕ). 0 ∷ xs) (unknown-cells k .0), ap (λ (xs : List ℕ). 0 ∷ xs) (unknown-cells k .1))

@@ -8,16 +8,16 @@ pub use preparing::prepare;
 
 // How long the tables and the work list are, of which question 8 asks.
 pub struct Room {
-    present: usize,
-    kinds: usize,
-    values: usize,
-    work_list: usize,
+    pub present: usize,
+    pub kinds: usize,
+    pub values: usize,
+    pub work_list: usize,
 }
 
 // What is to run: whether anything is, how many slots are tracked and the work units left; and the answer so far.
 pub struct Prepared {
-    runs: bool,
-    s: usize,
-    work: u64,
-    answer: Answer,
+    pub runs: bool,
+    pub s: usize,
+    pub work: u64,
+    pub answer: Answer,
 }

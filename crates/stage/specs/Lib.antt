@@ -1,0 +1,2 @@
+-- What an analysis asks, and what it leaves after an answer
+pub mod Next
