@@ -3,19 +3,20 @@ ghost use mathlib.Core.Path.{_≡_};
 ghost use mathlib.Core.Option.{some};
 ghost use Prim.Native.Nat.{_≤_};
 ghost use lib.ListN.{length};
-ghost use Rattle.model.specs.Sheet.{codeCount, localSlots};
+ghost use Rattle.model.specs.Sheet.{codeCount, firstRange, localSlots};
+ghost use Rattle.memory.specs.Front.{Holds};
+ghost use Rattle.sheet_layouts.specs.Classes.{Classes};
 ghost use Rattle.model.specs.Call.{table, scratch, roomFor};
 ghost use Rattle.sheet.specs.Measured.{Accepted};
-ghost use Rattle.call_next.specs.Values.{values, valuesEnd, valuesOf};
+ghost use Rattle.call_order.specs.Values.{values, valuesEnd, valuesOf};
 use call_admission::charge_graph;
 use call_lengths::store_lengths;
-use call_next::analyze_next;
+use fixpoint_list::clear;
 use model::AnalysisKind;
 use model::Answer;
 use model::VerifierResources;
 use sheet::Sizes;
-use sheet_offsets::first_ranges;
-use sheet_offsets::layout_starts;
+use stage::analyze_stage;
 use stage_memory::clear_scratch;
 use stage_memory::clear_table_if;
 use stage_outcome::refuses;
@@ -25,6 +26,8 @@ pub fn analyze_values(
     sheet: &[u8],
     sizes: Sizes,
     resources: VerifierResources,
+    firsts: &[u16],
+    classes: &[u16],
     constant_slots: &mut [u16],
     constant_present: &mut [u8],
     constant_kinds: &mut [u8],
@@ -37,26 +40,23 @@ pub fn analyze_values(
     stack: &mut [u16],
     row_kinds: &mut [u8],
     row_values: &mut [u64],
-    list: &mut [u16],
+    work_list: &mut [u16],
 ) -> Answer
-    requires { ⌜ Accepted (now sheet) sizes × (localSlots (now sheet) ≤ length (now marks)) × (localSlots (now sheet) ≤ length (now stack)) ⌝ }
-    ensures { λ r. ⌜ some (valuesEnd r (table (now («constant_slots» .exit)) (now («constant_present» .exit)) (now («constant_kinds» .exit)) (now («constant_values» .exit))) (table (now («index_slots» .exit)) (now («index_present» .exit)) (now («index_kinds» .exit)) (now («index_values» .exit))) (scratch (now (marks .exit)) (now (stack .exit)) (now («row_kinds» .exit)) (now («row_values» .exit)) (now (list .exit)))) ≡ valuesOf (table (now («constant_slots» .entry)) (now («constant_present» .entry)) (now («constant_kinds» .entry)) (now («constant_values» .entry))) (table (now («index_slots» .entry)) (now («index_present» .entry)) (now («index_kinds» .entry)) (now («index_values» .entry))) (scratch (now (marks .entry)) (now (stack .entry)) (now («row_kinds» .entry)) (now («row_values» .entry)) (now (list .entry))) (values (now (sheet .entry)) (roomFor (codeCount (now (sheet .entry))) (table (now («constant_slots» .entry)) (now («constant_present» .entry)) (now («constant_kinds» .entry)) (now («constant_values» .entry))) (now («row_kinds» .entry)) (now («row_values» .entry)) (now (list .entry))) (roomFor (codeCount (now (sheet .entry))) (table (now («index_slots» .entry)) (now («index_present» .entry)) (now («index_kinds» .entry)) (now («index_values» .entry))) (now («row_kinds» .entry)) (now («row_values» .entry)) (now (list .entry))) resources) ⌝ }
+    requires { ⌜ Accepted (now sheet) sizes × Holds (firstRange (now sheet)) (codeCount (now sheet)) (now firsts) × Classes (now sheet) (now classes) × (localSlots (now sheet) ≤ length (now marks)) × (localSlots (now sheet) ≤ length (now stack)) ⌝ }
+    ensures { λ r. ⌜ some (valuesEnd r (table (now («constant_slots» .exit)) (now («constant_present» .exit)) (now («constant_kinds» .exit)) (now («constant_values» .exit))) (table (now («index_slots» .exit)) (now («index_present» .exit)) (now («index_kinds» .exit)) (now («index_values» .exit))) (scratch (now (marks .exit)) (now (stack .exit)) (now («row_kinds» .exit)) (now («row_values» .exit)) (now («work_list» .exit)))) ≡ valuesOf (table (now («constant_slots» .entry)) (now («constant_present» .entry)) (now («constant_kinds» .entry)) (now («constant_values» .entry))) (table (now («index_slots» .entry)) (now («index_present» .entry)) (now («index_kinds» .entry)) (now («index_values» .entry))) (scratch (now (marks .entry)) (now (stack .entry)) (now («row_kinds» .entry)) (now («row_values» .entry)) (now («work_list» .entry))) (values (now (sheet .entry)) (roomFor (codeCount (now (sheet .entry))) (table (now («constant_slots» .entry)) (now («constant_present» .entry)) (now («constant_kinds» .entry)) (now («constant_values» .entry))) (now («row_kinds» .entry)) (now («row_values» .entry)) (now («work_list» .entry))) (roomFor (codeCount (now (sheet .entry))) (table (now («index_slots» .entry)) (now («index_present» .entry)) (now («index_kinds» .entry)) (now («index_values» .entry))) (now («row_kinds» .entry)) (now («row_values» .entry)) (now («work_list» .entry))) resources) ⌝ }
 {
-    clear_scratch(marks, stack, row_kinds, row_values, list);
-    let mut firsts = [0u16; 4096];
-    first_ranges(sheet, sizes, &mut firsts);
-    let mut starts = [0u16; 1024];
-    layout_starts(sheet, sizes, &mut starts);
+    clear_scratch(marks, stack, row_kinds, row_values);
+    clear(work_list);
     let mut length_kinds = [0u8; 4096];
     let mut length_values = [0u16; 4096];
     let begun = charge_graph(sheet, sizes, resources);
-    let constants = analyze_next(
+    let constants = analyze_stage(
         begun,
         AnalysisKind::Constant,
         sheet,
         sizes,
-        &firsts,
-        &starts,
+        firsts,
+        classes,
         &length_kinds,
         &length_values,
         constant_slots,
@@ -67,7 +67,7 @@ pub fn analyze_values(
         stack,
         row_kinds,
         row_values,
-        list,
+        work_list,
     );
     store_lengths(
         constants,
@@ -80,13 +80,13 @@ pub fn analyze_values(
         &mut length_kinds,
         &mut length_values,
     );
-    let index = analyze_next(
+    let index = analyze_stage(
         constants,
         AnalysisKind::IndexCheck,
         sheet,
         sizes,
-        &firsts,
-        &starts,
+        firsts,
+        classes,
         &length_kinds,
         &length_values,
         index_slots,
@@ -97,7 +97,7 @@ pub fn analyze_values(
         stack,
         row_kinds,
         row_values,
-        list,
+        work_list,
     );
     clear_table_if(
         refuses(index),

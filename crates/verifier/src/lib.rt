@@ -8,10 +8,12 @@ ghost use Rattle.model.specs.declared.Counts.{Counts};
 ghost use Rattle.model.specs.declared.VerifierResources.{VerifierResources};
 use call_admission::Admission;
 use call_admission::admit;
-use call_containers::analyze_containers;
 use call_values::analyze_values;
+use model::AnalysisKind;
 use model::Answer;
 use model::VerifierResources;
+use sheet_index::index_sheet;
+use stage::analyze_stage;
 use stage_memory::clear_table_if;
 use stage_outcome::refuses;
 
@@ -49,10 +51,15 @@ pub fn analyze(
             left: resources,
         },
         Admission::Admitted { sizes } => {
+            let mut firsts = [0u16; 4096];
+            let mut classes = [0u16; 1025];
+            index_sheet(sheet, sizes, &mut firsts, &mut classes);
             let values = analyze_values(
                 sheet,
                 sizes,
                 resources,
+                &firsts,
+                &classes,
                 constant_slots,
                 constant_present,
                 constant_kinds,
@@ -67,10 +74,18 @@ pub fn analyze(
                 row_values,
                 work_list,
             );
-            let answer = analyze_containers(
+            // "for index, the ended constant run": to the containers no length is known.
+            let unknown_kinds = [0u8; 4096];
+            let unknown_values = [0u16; 4096];
+            let answer = analyze_stage(
                 values,
+                AnalysisKind::Container,
                 sheet,
                 sizes,
+                &firsts,
+                &classes,
+                &unknown_kinds,
+                &unknown_values,
                 container_slots,
                 container_present,
                 container_kinds,

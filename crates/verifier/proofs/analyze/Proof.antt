@@ -3,8 +3,8 @@
 use mathlib.Core.Path.{_∙_}
 use Rattle.model.specs.Call.{table, scratch, lent}
 use Rattle.call_admission.proofs.Asking.{turned-away, admitted-asks}
-use Rattle.call_next.proofs.Ready.{clean, values-clear, demanded}
-use Rattle.call_next.proofs.Whole.{promise}
+use Rattle.call_order.proofs.Ready.{clean, values-clear, demanded}
+use Rattle.call_order.proofs.Whole.{promise}
 use borrow.Author.Needs.{needs}
 use Rattle.verifier.proofs.analyze.Statement.{statement}
 use Rattle.verifier.proofs.analyze.Tie as tie

@@ -1,31 +1,18 @@
 -- The first two analyses, and the third after them.
 -- Assumes nothing.
-use mathlib.Core.Path.{_≡_}
 use mathlib.Core.Bool.{Bool}
 use mathlib.Core.List.{List}
 use mathlib.Core.Option.{Option, none, some}
-use Prim.Native.Nat.{ℕ, _≤_}
-use lib.ListN.{length}
-use Rattle.model.specs.Sheet.{localSlots}
+use Prim.Native.Nat.{ℕ}
 use Rattle.model.specs.Charges.{Spent, ok, stop, unfinished, Metered, give, _>>=_, _>>_}
 use Rattle.model.specs.Fact.{unknown}
 use Rattle.model.specs.Analyses.{Analysed, lengthFacts, stage}
-use Rattle.model.specs.Call.{Table, Scratch, counts, tables, zeros, zeroTable, filledTable}
+use Rattle.model.specs.Call.{Table, Scratch, counts, tables, zeroTable, filledTable}
 use Rattle.model.specs.declared.AnalysisKind.the-variants.{Constant, IndexCheck}
 use Rattle.model.specs.declared.Answer.{Answer}
 use Rattle.model.specs.declared.Answer.the-variants.{Analyzed}
 use Rattle.stage_memory.specs.Stage.{zeroScratch}
 use Rattle.call_admission.specs.Begun.{noCounts, refusedBy, chargeGraph}
-
--- scratch of zeros, with room for the closure
-pub record Clean (sheet marks stack rowKinds rowValues list : List ℕ) : Type 0 where
-  pub no-marks : marks ≡ zeros marks
-  pub no-stack : stack ≡ zeros stack
-  pub no-row-kinds : rowKinds ≡ zeros rowKinds
-  pub no-row-values : rowValues ≡ zeros rowValues
-  pub no-list : list ≡ zeros list
-  pub wide : localSlots sheet ≤ length marks
-  pub deep : localSlots sheet ≤ length stack
 
 -- The ended constant and index analyses.
 pub record Values : Type 0 where

@@ -12,7 +12,7 @@ use Rattle.model.specs.declared.VerifierResources.{VerifierResources}
 use Rattle.model.specs.declared.AnalysisKind.{AnalysisKind}
 use Rattle.model.specs.declared.AnalysisKind.the-variants.{Constant, IndexCheck, Container}
 use Rattle.call_admission.specs.Begun.{chargeGraph}
-use Rattle.call_next.specs.Values.{Values, values}
+use Rattle.call_order.specs.Values.{Values, values}
 
 -- ---- the first two
 

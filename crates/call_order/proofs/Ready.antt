@@ -3,10 +3,10 @@
 use mathlib.Core.Path.{_≡_, sym, ap, _∙_}
 use mathlib.Core.List.{List}
 use mathlib.Core.Option.{Option, some}
-use Prim.Native.Nat.{ℕ, _≤_}
+use Prim.Native.Nat.{ℕ, _≤_, _<_}
 use native.Mathlib.Omega.{arith}
 use lib.ListN.{length}
-use Rattle.model.specs.Sheet.{codeCount, layoutCount, localSlots, firstRange, layoutStart}
+use Rattle.model.specs.Sheet.{codeCount, layoutCount, localSlots, firstRange}
 use Rattle.model.specs.Charges.{overBudget, noRoom, Spent, ok, stop, unfinished, Metered}
 use Rattle.model.specs.Analyses.{Analysed}
 use Rattle.model.specs.Call.{Table, Lent, Scratch, answer, zeroTable, result, analyzed}
@@ -20,19 +20,20 @@ use Rattle.finality.proofs.Lent.{analyzed-demand}
 use Rattle.finality.proofs.Lengths.{zeros-length}
 use Rattle.memory.proofs.Front.{front-holds}
 use Rattle.sheet.specs.Measured.{Accepted}
-use Rattle.sheet_offsets.specs.Tables.{firstRanges, layoutStarts}
+use Rattle.sheet_offsets.specs.Tables.{firstRanges}
+use Rattle.sheet_layouts.specs.Classes.{layoutClasses, Classes}
+use Rattle.sheet_layouts.proofs.Classes.{layout-classes-hold}
+use Rattle.fixpoint_step.specs.Stepped.{SheetIndex}
+use Rattle.memory.specs.Front.{Holds}
 use Rattle.sheet.specs.declared.Sizes.{Sizes}
 use Rattle.sheet.proofs.Asked.{measured}
 use Rattle.sheet.proofs.Counted.{counted}
-use Rattle.sheet.proofs.Laid.{laid}
 use Rattle.sheet.proofs.Limited.{limited}
 use Rattle.stage_memory.specs.Stage.{zeroScratch}
-use Rattle.stage_memory.specs.Ends.{stageOf}
-use Rattle.stage_memory.specs.Stocked.{Found, Empty, Unmarked}
-use Rattle.call_next.specs.Chain.{next, nextBy, nextOf}
-use Rattle.call_next.specs.Values.{Clean, ValuesEnd, Values, valuesEnd, valuesOf}
-use Rattle.call_next.proofs.Steps.{same-next}
-use Rattle.call_next.proofs.Zeroed.{zeros-twice, scratch-twice}
+use Rattle.stage.specs.Next.{ScratchZero, next, nextBy, nextOf}
+use Rattle.call_order.specs.Values.{ValuesEnd, Values, valuesEnd, valuesOf}
+use Rattle.call_order.proofs.Steps.{same-next}
+use Rattle.call_order.proofs.Zeroed.{zeros-twice, scratch-twice}
 
 -- ---- found once a call
 
@@ -40,48 +41,32 @@ module _ {sheet : List ℕ} {sizes : Sizes} (accepted : Accepted sheet sizes) wh
   pub few-code : sizes .«code_count» ≤ 4096
   few-code = limited (measured accepted) .code-count
 
-  pub few-layouts : sizes .«layout_count» ≤ 1024
-  few-layouts = limited (measured accepted) .layout-count
+  pub few-layouts : sizes .«layout_count» < 1025
+  few-layouts = omega (arith, limited (measured accepted) .layout-count)
 
-  few : codeCount sheet ≤ 4096
-  few = omega (arith, few-code, counted (accepted .are) .code-count)
-
-  sheet-long : codeCount sheet ≤ length sheet
-  sheet-long = let l = laid (measured accepted) in omega (arith, counted (accepted .are) .code-count)
-
-  -- with any slices of n places for the length facts
-  found-by : (firsts₀ starts₀ : List ℕ) {firsts starts lengthKinds lengthValues : List ℕ} → length firsts₀ ≡ 4096 → length starts₀ ≡ 1024
-      → firsts ≡ firstRanges sheet firsts₀ → starts ≡ layoutStarts sheet starts₀ → codeCount sheet ≤ length lengthKinds → codeCount sheet ≤ length lengthValues
-      → Found sheet sizes firsts starts lengthKinds lengthValues
-  unfolding firstRanges layoutStarts
-  found-by firsts₀ starts₀ fl sl f s k v =
-      let y : layoutCount sheet ≤ 1024 = omega (arith, few-layouts, counted (accepted .are) .layout-count) in
-      record {
-        accepted = accepted;
-        firsts-are = front-holds (firstRange sheet) (codeCount sheet) firsts₀ (omega (arith, few)) f;
-        starts-are = front-holds (layoutStart sheet) (layoutCount sheet) starts₀ (omega arith) s;
-        length-kinds-length = k;
-        length-values-length = v;
-      }
-
-  pub found : (firsts₀ starts₀ : List ℕ) {firsts starts lengthKinds lengthValues : List ℕ} → length firsts₀ ≡ 4096 → length starts₀ ≡ 1024
-      → firsts ≡ firstRanges sheet firsts₀ → starts ≡ layoutStarts sheet starts₀ → length lengthKinds ≡ 4096 → length lengthValues ≡ 4096
-      → Found sheet sizes firsts starts lengthKinds lengthValues
-  found firsts₀ starts₀ fl sl f s k v =
-      found-by firsts₀ starts₀ fl sl f s (omega (arith, few)) (omega (arith, few))
-
-  -- where no length facts are read, the sheet and the first ranges have places enough
-  pub found-bare : (firsts₀ starts₀ : List ℕ) {firsts starts : List ℕ} → length firsts₀ ≡ 4096 → length starts₀ ≡ 1024
-      → firsts ≡ firstRanges sheet firsts₀ → starts ≡ layoutStarts sheet starts₀ → Found sheet sizes firsts starts sheet firsts
+  pub firsts-found : (firsts₀ : List ℕ) {firsts : List ℕ} → length firsts₀ ≡ 4096 → firsts ≡ firstRanges sheet firsts₀ → Holds (firstRange sheet) (codeCount sheet) firsts
   unfolding firstRanges
-  found-bare firsts₀ starts₀ fl sl f s =
-      found-by firsts₀ starts₀ fl sl f s sheet-long (front-holds (firstRange sheet) (codeCount sheet) firsts₀ (omega (arith, few)) f .long)
+  firsts-found firsts₀ l f = front-holds (firstRange sheet) (codeCount sheet) firsts₀ (omega (arith, few-code, counted (accepted .are) .code-count)) f
+
+  pub classes-found : (classes₀ : List ℕ) {classes : List ℕ} → length classes₀ ≡ 1025 → classes ≡ layoutClasses sheet classes₀ → Classes sheet classes
+  classes-found classes₀ l c = layout-classes-hold sheet classes₀ c (omega (arith, few-layouts, counted (accepted .are) .layout-count))
+
+  -- with tables for the length facts
+  pub index-found : {firsts classes lengthKinds lengthValues : List ℕ} → Holds (firstRange sheet) (codeCount sheet) firsts → Classes sheet classes → length lengthKinds ≡ 4096 → length lengthValues ≡ 4096
+      → SheetIndex sheet sizes firsts classes lengthKinds lengthValues
+  index-found f c k v = record {
+    accepted = accepted;
+    firsts-are = f;
+    classes-are = c;
+    length-kinds-length = omega (arith, few-code, counted (accepted .are) .code-count);
+    length-values-length = omega (arith, few-code, counted (accepted .are) .code-count);
+  }
 
 -- ---- cleared
 
 -- a scratch that was cleared
 pub clean : (sheet : List ℕ) (W : Scratch) {w : Scratch} → w ≡ zeroScratch W → localSlots sheet ≤ length (W .marks) → localSlots sheet ≤ length (W .stack)
-    → Clean sheet (w .marks) (w .stack) (w .rowKinds) (w .rowValues) (w .workList)
+    → ScratchZero sheet (w .marks) (w .stack) (w .rowKinds) (w .rowValues) (w .workList)
 unfolding zeroScratch
 clean sheet W e m s = rw e (record {
   no-marks = sym (zeros-twice (W .marks));
@@ -93,33 +78,10 @@ clean sheet W e m s = rw e (record {
   deep = omega (arith, zeros-length (W .stack));
 })
 
--- with an output that was cleared
-module _ (sheet : List ℕ) (T : Table) {t : Table} (tz : t ≡ zeroTable T) {marks stack rowKinds rowValues list : List ℕ} (c : Clean sheet marks stack rowKinds rowValues list) where
-  pub unmarked : Unmarked sheet (t .slots) marks stack
-  unfolding zeroTable
-  unmarked = rw tz (record {
-    no-slots = sym (zeros-twice (T .slots));
-    no-marks = c .no-marks;
-    no-stack = c .no-stack;
-    wide = c .wide;
-    deep = c .deep;
-  })
-
-  pub empty : Empty (t .present) (t .kinds) (t .values) rowKinds rowValues list
-  unfolding zeroTable
-  empty = rw tz (record {
-    no-present = sym (zeros-twice (T .present));
-    no-kinds = sym (zeros-twice (T .kinds));
-    no-values = sym (zeros-twice (T .values));
-    no-row-kinds = c .no-row-kinds;
-    no-row-values = c .no-row-values;
-    no-list = c .no-list;
-  })
-
 -- the scratch is zero after each analysis
 module _ (which : AnalysisKind) (old : Table) {w : Scratch} (W : Scratch) (wz : w ≡ zeroScratch W) {answer : Answer} {output : Table} {w′ : Scratch} where
-  by-stage : (constant index container : Counts) (spent : Spent Analysed) → some (next answer output w′) ≡ nextBy which constant index container (stageOf old w spent) → w′ ≡ zeroScratch W
-  unfolding nextBy stageOf
+  by-stage : (constant index container : Counts) (spent : Spent Analysed) → some (next answer output w′) ≡ nextBy which constant index container old w spent → w′ ≡ zeroScratch W
+  unfolding nextBy
   by-stage constant index container (ok a left) e = same-next e .2 ∙ ap zeroScratch wz ∙ scratch-twice W
   by-stage constant index container (stop (overBudget stage requested remaining) left) e = same-next e .2 ∙ ap zeroScratch wz ∙ scratch-twice W
   by-stage constant index container (stop noRoom left) e = same-next e .2 ∙ ap zeroScratch wz ∙ scratch-twice W

@@ -26,18 +26,18 @@ use Rattle.stage_memory.specs.Stage.{zeroScratch, tableIf}
 use Rattle.call_admission.specs.Admitted.{admission}
 use Rattle.call_admission.specs.Begun.{noCounts, refusedBy}
 use Rattle.stage_outcome.specs.Answers.{counted, refusing}
-use Rattle.call_next.specs.Chain.{next, nextOf}
-use Rattle.call_next.specs.Values.{Values, values, ValuesEnd, valuesEnd, valuesOf}
+use Rattle.stage.specs.Next.{next, nextOf}
+use Rattle.call_order.specs.Values.{Values, values, ValuesEnd, valuesEnd, valuesOf}
 use Rattle.call_admission.specs.declared.Admission.{Admission}
 use Rattle.call_admission.specs.declared.Admission.the-variants.{Admitted}
-use Rattle.call_next.proofs.Same.{room-same}
-use Rattle.call_next.proofs.Zeroed.{zero-same, zero-twice}
-use Rattle.call_next.proofs.Steps.{Stepped, went, quit, step, stays, refusing-refused}
-use Rattle.call_next.proofs.Constants.{named}
-use Rattle.call_next.proofs.Order.{quit-values, quit-containers, all-went}
-use Rattle.call_next.proofs.Two.{room-as-lent, again, filled-there, cleared-there}
+use Rattle.call_order.proofs.Same.{room-same}
+use Rattle.call_order.proofs.Zeroed.{zero-same, zero-twice}
+use Rattle.call_order.proofs.Steps.{Stepped, went, quit, step, stays, refusing-refused}
+use Rattle.call_order.proofs.Constants.{named}
+use Rattle.call_order.proofs.Order.{quit-values, quit-containers, all-went}
+use Rattle.call_order.proofs.Two.{room-as-lent, again, filled-there, cleared-there}
 use Rattle.call_admission.proofs.Asking.{taken-in}
-use Rattle.call_next.proofs.Ready.{demanded}
+use Rattle.call_order.proofs.Ready.{demanded}
 
 module _ (sheet : List ℕ) {sizes : Sizes} (accepted : Accepted sheet sizes) (budget : VerifierResources) (C I K : Table) (W : Scratch)
     (six : closureRoom sheet (lent C I K W) ≡ true) where

@@ -31,13 +31,13 @@ use Rattle.sheet.specs.Measured.{Accepted}
 use Rattle.sheet.proofs.Asked.{measured}
 use Rattle.sheet.proofs.Counted.{counted}
 use Rattle.sheet.proofs.Limited.{limited}
-use Rattle.stage.proofs.Closing.{few-below}
+use Rattle.stage_prepare.proofs.Closing.{few-below}
 use Rattle.stage_outcome.specs.Answers as answers
 use Rattle.call_admission.specs.Begun.{refusedBy}
-use Rattle.call_next.specs.Chain.{next, nextOf}
+use Rattle.stage.specs.Next.{next, nextOf}
 use Rattle.call_lengths.specs.Stored.{Stored}
-use Rattle.call_next.proofs.Zeroed.{fill-zero}
-use Rattle.call_next.proofs.Steps.{Stepped, went, quit, same-next, step}
+use Rattle.call_order.proofs.Zeroed.{fill-zero}
+use Rattle.call_order.proofs.Steps.{Stepped, went, quit, same-next, step}
 
 -- the refusals of a stage carry its number
 pub named : (which : AnalysisKind) (sheet : List ℕ) (enough : ℕ → Bool) (lengthFact : ℕ → Fact) (budget : VerifierResources) (refusal : Refusal) (left : VerifierResources)

@@ -24,14 +24,14 @@ use Rattle.model.specs.Tables.{lengthTable}
 use Rattle.stage_memory.specs.Stage.{zeroScratch, tableIf}
 use Rattle.call_admission.specs.Begun.{noCounts, refusedBy, begunOf, chargeGraph}
 use Rattle.stage_outcome.specs.Answers.{counted, refusing}
-use Rattle.call_next.specs.Chain.{next, nextOf}
+use Rattle.stage.specs.Next.{next, nextOf}
 use Rattle.call_lengths.specs.Stored.{Stored, Lengthened}
-use Rattle.call_next.specs.Values.{values, valuesEnd, valuesOf}
-use Rattle.call_next.proofs.Same.{constants-same, index-same}
-use Rattle.call_next.proofs.Zeroed.{zero-same, zero-twice, scratch-twice, fill-zero, scratch-room}
-use Rattle.call_next.proofs.Steps.{Stepped, went, quit, step, stays, refusing-refused}
-use Rattle.call_next.proofs.Constants.{named, stored}
-use Rattle.call_next.proofs.Order.{quit-graph, quit-constants, quit-index, both-went}
+use Rattle.call_order.specs.Values.{values, valuesEnd, valuesOf}
+use Rattle.call_order.proofs.Same.{constants-same, index-same}
+use Rattle.call_order.proofs.Zeroed.{zero-same, zero-twice, scratch-twice, fill-zero, scratch-room}
+use Rattle.call_order.proofs.Steps.{Stepped, went, quit, step, stays, refusing-refused}
+use Rattle.call_order.proofs.Constants.{named, stored}
+use Rattle.call_order.proofs.Order.{quit-graph, quit-constants, quit-index, both-went}
 
 -- question 8 with a scratch that was cleared
 pub room-as-lent : (n : ℕ) (t : Table) (W : Scratch) {w : Scratch} → w ≡ zeroScratch W → (s : ℕ)

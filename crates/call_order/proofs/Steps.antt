@@ -16,10 +16,9 @@ use Rattle.model.specs.declared.Answer.{Answer}
 use Rattle.model.specs.declared.Answer.the-variants.{OverBudget}
 use Rattle.model.proofs.Stages.{Names}
 use Rattle.stage_memory.specs.Stage.{zeroScratch}
-use Rattle.stage_memory.specs.Ends.{stageOf}
 use Rattle.call_admission.specs.Begun.{refusedBy}
 use Rattle.stage_outcome.specs.Answers.{counted, afterStage, refusing}
-use Rattle.call_next.specs.Chain.{Next, next, nextBy, nextOf}
+use Rattle.stage.specs.Next.{Next, next, nextBy, nextOf}
 
 -- The analysis ended, or was refused.
 pub data Stepped (which : AnalysisKind) (constant index container : Counts) (spent : Spent Analysed) (old : Table) (w : Scratch) (answer : Answer) (output : Table) (w′ : Scratch) : Type 0 where
@@ -35,8 +34,8 @@ same-next {a} {b} {t} {u} {v} {w} e =
 
 module _ (which : AnalysisKind) (constant index container : Counts) (old : Table) (w : Scratch) {answer : Answer} {output : Table} {w′ : Scratch} where
   pub step : (spent : Spent Analysed) → ((refusal : Refusal) (left : VerifierResources) → spent ≡ stop refusal left → Names (stageNumber which) refusal)
-      → some (next answer output w′) ≡ nextBy which constant index container (stageOf old w spent) → Stepped which constant index container spent old w answer output w′
-  unfolding nextBy stageOf afterStage refusedBy
+      → some (next answer output w′) ≡ nextBy which constant index container old w spent → Stepped which constant index container spent old w answer output w′
+  unfolding nextBy afterStage refusedBy
   step (ok x left) named e = let p = same-next e in went x left refl (p .0) (p .1) (p .2)
   step (stop (overBudget stage requested remaining) left) named e =
       let p = same-next e in

@@ -1,0 +1,2 @@
+-- The first two analyses, and the third after them
+pub mod Values

@@ -1,0 +1,1 @@
+-- This crate has no laws beside the proof of its function.
