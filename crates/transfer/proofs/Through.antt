@@ -19,11 +19,12 @@ use Rattle.fact_row.specs.Rows.{Lies}
 use Rattle.transfer_facts.specs.Effect.{effectCell, factWritten, effectOf}
 use Rattle.transfer_facts.specs.declared.Effect.{Effect}
 use Rattle.transfer_facts.proofs.EffectRules.{effect-cells}
-use Rattle.transfer_rows.specs.Slots.{names, Names}
+use Rattle.transfer_written.specs.Ranges.{holdsSlot, SlotsAre}
+use Rattle.transfer_written.specs.Spans.{slotWritten}
+use Rattle.transfer_written.specs.declared.Written.{Written}
 use Rattle.transfer_rows.specs.Wrote.{Wrote}
-use Rattle.transfer_rows.specs.declared.Written.{Written}
 use Rattle.transfer_rows.proofs.Writing.{wrote-row}
-use Rattle.transfer.specs.Analysis.{slotWritten, checksIndex}
+use Rattle.transfer.specs.Analysis.{checksIndex}
 
 -- ---- IndexCheck
 
@@ -54,9 +55,9 @@ module _ (sheet : List ℕ) (pc : ℕ) (slots : List ℕ) (row : Row) where
 
   pub transferred : (which : AnalysisKind) (fact : Fact) (inst : Instruction) → inst ≡ instruction sheet pc → {kinds values copied-kinds copied-values : List ℕ} → Lies row kinds values
       → copied-kinds ≡ kinds → copied-values ≡ values → length kinds ≡ length slots → length values ≡ length slots → ((k : ℕ) → k < length slots → getD slots k 0 < 65536)
-      → (w : Written) (sizes : Sizes) → Names w sheet sizes (slotWritten which sheet pc slots row)
+      → (w : Written) (sizes : Sizes) → SlotsAre w sheet sizes (slotWritten which sheet pc slots row)
       → (effect : Effect) → effect ≡ effectOf which sheet pc slots row
-      → {kinds′ values′ kinds″ values″ : List ℕ} → Wrote slots (names w sheet) (effectCell effect slots row) copied-kinds copied-values kinds′ values′
+      → {kinds′ values′ kinds″ values″ : List ℕ} → Wrote slots (holdsSlot w sheet) (effectCell effect slots row) copied-kinds copied-values kinds′ values′
       → ((r : Row) → Lies r kinds′ values′ → Lies (indexChecked (checksIndex which (inst .op)) inst slots (checkedFrom fact) r) kinds″ values″)
       → Lies (transferRow which sheet slots (λ p. fact) pc row) kinds″ values″
   unfolding written-row

@@ -12,7 +12,6 @@ ghost use Rattle.memory.specs.Front.{Holds};
 ghost use Rattle.sheet.specs.Measured.{Accepted};
 ghost use Rattle.fact_row.specs.Rows.{Tracked, Lies};
 ghost use Rattle.transfer.specs.Analysis.{checksIndex};
-use crate::spans::slots_written;
 use fact_row::checked_cell;
 use fact_row::wide;
 use model::AnalysisKind;
@@ -22,6 +21,7 @@ use sheet::Sizes;
 use transfer_facts::effect_of;
 use transfer_rows::put_fact;
 use transfer_rows::write_slots;
+use transfer_written::slots_written;
 
 // "Opcodes (decimal)"
 const INDEX_CHECK: u8 = 121;

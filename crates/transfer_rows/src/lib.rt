@@ -1,6 +1,6 @@
 // Facts written into a row, slot by slot, from the row before.
 ghost use mathlib.Core.Path.{_≡_};
-ghost use Prim.Native.Nat.{_-_, _<_, _≤_};
+ghost use Prim.Native.Nat.{_-_, _≤_};
 ghost use lib.ListN.{length, getD};
 ghost use Rattle.model.specs.Tables.{factsOf};
 ghost use Rattle.model.specs.Written.{inRange};
@@ -10,50 +10,17 @@ ghost use mathlib.Core.Bool.{true};
 ghost use lib.Dec.{eqb};
 ghost use Rattle.transfer_facts.specs.Effect.{effectCell};
 ghost use Rattle.fact_row.specs.Rows.{Tracked};
+ghost use Rattle.transfer_written.specs.Ranges.{holdsSlot, rangesEnd};
 ghost use Rattle.transfer_rows.specs.Wrote.{Wrote};
-ghost use Rattle.transfer_rows.specs.Slots.{rangeCount, rangeOf, names, lastRange};
 use fact_row::lower_bound;
 use fact_row::wide;
 use model::FactCell;
 use sheet::Sizes;
 use transfer_facts::Effect;
 use transfer_facts::effect_on_slot;
-
-// The slots that an instruction writes: those of one range, or of count ranges of the sheet from the range first on.
-pub enum Written {
-    Span { start: u16, count: u64 },
-    Ranges { first: usize, count: usize },
-}
-
-// One range of slots.
-struct SlotRange {
-    start: u16,
-    count: u64,
-}
-
-// How many ranges they are.
-fn range_count(written: Written) -> usize
-    ensures { λ r. ⌜ r ≡ rangeCount written ⌝ }
-{
-    match written {
-        Written::Span { start: _, count: _ } => 1,
-        Written::Ranges { first: _, count } => count,
-    }
-}
-
-// The i-th of them.
-fn range_of(written: Written, sheet: &[u8], sizes: Sizes, i: usize) -> SlotRange
-    requires { ⌜ Measured (now sheet) sizes × (lastRange written ≤ sizes .«range_count») × (i < rangeCount written) ⌝ }
-    ensures { λ r. ⌜ r ≡ rangeOf written (now (sheet .entry)) i ⌝ }
-{
-    match written {
-        Written::Span { start, count } => SlotRange { start, count },
-        Written::Ranges { first, count: _ } => SlotRange {
-            start: sheet_fields::range_start_at(sheet, sizes, first + i),
-            count: sheet_fields::range_length_at(sheet, sizes, first + i) as u64,
-        },
-    }
-}
+use transfer_written::Written;
+use transfer_written::range_count;
+use transfer_written::range_of;
 
 // The tracked slots from start up to but not including start + count become what the effect makes of them. last is the last of the slots.
 fn write_range(
@@ -99,9 +66,9 @@ pub fn write_slots(
     out_kinds: &mut [u8],
     out_values: &mut [u64],
 )
-    requires { ⌜ Measured (now sheet) sizes × (lastRange written ≤ sizes .«range_count») ⌝ }
+    requires { ⌜ Measured (now sheet) sizes × (rangesEnd written ≤ sizes .«range_count») ⌝ }
     requires { ⌜ Tracked (now slots) (now kinds) (now values) × (length (now «out_kinds») ≡ length (now slots)) × (length (now «out_values») ≡ length (now slots)) ⌝ }
-    ensures { λ r. ⌜ Wrote (now (slots .entry)) (names written (now (sheet .entry))) (effectCell effect (now (slots .entry)) (factsOf (now (kinds .entry)) (now (values .entry)))) (now («out_kinds» .entry)) (now («out_values» .entry)) (now («out_kinds» .exit)) (now («out_values» .exit)) ⌝ }
+    ensures { λ r. ⌜ Wrote (now (slots .entry)) (holdsSlot written (now (sheet .entry))) (effectCell effect (now (slots .entry)) (factsOf (now (kinds .entry)) (now (values .entry)))) (now («out_kinds» .entry)) (now («out_values» .entry)) (now («out_kinds» .exit)) (now («out_values» .exit)) ⌝ }
 {
     let len = slots.len();
     if len == 0 {
