@@ -4,18 +4,20 @@ use mathlib.Core.Path.{_≡_, refl, subst}
 use mathlib.Core.Bool.{Bool, true, false}
 use mathlib.Core.List.{List}
 use Prim.Native.Nat.{ℕ, _<_}
-use lib.Dec.{eqb}
 use lib.ListN.{length, getD}
 use Rattle.model.specs.Fact.{Fact, Row}
+use Rattle.model.specs.Lookup.{place}
 use Rattle.model.specs.Sheet.{instruction}
 use Rattle.model.specs.Tables.{cellOf}
-use Rattle.model.specs.Transfer.{eachCell, replaced, put, constantCell, constantTransfer, indexCell, indexTransfer, containerCell, containerTransfer, checkedFrom, indexChecked, transferRow}
+use Rattle.model.specs.Transfer.{eachCell, replaced, constantCell, constantTransfer, indexCell, indexTransfer, containerCell, containerTransfer, checkedFrom, indexChecked, transferRow}
 use Rattle.model.specs.declared.FactCell.{FactCell}
 use Rattle.model.specs.declared.Instruction.{Instruction}
 use Rattle.model.specs.declared.AnalysisKind.{AnalysisKind}
 use Rattle.model.specs.declared.AnalysisKind.the-variants.{Constant, IndexCheck, Container}
 use Rattle.sheet.specs.declared.Sizes.{Sizes}
-use Rattle.fact_row.specs.Rows.{Lies}
+use Rattle.fact_row.specs.Place.{setAt}
+use Rattle.fact_row.specs.Rows.{Lies, RowSized}
+use Rattle.fact_row.proofs.Setting.{put-lies}
 use Rattle.transfer_facts.specs.Effect.{effectCell, factWritten, effectOf}
 use Rattle.transfer_facts.specs.declared.Effect.{Effect}
 use Rattle.transfer_facts.proofs.EffectRules.{effect-cells}
@@ -29,12 +31,11 @@ use Rattle.transfer.specs.Analysis.{checksIndex}
 -- ---- IndexCheck
 
 module _ (inst : Instruction) (slots : List ℕ) (fact : Fact) {test : Bool} {kinds values : List ℕ} (row : Row) (l : Lies row kinds values) where
-  pub index-checked : {t : Bool} → t ≡ test → t ≡ true → {slot : ℕ} → slot ≡ inst .a → {cell : FactCell} → cell ≡ cellOf fact → {kinds′ values′ : List ℕ}
-      → length kinds ≡ length slots → length values ≡ length slots → ((k : ℕ) → k < length slots → getD slots k 0 < 65536)
-      → Wrote slots (λ t. eqb t slot) (λ t. cell) kinds values kinds′ values′ → Lies (indexChecked test inst slots fact row) kinds′ values′
-  unfolding indexChecked put
-  index-checked p q s e nk nv below w =
-      rw (← p, q) (wrote-row slots _ _ kinds values nk nv w below row (λ t. eqb t (inst .a)) (λ t. fact) l (λ t h. rw s) (λ t. e))
+  pub index-checked : {t : Bool} → t ≡ test → t ≡ true → RowSized slots kinds values → {slot : ℕ} → slot ≡ inst .a → {cell : FactCell} → cell ≡ cellOf fact
+      → {kinds′ values′ : List ℕ} → kinds′ ≡ setAt (place slots slot) kinds (cell .kind) → values′ ≡ setAt (place slots slot) values (cell .value)
+      → Lies (indexChecked test inst slots fact row) kinds′ values′
+  unfolding indexChecked
+  index-checked p q r s e k v = rw (← p, q, ← s) (put-lies l r _ fact e k v)
 
   pub not-checked : {t : Bool} → t ≡ test → t ≡ false → Lies (indexChecked test inst slots fact row) kinds values
   unfolding indexChecked

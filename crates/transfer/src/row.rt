@@ -1,25 +1,23 @@
 // A row through an instruction, once for the three analyses.
 ghost use mathlib.Core.Path.{_≡_};
-ghost use mathlib.Core.Bool.{true};
 ghost use Prim.Native.Nat.{_<_};
 ghost use lib.ListN.{length};
 ghost use Rattle.model.specs.Fact.{Row};
-ghost use Rattle.model.specs.Lookup.{ascends};
 ghost use Rattle.model.specs.Sheet.{codeCount, firstRange};
 ghost use Rattle.model.specs.Tables.{factIn, factsOf};
 ghost use Rattle.model.specs.Transfer.{checkedFrom, indexChecked, transferRow};
 ghost use Rattle.memory.specs.Front.{Holds};
 ghost use Rattle.sheet.specs.Measured.{Accepted};
-ghost use Rattle.fact_row.specs.Rows.{Tracked, Lies};
+ghost use Rattle.fact_row.specs.Rows.{Tracked, RowSized, Lies};
 ghost use Rattle.transfer.specs.Analysis.{checksIndex};
 use fact_row::checked_cell;
+use fact_row::set_fact;
 use fact_row::wide;
 use model::AnalysisKind;
 use model::FactCell;
 use model::Instruction;
 use sheet::Sizes;
 use transfer_facts::effect_of;
-use transfer_rows::put_fact;
 use transfer_rows::write_slots;
 use transfer_written::slots_written;
 
@@ -46,11 +44,11 @@ fn set_checked(
     kinds: &mut [u8],
     values: &mut [u64],
 )
-    requires { ⌜ (ascends (now slots) ≡ true) × (length (now kinds) ≡ length (now slots)) × (length (now values) ≡ length (now slots)) ⌝ }
+    requires { ⌜ RowSized (now slots) (now kinds) (now values) ⌝ }
     ensures { λ r. ⌜ ((row : Row) → Lies row (now (kinds .entry)) (now (values .entry)) → Lies (indexChecked (checksIndex which (inst .op)) inst (now (slots .entry)) (checkedFrom (factIn «length_fact»)) row) (now (kinds .exit)) (now (values .exit))) ⌝ }
 {
     if checks_index(which, inst.op) {
-        put_fact(
+        set_fact(
             slots,
             wide(inst.a),
             checked_cell(length_fact),

@@ -5,16 +5,12 @@ ghost use lib.ListN.{length, getD};
 ghost use Rattle.model.specs.Tables.{factsOf};
 ghost use Rattle.model.specs.Written.{inRange};
 ghost use Rattle.sheet.specs.Measured.{Measured};
-ghost use Rattle.model.specs.Lookup.{ascends};
-ghost use mathlib.Core.Bool.{true};
-ghost use lib.Dec.{eqb};
 ghost use Rattle.transfer_facts.specs.Effect.{effectCell};
 ghost use Rattle.fact_row.specs.Rows.{Tracked};
 ghost use Rattle.transfer_written.specs.Ranges.{holdsSlot, rangesEnd};
 ghost use Rattle.transfer_rows.specs.Wrote.{Wrote};
 use fact_row::lower_bound;
 use fact_row::wide;
-use model::FactCell;
 use sheet::Sizes;
 use transfer_facts::Effect;
 use transfer_facts::effect_on_slot;
@@ -92,20 +88,4 @@ pub fn write_slots(
         );
         i += 1;
     }
-}
-
-// One slot's fact is set, if the slot is tracked.
-pub fn put_fact(slots: &[u16], slot: usize, cell: FactCell, kinds: &mut [u8], values: &mut [u64])
-    requires { ⌜ (ascends (now slots) ≡ true) × (length (now kinds) ≡ length (now slots)) × (length (now values) ≡ length (now slots)) ⌝ }
-    ensures { λ r. ⌜ Wrote (now (slots .entry)) (λ t. eqb t slot) (λ t. cell) (now (kinds .entry)) (now (values .entry)) (now (kinds .exit)) (now (values .exit)) ⌝ }
-{
-    let at = lower_bound(slots, slot);
-    if slots.len() <= at {
-        return;
-    }
-    if wide(slots[at]) != slot {
-        return;
-    }
-    kinds[at] = cell.kind;
-    values[at] = cell.value;
 }

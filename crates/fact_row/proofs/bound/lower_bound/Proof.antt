@@ -1,5 +1,4 @@
 -- `fact_row::bound::lower_bound` meets its contract: each turn halves the part in which the bound lies. Assumes nothing.
-use Prim.Native.Nat.{_-_}
 use native.Mathlib.Omega.{arith}
 use borrow.Author.Needs.{needs}
 use Rattle.fact_row.proofs.Ascending.{Halved, whole, halved, bound-above, bound-at, bound-none}

@@ -42,7 +42,11 @@ write-slots-requires c κs =
 set-checked-requires : tie.Need-set-checked-requires
 set-checked-requires c κs =
     let s = c .before .before .before .before .before .before in
-    (c .before .before .before .before .before .before .before .before .before .before .before .before .before .before .before .before .before .before .before .before .before .before .before .before .before .before .before .pre .1 .0 .ascending, s .write-slots .ensures .kinds-long, s .write-slots .ensures .values-long)
+    record {
+      ascending = c .before .before .before .before .before .before .before .before .before .before .before .before .before .before .before .before .before .before .before .before .before .before .before .before .before .before .before .pre .1 .0 .ascending;
+      kinds-long = s .write-slots .ensures .kinds-long;
+      values-long = s .write-slots .ensures .values-long;
+    }
 
 same-length : tie.Need-same-length
 same-length c = search needs
