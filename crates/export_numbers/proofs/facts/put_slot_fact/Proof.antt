@@ -1,4 +1,4 @@
--- `facts::put_fact` meets its contract. Assumes nothing.
+-- `facts::put_slot_fact` meets its contract. Assumes nothing.
 use mathlib.Core.Path.{ap}
 use mathlib.Core.List.{[], _∷_}
 use native.Mathlib.Omega.{arith}
@@ -7,8 +7,8 @@ use lib.ListN.{length}
 use lib.Seq.{sets-eq}
 use Rattle.model.specs.Interface.{looked, lookedUp, interfaceCompute}
 use borrow.Author.Needs.{needs}
-use Rattle.export_numbers.proofs.facts.put_fact.Statement.{statement}
-use Rattle.export_numbers.proofs.facts.put_fact.Tie as tie
+use Rattle.export_numbers.proofs.facts.put_slot_fact.Statement.{statement}
+use Rattle.export_numbers.proofs.facts.put_slot_fact.Tie as tie
 
 returns : tie.Need-returns
 unfolding lookedUp
@@ -47,8 +47,8 @@ returns-4 : tie.Need-returns-4
 unfolding interfaceCompute
 returns-4 c = rw (c .enum-told2 .given .1, le-leb 2 (length (c .before .before .before .args .out .now)) (omega arith))
 
-pub put-fact-spec : {M : Type 1} → statement M
-put-fact-spec =
+pub put-slot-fact-spec : {M : Type 1} → statement M
+put-slot-fact-spec =
     tie.close
     (tie.spec
     returns

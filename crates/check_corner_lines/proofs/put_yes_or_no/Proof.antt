@@ -1,4 +1,4 @@
--- `check_corner_lines::put_answer` meets its contract: one of two words.
+-- `check_corner_lines::put_yes_or_no` meets its contract: one of two words.
 -- Assumes nothing.
 use mathlib.Core.Path.{refl}
 use native.Mathlib.Omega.{arith}
@@ -6,8 +6,8 @@ use Rattle.model.specs.Listing.{ascii}
 use Rattle.text_words.proofs.Writing.{reword}
 use Rattle.check_corner_lines.specs.Lines.{yesOrNo}
 use borrow.Author.Needs.{needs}
-use Rattle.check_corner_lines.proofs.put_answer.Statement.{statement}
-use Rattle.check_corner_lines.proofs.put_answer.Tie as tie
+use Rattle.check_corner_lines.proofs.put_yes_or_no.Statement.{statement}
+use Rattle.check_corner_lines.proofs.put_yes_or_no.Tie as tie
 
 slice-aggregate-put : tie.Need-slice-aggregate-put
 slice-aggregate-put c = search needs
@@ -41,8 +41,8 @@ returns-2 c =
     let left = put2 .before .before .before in
     rw (left .if1 .left) (reword (omega arith) refl (put2 .put2 .ensures))
 
-pub put-answer-spec : {M : Type 1} → statement M
-put-answer-spec =
+pub put-yes-or-no-spec : {M : Type 1} → statement M
+put-yes-or-no-spec =
     tie.close
     (tie.spec
     slice-aggregate-put

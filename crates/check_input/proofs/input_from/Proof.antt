@@ -1,4 +1,4 @@
--- `check_input::answered` meets its contract. Assumes nothing.
+-- `check_input::input_from` meets its contract. Assumes nothing.
 use mathlib.Core.Path.{_≡_}
 use native.Mathlib.Omega.{arith}
 use mir.Syntax.{w64}
@@ -6,8 +6,8 @@ use mir.Val.{toZ, ofZ}
 use mir.ValLaws.{toZ-ofZ}
 use Rattle.check_input.proofs.Filled.{failed-is, natural, came-is}
 use borrow.Author.Needs.{needs}
-use Rattle.check_input.proofs.answered.Statement.{statement}
-use Rattle.check_input.proofs.answered.Tie as tie
+use Rattle.check_input.proofs.input_from.Statement.{statement}
+use Rattle.check_input.proofs.input_from.Tie as tie
 
 returns : tie.Need-returns
 returns c =
@@ -27,5 +27,5 @@ returns-2 c =
     let back : toZ w64 (ofZ w64 (c .before .before .args .got)) ≡ c .before .before .args .got = toZ-ofZ w64 (c .before .before .args .got) (c .before .before .fits .got) in
     (came-is (c .before .before .args .got) (c .before .before .args .most) (c .least .result) (rw back at (c .before .if1 .left)) (rw back at (c .least .ensures .2)), c .least .ensures .1)
 
-pub answered-spec : {M : Type 1} → statement M
-answered-spec = tie.close (tie.spec returns cast-least least-requires returns-2)
+pub input-from-spec : {M : Type 1} → statement M
+input-from-spec = tie.close (tie.spec returns cast-least least-requires returns-2)

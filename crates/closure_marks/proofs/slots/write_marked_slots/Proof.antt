@@ -1,11 +1,11 @@
--- `closure_marks::slots::write_slots` meets its contract: the marked slots passed are written.
+-- `closure_marks::slots::write_marked_slots` meets its contract: the marked slots passed are written.
 -- Assumes nothing.
 use Prim.Native.Nat.{_-_}
 use native.Mathlib.Omega.{arith}
 use lib.ListN.{length}
 use Rattle.closure_marks.proofs.Listing.{Writing, writing-none, writing-inside, writing-within, writing-room, writing-more, writing-all}
-use Rattle.closure_marks.proofs.slots.write_slots.Statement.{statement}
-use Rattle.closure_marks.proofs.slots.write_slots.Tie as tie
+use Rattle.closure_marks.proofs.slots.write_marked_slots.Statement.{statement}
+use Rattle.closure_marks.proofs.slots.write_marked_slots.Tie as tie
 
 abbrev Inv-loop : tie.InvT-loop
 Inv-loop marks slots₀ s at₀ i₀ slots at i = Writing marks slots₀ slots at i
@@ -58,8 +58,8 @@ same-length c = c .before .loop .inv .long
 returns : tie.Need-returns Inv-loop μ-loop
 returns c = writing-all (c .before .loop .inv) (omega (arith, c .loop-test .left, c .before .before .before .before .pre .2))
 
-pub write-slots-spec : {M : Type 1} → statement M
-write-slots-spec =
+pub write-marked-slots-spec : {M : Type 1} → statement M
+write-marked-slots-spec =
     tie.close
     (tie.spec
     Inv-loop
