@@ -9,8 +9,6 @@ use Rattle.call_lengths.proofs.Storing.{stored-few, slots-fit, present-
 use borrow.Author.Needs.{needs}
 use Rattle.call_lengths.proofs.kept.store_lengths.Statement.{statement}
 use Rattle.call_lengths.proofs.kept.store_lengths.Tie as tie
-use Rattle.call_lengths.proofs.kept.store_lengths.Reads as reads
-use Rattle.call_lengths.proofs.kept.store_lengths.Lts as lts
 use Rattle.call_lengths.proofs.found.length_facts.Reads as length-facts-reads
 
 enum-known-before : tie.Need-enum-known-before
