@@ -57,10 +57,10 @@ module _ (n : ℕ) (targets : List ℕ) where
   past-end (pos k) h = rw (le-ltb k n h)
   past-end (negsuc k) h = refl
 
-  pub inside : (z : ℤ) → ltZ z (pos 0) ≡ false → natAbs z < n → pushValid n targets z ≡ push targets (natAbs z)
+  pub valid-inside : (z : ℤ) → ltZ z (pos 0) ≡ false → natAbs z < n → pushValid n targets z ≡ push targets (natAbs z)
   unfolding pushValid
-  inside (pos k) e h = rw (lt-ltb k n h)
-  inside (negsuc k) e h = absurd (let z : _≡_ {A = ℕ} 0 1 = cc in omega arith)
+  valid-inside (pos k) e h = rw (lt-ltb k n h)
+  valid-inside (negsuc k) e h = absurd (let z : _≡_ {A = ℕ} 0 1 = cc in omega arith)
 
 -- what the cast of a target asks
 pub natural : (z : ℤ) → ltZ z (pos 0) ≡ false → SFits w64 z → T (nonNeg z) × Fits w64 (natAbs z)

@@ -65,8 +65,8 @@ module _ (piece old new : List ℕ) (to count next most : ℕ) (h : to ≤ lengt
 pub still-behind : (old mid new : List ℕ) (done count : ℕ) → drop done mid ≡ drop done old → drop (done + count) new ≡ drop (done + count) mid → drop (done + count) new ≡ drop (done + count) old
 still-behind old mid new done count e k = k ∙ sym (drop-drop count done mid) ∙ ap (drop count) e ∙ drop-drop count done old
 
-pub counted : (count : ℕ) (bytes : List ℕ) → count ≤ length bytes → Counts count bytes
-counted count bytes h = (h, sym (length-take-le count bytes h))
+pub counts-first : (count : ℕ) (bytes : List ℕ) → count ≤ length bytes → Counts count bytes
+counts-first count bytes h = (h, sym (length-take-le count bytes h))
 
 -- ---- the front of a buffer
 
@@ -75,7 +75,7 @@ pub front-read : (front buffer : List ℕ) (count r : ℕ) → count ≤ length 
     → Counts r (front ++ drop count buffer) × (r ≤ count) × (drop r (front ++ drop count buffer) ≡ drop r buffer) × (length buffer < count → r ≡ 0)
 front-read front buffer count r h e k same =
     let t = length-take-le count buffer h in (
-      counted r (front ++ drop count buffer) (omega (arith, length-append front (drop count buffer))),
+      counts-first r (front ++ drop count buffer) (omega (arith, length-append front (drop count buffer))),
       omega arith,
       drop-append-le r front (drop count buffer) k
           ∙ ap (λ (x : List ℕ). x ++ drop count buffer) same

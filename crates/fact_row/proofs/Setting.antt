@@ -12,7 +12,7 @@ use Rattle.model.specs.Tables.{cellOf}
 use Rattle.model.specs.Transfer.{put}
 use Rattle.model.specs.declared.FactCell.{FactCell}
 use Rattle.fact_row.specs.Place.{setAt}
-use Rattle.fact_row.specs.Rows.{Lies, RowSized}
+use Rattle.fact_row.specs.Rows.{Lies, WritableRow}
 use Rattle.fact_row.proofs.Facts.{kind-of, value-of}
 use Rattle.fact_row.proofs.Places.{put-found, put-untracked}
 
@@ -35,7 +35,7 @@ module _ {row : Row} {kinds values : List ℕ} (l : Lies row kinds values) where
   lies-long e = omega (arith, ap length (l .kinds-are), length-map row kind)
 
   -- the fact of a slot is set in memory
-  pub put-lies : {slots : List ℕ} → RowSized slots kinds values → (slot : ℕ) (fact : Fact) {cell : FactCell} → cell ≡ cellOf fact
+  pub put-lies : {slots : List ℕ} → WritableRow slots kinds values → (slot : ℕ) (fact : Fact) {cell : FactCell} → cell ≡ cellOf fact
       → {k v : List ℕ} → k ≡ setAt (place slots slot) kinds (cell .kind) → v ≡ setAt (place slots slot) values (cell .value) → Lies (put slots row slot fact) k v
   unfolding setAt
   put-lies {slots} r slot fact is {k} {v} p q = go (place slots slot) refl (rw (kind-of fact is) at p) (rw (value-of fact is) at q)

@@ -22,7 +22,7 @@ use Rattle.memory.specs.Front.{Holds}
 use Rattle.sheet.specs.Measured.{Accepted}
 use Rattle.sheet.specs.declared.Sizes.{Sizes}
 use Rattle.sheet.proofs.Counted.{counted}
-use Rattle.fact_row.specs.Rows.{Lies, Tracked}
+use Rattle.fact_row.specs.Rows.{Lies, ReadableRow}
 use Rattle.fixpoint_visit.specs.Laid.{RowsLaid, RowLaid, Following, Follow}
 use Rattle.fixpoint_step.specs.Stepped.{ranAnalysis, Stepping, Step, Copied}
 use Rattle.fixpoint_visit.proofs.Laying.{row-end, mid-row, rows-are}
@@ -65,7 +65,7 @@ module _ {which : AnalysisKind} {sheet : List ℕ} {sizes : Sizes} {firsts start
 
   -- what the transfer asks
   pub transfer-asks : (Accepted sheet sizes × Holds (firstRange sheet) (codeCount sheet) firsts × (p < sizes .«code_count»))
-      × (Tracked slots (midOf (p * length slots) (p * length slots + length slots - p * length slots) kinds) (midOf (p * length slots) (p * length slots + length slots - p * length slots) values)
+      × (ReadableRow slots (midOf (p * length slots) (p * length slots + length slots - p * length slots) kinds) (midOf (p * length slots) (p * length slots + length slots - p * length slots) values)
       × (length rowKinds ≡ length slots) × (length rowValues ≡ length slots))
   transfer-asks =
       let k = part-kinds (length slots) p (t .st .rows) present kinds values (t .laid .rows-laid) present-below (t .row) (t .stands) in

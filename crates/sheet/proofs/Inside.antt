@@ -19,7 +19,7 @@ unfolding instruction codeAt
 instruction-is sheet pc eo ef ea eb ec = cc
 
 -- each array ends within the sheet, so that each of its entries lies in it
-pub record Inside (whole : ℕ) (s : Sizes) : Type 0 where
+pub record ArraysInside (whole : ℕ) (s : Sizes) : Type 0 where
   pub code : 40 + 8 * s .«code_count» ≤ whole
   pub note-kinds : s .places .«note_kinds» + s .«code_count» ≤ whole
   pub note-as : s .places .«note_as» + 2 * s .«code_count» ≤ whole
@@ -37,11 +37,11 @@ pub record Inside (whole : ℕ) (s : Sizes) : Type 0 where
   pub slot-kinds : s .places .«slot_kinds» + s .«slot_kind_count» ≤ whole
 
 module _ {sheet : List ℕ} {sizes : Sizes} (m : Measured sheet sizes) where
-  pub inside : Inside (length sheet) sizes
-  inside = let l = laid m in omega arith
+  pub arrays-inside : ArraysInside (length sheet) sizes
+  arrays-inside = let l = laid m in omega arith
 
   pub code-inside : (i : ℕ) → i < sizes .«code_count» → 40 + 8 * i + 8 ≤ length sheet
-  code-inside i h = omega (arith, inside .code)
+  code-inside i h = omega (arith, arrays-inside .code)
 
   pub layout-length-past : (i : ℕ) → sizes .«layout_count» ≤ i → 0 ≡ layoutLength sheet i
   unfolding sizesOf layoutLength

@@ -9,7 +9,7 @@ use Rattle.model.specs.Charges.{Refusal, Spent, ok, stop, unfinished}
 use Rattle.model.specs.Fact.{unknown, kind, value, Row}
 use Rattle.model.specs.Analyses.{unknownRow}
 use Rattle.model.specs.declared.VerifierResources.{VerifierResources}
-use Rattle.fact_row.specs.Rows.{Lies, RowSized}
+use Rattle.fact_row.specs.Rows.{Lies, WritableRow}
 use Rattle.stage_entry.specs.First.{Blank, First, first, firstOf}
 
 -- ---- a row in memory
@@ -26,7 +26,7 @@ blank-lies {slots} b = record {
   values-are = b .values-zero ∙ sym (map-replicate value (length slots) unknown);
 }
 
-pub blank-rowed : {slots kinds values : List ℕ} → Blank slots kinds values → RowSized slots kinds values
+pub blank-rowed : {slots kinds values : List ℕ} → Blank slots kinds values → WritableRow slots kinds values
 blank-rowed {slots} b = record {
   ascending = b .ascending;
   kinds-long = ap length (b .kinds-zero) ∙ length-replicate (length slots) 0;

@@ -23,9 +23,9 @@ use Rattle.model.specs.declared.VerifierResources.{VerifierResources}
 use Rattle.budget.specs.Metering.{asSpent}
 use Rattle.budget.specs.declared.Metering.{Metering}
 use Rattle.budget.specs.declared.Metering.the-variants.{Covered, Refused}
-use Rattle.sheet.proofs.Adding.{Added, added-none, added-more}
+use Rattle.sheet.proofs.Adding.{SumUpto, added-none, added-more}
 use Rattle.fact_row.specs.Place.{setAt}
-use Rattle.fact_row.specs.Rows.{Lies, RowSized}
+use Rattle.fact_row.specs.Rows.{Lies, WritableRow}
 use Rattle.fact_row.proofs.Facts.{read}
 use Rattle.fact_row.proofs.Setting.{put-lies}
 use Rattle.stage_entry.specs.First.{first, firstOf}
@@ -49,7 +49,7 @@ module _ (sheet slots : List ℕ) (slot : ℕ) (resources : VerifierResources) {
     came-by : asSpent 5 whole ≡ chargeLayouts sheet fact resources
     came-by = came ∙ ap (λ (f : Fact). chargeLayouts sheet f resources) (read fact is)
 
-    pub seed-covered : {left : VerifierResources} {k v : List ℕ} → whole ≡ Covered left → RowSized slots kinds values
+    pub seed-covered : {left : VerifierResources} {k v : List ℕ} → whole ≡ Covered left → WritableRow slots kinds values
         → k ≡ setAt (place slots slot) kinds (cell .kind) → v ≡ setAt (place slots slot) values (cell .value)
         → first (asSpent 5 whole) k v ≡ firstOf (length slots) (seedParam sheet slots slot (some fact) row resources)
     unfolding seedParam give
@@ -89,12 +89,12 @@ module _ (sheet slots : List ℕ) (start : ℕ) (budget : VerifierResources) whe
   module _ (k₀ v₀ : List ℕ) (count : ℕ) where
     -- after i of the parameters, all charges covered
     pub record Seeded (k v : List ℕ) (left : VerifierResources) (passed i : ℕ) : Type 0 where
-      pub added : Added (λ j. paramWidth sheet j) count passed i
+      pub added : SumUpto (λ j. paramWidth sheet j) count passed i
       pub kinds-long : length k ≡ length slots
       pub values-long : length v ≡ length slots
       pub is : (row : Row) → Lies row k₀ v₀ → (out : Row) × (seeded i row ≡ ok out left) × Lies out k v
 
-    pub seeded-none : RowSized slots k₀ v₀ → Seeded k₀ v₀ budget 0 0
+    pub seeded-none : WritableRow slots k₀ v₀ → Seeded k₀ v₀ budget 0 0
     unfolding seedParams give
     seeded-none r = record {
       added = added-none (λ j. paramWidth sheet j) count;

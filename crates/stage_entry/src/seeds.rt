@@ -10,7 +10,7 @@ ghost use Rattle.model.specs.Parameters.{paramStart, paramFact, seedParam, seed
 ghost use Rattle.model.specs.Analyses.{unknownRow};
 ghost use Rattle.budget.specs.Metering.{asSpent};
 ghost use Rattle.sheet.specs.Measured.{Measured};
-ghost use Rattle.fact_row.specs.Rows.{Lies, RowSized};
+ghost use Rattle.fact_row.specs.Rows.{Lies, WritableRow};
 ghost use Rattle.stage_entry.specs.First.{Blank, first, firstOf};
 use crate::params::ParamStart;
 use crate::params::param_fact;
@@ -37,7 +37,7 @@ fn seed_fact(
     row_kinds: &mut [u8],
     row_values: &mut [u64],
 ) -> Metering
-    requires { ⌜ Measured (now sheet) sizes × RowSized (now slots) (now «row_kinds») (now «row_values») ⌝ }
+    requires { ⌜ Measured (now sheet) sizes × WritableRow (now slots) (now «row_kinds») (now «row_values») ⌝ }
     ensures { λ r. ⌜ ((row : Row) (fact : Fact) → Lies row (now («row_kinds» .entry)) (now («row_values» .entry)) → cell ≡ cellOf fact → first (asSpent 5 r) (now («row_kinds» .exit)) (now («row_values» .exit)) ≡ firstOf (length (now (slots .entry))) (seedParam (now (sheet .entry)) (now (slots .entry)) slot (some fact) row resources)) ⌝ }
 {
     let charged = charge_layouts(sheet, sizes, cell, resources);
@@ -61,7 +61,7 @@ fn seed_param(
     row_kinds: &mut [u8],
     row_values: &mut [u64],
 ) -> Metering
-    requires { ⌜ Measured (now sheet) sizes × (i < sizes .«param_count») × RowSized (now slots) (now «row_kinds») (now «row_values») ⌝ }
+    requires { ⌜ Measured (now sheet) sizes × (i < sizes .«param_count») × WritableRow (now slots) (now «row_kinds») (now «row_values») ⌝ }
     ensures { λ r. ⌜ ((row : Row) → Lies row (now («row_kinds» .entry)) (now («row_values» .entry)) → first (asSpent 5 r) (now («row_kinds» .exit)) (now («row_values» .exit)) ≡ firstOf (length (now (slots .entry))) (seedParam (now (sheet .entry)) (now (slots .entry)) slot (paramFact (now (sheet .entry)) i) row resources)) ⌝ }
 {
     let cell = param_fact(sheet, sizes, i);
@@ -90,7 +90,7 @@ fn seed_params(
     row_kinds: &mut [u8],
     row_values: &mut [u64],
 ) -> Metering
-    requires { ⌜ Measured (now sheet) sizes × RowSized (now slots) (now «row_kinds») (now «row_values») ⌝ }
+    requires { ⌜ Measured (now sheet) sizes × WritableRow (now slots) (now «row_kinds») (now «row_values») ⌝ }
     ensures { λ r. ⌜ ((row : Row) → Lies row (now («row_kinds» .entry)) (now («row_values» .entry)) → first (asSpent 5 r) (now («row_kinds» .exit)) (now («row_values» .exit)) ≡ firstOf (length (now (slots .entry))) (seedParams (now (sheet .entry)) (now (slots .entry)) start (paramCount (now (sheet .entry))) row resources)) ⌝ }
 {
     let count = sizes.param_count;

@@ -16,7 +16,7 @@ use Rattle.model.specs.declared.AnalysisKind.{AnalysisKind}
 use Rattle.model.specs.declared.AnalysisKind.the-variants.{Constant, IndexCheck, Container}
 use Rattle.sheet.specs.declared.Sizes.{Sizes}
 use Rattle.fact_row.specs.Place.{setAt}
-use Rattle.fact_row.specs.Rows.{Lies, RowSized}
+use Rattle.fact_row.specs.Rows.{Lies, WritableRow}
 use Rattle.fact_row.proofs.Setting.{put-lies}
 use Rattle.transfer_facts.specs.Effect.{effectCell, factWritten, effectOf}
 use Rattle.transfer_facts.specs.declared.Effect.{Effect}
@@ -31,7 +31,7 @@ use Rattle.transfer.specs.Analysis.{checksIndex}
 -- ---- IndexCheck
 
 module _ (inst : Instruction) (slots : List ℕ) (fact : Fact) {test : Bool} {kinds values : List ℕ} (row : Row) (l : Lies row kinds values) where
-  pub index-checked : {t : Bool} → t ≡ test → t ≡ true → RowSized slots kinds values → {slot : ℕ} → slot ≡ inst .a → {cell : FactCell} → cell ≡ cellOf fact
+  pub index-checked : {t : Bool} → t ≡ test → t ≡ true → WritableRow slots kinds values → {slot : ℕ} → slot ≡ inst .a → {cell : FactCell} → cell ≡ cellOf fact
       → {kinds′ values′ : List ℕ} → kinds′ ≡ setAt (place slots slot) kinds (cell .kind) → values′ ≡ setAt (place slots slot) values (cell .value)
       → Lies (indexChecked test inst slots fact row) kinds′ values′
   unfolding indexChecked

@@ -8,7 +8,7 @@ ghost use Rattle.model.specs.Tables.{factIn, factsOf};
 ghost use Rattle.model.specs.Transfer.{checkedFrom, indexChecked, transferRow};
 ghost use Rattle.memory.specs.Front.{Holds};
 ghost use Rattle.sheet.specs.Measured.{Accepted};
-ghost use Rattle.fact_row.specs.Rows.{Tracked, RowSized, Lies};
+ghost use Rattle.fact_row.specs.Rows.{ReadableRow, WritableRow, Lies};
 ghost use Rattle.transfer.specs.Analysis.{checksIndex};
 use fact_row::checked_cell;
 use fact_row::set_fact;
@@ -44,7 +44,7 @@ fn set_checked(
     kinds: &mut [u8],
     values: &mut [u64],
 )
-    requires { ⌜ RowSized (now slots) (now kinds) (now values) ⌝ }
+    requires { ⌜ WritableRow (now slots) (now kinds) (now values) ⌝ }
     ensures { λ r. ⌜ ((row : Row) → Lies row (now (kinds .entry)) (now (values .entry)) → Lies (indexChecked (checksIndex which (inst .op)) inst (now (slots .entry)) (checkedFrom (factIn «length_fact»)) row) (now (kinds .exit)) (now (values .exit))) ⌝ }
 {
     if checks_index(which, inst.op) {
@@ -74,7 +74,7 @@ pub fn transfer_row(
     out_values: &mut [u64],
 )
     requires { ⌜ Accepted (now sheet) sizes × Holds (firstRange (now sheet)) (codeCount (now sheet)) (now firsts) × (pc < sizes .«code_count») ⌝ }
-    requires { ⌜ Tracked (now slots) (now kinds) (now values) × (length (now «out_kinds») ≡ length (now slots)) × (length (now «out_values») ≡ length (now slots)) ⌝ }
+    requires { ⌜ ReadableRow (now slots) (now kinds) (now values) × (length (now «out_kinds») ≡ length (now slots)) × (length (now «out_values») ≡ length (now slots)) ⌝ }
     ensures { λ r. ⌜ Lies (transferRow which (now (sheet .entry)) (now (slots .entry)) (λ p. factIn «length_fact») pc (factsOf (now (kinds .entry)) (now (values .entry)))) (now («out_kinds» .exit)) (now («out_values» .exit)) ⌝ }
 {
     let inst = sheet_fields::instruction_at(sheet, pc);

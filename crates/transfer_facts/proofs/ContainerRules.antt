@@ -26,9 +26,9 @@ module _ (sheet : List ℕ) (pc : ℕ) (inst : Instruction) (is : inst ≡ instr
   unfolding containerRule select containerFact copied
   copies-container h e = rw (h, ← is) (targeted (eqb (inst .a) slot) _ e)
 
-  pub iterates : inst .op ≡ 94 → {r : FactCell} → r ≡ cellOf (iterInit (factFor slots row (inst .b))) → targetCell (eqb (inst .a) slot) r ≡ cellOf container
+  pub iterates-container : inst .op ≡ 94 → {r : FactCell} → r ≡ cellOf (iterInit (factFor slots row (inst .b))) → targetCell (eqb (inst .a) slot) r ≡ cellOf container
   unfolding containerRule select containerFact
-  iterates h e = rw (h, ← is) (targeted (eqb (inst .a) slot) _ e)
+  iterates-container h e = rw (h, ← is) (targeted (eqb (inst .a) slot) _ e)
 
   pub by-note : inst .op ≢ 3 → inst .op ≢ 94 → inst .op ≢ 95 → inst .op ≢ 4 → {r : FactCell} → r ≡ cellOf (orUnknown (instructionFact sheet pc)) → targetCell (eqb (inst .a) slot) r ≡ cellOf container
   unfolding containerRule select containerFact orUnknown

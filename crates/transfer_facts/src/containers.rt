@@ -6,7 +6,7 @@ ghost use Rattle.model.specs.Tables.{factIn, cellOf, factsOf};
 ghost use Rattle.model.specs.Transfer.{iterInit, iterNext, containerRule, containerFact};
 ghost use Rattle.sheet.specs.Measured.{Measured};
 ghost use Rattle.fact_row.specs.Target.{targetCell};
-ghost use Rattle.fact_row.specs.Rows.{Tracked};
+ghost use Rattle.fact_row.specs.Rows.{ReadableRow};
 ghost use lib.Dec.{eqb};
 use crate::COPY;
 use crate::MAP_ITER_INIT;
@@ -60,7 +60,7 @@ pub fn container_fact_written_to_slot(
     pc: usize,
     inst: Instruction,
 ) -> FactCell
-    requires { ⌜ Measured (now sheet) sizes × Tracked (now slots) (now kinds) (now values) × (pc < sizes .«code_count») × (inst ≡ instruction (now sheet) pc) ⌝ }
+    requires { ⌜ Measured (now sheet) sizes × ReadableRow (now slots) (now kinds) (now values) × (pc < sizes .«code_count») × (inst ≡ instruction (now sheet) pc) ⌝ }
     requires { ⌜ (inst .op ≡ 4 → ⊥) × (inst .op ≡ 95 → ⊥) ⌝ }
     ensures { λ r. ⌜ ((slot : ℕ) → targetCell (eqb (inst .a) slot) r ≡ cellOf (containerFact (containerRule (inst .op)) (now (sheet .entry)) pc (now (slots .entry)) (factsOf (now (kinds .entry)) (now (values .entry))) slot)) ⌝ }
 {

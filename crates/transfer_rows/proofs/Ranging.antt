@@ -21,7 +21,7 @@ use Rattle.transfer_written.proofs.InRanges.{among, among-all}
 use Rattle.fact_row.specs.Rows.{Bound}
 use Rattle.fact_row.proofs.Ascending.{ascends-lt}
 use Rattle.transfer_rows.specs.Wrote.{Wrote}
-use Rattle.transfer_rows.proofs.Writing.{Partly, partly-start, partly-more, partly-all, wrote, wrote-none, wrote-both, wrote-as}
+use Rattle.transfer_rows.proofs.Writing.{FrontWritten, front-written-none, front-written-more, front-written-all, wrote, wrote-none, wrote-both, wrote-as}
 
 -- ---- one range
 
@@ -33,8 +33,8 @@ module _ (slots : List ℕ) (start count : ℕ) (cell : ℕ → FactCell) (kinds
     pub kinds-long : length kinds′ ≡ length slots
     pub values-long : length values′ ≡ length slots
     pub from : (k : ℕ) → j ≤ k → k < length slots → start ≤ getD slots k 0
-    pub kinds-partly : Partly (λ k. inRange (getD slots k 0) start count) (λ k. cell (getD slots k 0) .kind) kinds kinds′ j
-    pub values-partly : Partly (λ k. inRange (getD slots k 0) start count) (λ k. cell (getD slots k 0) .value) values values′ j
+    pub kinds-partly : FrontWritten (λ k. inRange (getD slots k 0) start count) (λ k. cell (getD slots k 0) .kind) kinds kinds′ j
+    pub values-partly : FrontWritten (λ k. inRange (getD slots k 0) start count) (λ k. cell (getD slots k 0) .value) values values′ j
 
   pub writing-start : (j : ℕ) → length kinds ≡ length slots → length values ≡ length slots → Bound slots start j → Writing kinds values j
   writing-start j nk nv b = record {
@@ -43,8 +43,8 @@ module _ (slots : List ℕ) (start count : ℕ) (cell : ℕ → FactCell) (kinds
     kinds-long = nk;
     values-long = nv;
     from = b .above;
-    kinds-partly = partly-start _ _ kinds j (λ k l. sym (before (getD slots k 0) start count (b .below k l)));
-    values-partly = partly-start _ _ values j (λ k l. sym (before (getD slots k 0) start count (b .below k l)));
+    kinds-partly = front-written-none _ _ kinds j (λ k l. sym (before (getD slots k 0) start count (b .below k l)));
+    values-partly = front-written-none _ _ values j (λ k l. sym (before (getD slots k 0) start count (b .below k l)));
   }
 
   module _ {kinds′ values′ : List ℕ} {j : ℕ} (w : Writing kinds′ values′ j) where
@@ -52,8 +52,8 @@ module _ (slots : List ℕ) (start count : ℕ) (cell : ℕ → FactCell) (kinds
         → Writing (set kinds′ j (r .kind)) (set values′ j (r .value)) (j + 1)
     writing-more {r} h l e =
         let t : inRange (getD slots j 0) start count ≡ true = sym (from-start (getD slots j 0) start count (w .from j (omega arith) h)) ∙ lt-ltb _ _ l in
-        let pk = partly-more _ _ kinds (w .kinds-partly) (omega (arith, w .long)) t (ap (λ (c : FactCell). c .kind) e) in
-        let pv = partly-more _ _ values (w .values-partly) (omega (arith, w .long)) t (ap (λ (c : FactCell). c .value) e) in
+        let pk = front-written-more _ _ kinds (w .kinds-partly) (omega (arith, w .long)) t (ap (λ (c : FactCell). c .kind) e) in
+        let pv = front-written-more _ _ values (w .values-partly) (omega (arith, w .long)) t (ap (λ (c : FactCell). c .value) e) in
         record {
           within = omega arith;
           long = w .long;
@@ -69,8 +69,8 @@ module _ (slots : List ℕ) (start count : ℕ) (cell : ℕ → FactCell) (kinds
         wrote slots (λ slot. inRange slot start count) cell kinds values (w .long .0) (w .long .1) kinds′ values′
         (w .kinds-partly .long)
         (w .values-partly .long)
-        (partly-all _ _ kinds (w .kinds-partly) (λ k m u. h k m (omega (arith, w .long))))
-        (partly-all _ _ values (w .values-partly) (λ k m u. h k m (omega (arith, w .long))))
+        (front-written-all _ _ kinds (w .kinds-partly) (λ k m u. h k m (omega (arith, w .long))))
+        (front-written-all _ _ values (w .values-partly) (λ k m u. h k m (omega (arith, w .long))))
 
     pub written-all : length slots ≤ j → Wrote slots (λ slot. inRange slot start count) cell kinds values kinds′ values′
     written-all h = done (λ k m u. absurd (omega arith))

@@ -6,7 +6,7 @@ ghost use Rattle.model.specs.Tables.{factsOf};
 ghost use Rattle.model.specs.Written.{inRange};
 ghost use Rattle.sheet.specs.Measured.{Measured};
 ghost use Rattle.transfer_facts.specs.Effect.{effectCell};
-ghost use Rattle.fact_row.specs.Rows.{Tracked};
+ghost use Rattle.fact_row.specs.Rows.{ReadableRow};
 ghost use Rattle.transfer_written.specs.Ranges.{holdsSlot, rangesEnd};
 ghost use Rattle.transfer_rows.specs.Wrote.{Wrote};
 use fact_row::lower_bound;
@@ -30,7 +30,7 @@ fn write_range(
     out_kinds: &mut [u8],
     out_values: &mut [u64],
 )
-    requires { ⌜ Tracked (now slots) (now kinds) (now values) × (length (now «out_kinds») ≡ length (now slots)) × (length (now «out_values») ≡ length (now slots)) × (last ≡ getD (now slots) (length (now slots) - 1) 0) ⌝ }
+    requires { ⌜ ReadableRow (now slots) (now kinds) (now values) × (length (now «out_kinds») ≡ length (now slots)) × (length (now «out_values») ≡ length (now slots)) × (last ≡ getD (now slots) (length (now slots) - 1) 0) ⌝ }
     ensures { λ r. ⌜ Wrote (now (slots .entry)) (λ slot. inRange slot start count) (effectCell effect (now (slots .entry)) (factsOf (now (kinds .entry)) (now (values .entry)))) (now («out_kinds» .entry)) (now («out_values» .entry)) (now («out_kinds» .exit)) (now («out_values» .exit)) ⌝ }
 {
     // most ranges that a call writes lie beyond what is tracked
@@ -63,7 +63,7 @@ pub fn write_slots(
     out_values: &mut [u64],
 )
     requires { ⌜ Measured (now sheet) sizes × (rangesEnd written ≤ sizes .«range_count») ⌝ }
-    requires { ⌜ Tracked (now slots) (now kinds) (now values) × (length (now «out_kinds») ≡ length (now slots)) × (length (now «out_values») ≡ length (now slots)) ⌝ }
+    requires { ⌜ ReadableRow (now slots) (now kinds) (now values) × (length (now «out_kinds») ≡ length (now slots)) × (length (now «out_values») ≡ length (now slots)) ⌝ }
     ensures { λ r. ⌜ Wrote (now (slots .entry)) (holdsSlot written (now (sheet .entry))) (effectCell effect (now (slots .entry)) (factsOf (now (kinds .entry)) (now (values .entry)))) (now («out_kinds» .entry)) (now («out_values» .entry)) (now («out_kinds» .exit)) (now («out_values» .exit)) ⌝ }
 {
     let len = slots.len();

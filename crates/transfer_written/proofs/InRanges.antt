@@ -71,13 +71,13 @@ among-all (Ranges first count) sheet slot = go count
 
 module _ (w : Written) (sheet : List ℕ) (slot : ℕ) where
   -- i of them do not
-  pub record Passed (i : ℕ) : Type 0 where
+  pub record NoneHolds (i : ℕ) : Type 0 where
     pub within : i ≤ slotRangeCount w
     pub none : among w sheet i slot ≡ false
 
-  pub passed-none : Passed 0
+  pub none-yet : NoneHolds 0
   unfolding among
-  passed-none = record { within = omega arith; none = refl }
+  none-yet = record { within = omega arith; none = refl }
 
   hit : (n i : ℕ) → i < n → inRange slot (slotRange w sheet i .start) (slotRange w sheet i .count) ≡ true → among w sheet n slot ≡ true
   unfolding among
@@ -92,12 +92,12 @@ module _ (w : Written) (sheet : List ℕ) (slot : ℕ) where
     in-range : r ≡ inRange slot (slotRange w sheet i .start) (slotRange w sheet i .count)
     in-range = rw (← e) is
 
-    pub passed-one : Passed i → i < slotRangeCount w → r ≡ false → Passed (i + 1)
+    pub none-more : NoneHolds i → i < slotRangeCount w → r ≡ false → NoneHolds (i + 1)
     unfolding among
-    passed-one p h q = record { within = omega arith; none = rw (add-one i, p .none, ← in-range) q }
+    none-more p h q = record { within = omega arith; none = rw (add-one i, p .none, ← in-range) q }
 
-    pub held : i < slotRangeCount w → r ≡ true → true ≡ holdsSlot w sheet slot
-    held h q = sym (hit (slotRangeCount w) i h (sym in-range ∙ q)) ∙ among-all w sheet slot
+    pub one-holds : i < slotRangeCount w → r ≡ true → true ≡ holdsSlot w sheet slot
+    one-holds h q = sym (hit (slotRangeCount w) i h (sym in-range ∙ q)) ∙ among-all w sheet slot
 
-  pub passed-all : {i : ℕ} → Passed i → slotRangeCount w ≤ i → false ≡ holdsSlot w sheet slot
-  passed-all {i} p h = let e : i ≡ slotRangeCount w = omega (arith, p .within) in sym (p .none) ∙ rw e (among-all w sheet slot)
+  pub none-of-all : {i : ℕ} → NoneHolds i → slotRangeCount w ≤ i → false ≡ holdsSlot w sheet slot
+  none-of-all {i} p h = let e : i ≡ slotRangeCount w = omega (arith, p .within) in sym (p .none) ∙ rw e (among-all w sheet slot)

@@ -34,8 +34,8 @@ module _ {sheet : List ℕ} {sizes : Sizes} (a : Accepted sheet sizes) {firsts :
   pub in-code : pc < codeCount sheet
   in-code = omega (arith, counted (a .are) .code-count)
 
-  pub in-table : pc < length firsts
-  in-table = omega (arith, t .long, in-code)
+  pub in-firsts : pc < length firsts
+  in-firsts = omega (arith, t .long, in-code)
 
 module _ (sheet : List ℕ) (pc count : ℕ) (is : count ≡ writeCount sheet pc) where
   pub all-spans : count ≡ 65535 → Span 0 65536 ≡ rangeSpans (erred sheet pc) sheet pc

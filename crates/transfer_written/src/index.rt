@@ -7,7 +7,7 @@ ghost use Rattle.model.specs.Transfer.{factFor};
 ghost use Rattle.model.specs.Written.{writes, indexWritten};
 ghost use Rattle.memory.specs.Front.{Holds};
 ghost use Rattle.sheet.specs.Measured.{Accepted};
-ghost use Rattle.fact_row.specs.Rows.{Tracked};
+ghost use Rattle.fact_row.specs.Rows.{ReadableRow};
 ghost use Rattle.transfer_written.specs.Spans.{indexSpans, elementsFact, slotsWritten};
 use crate::Written;
 use crate::elements::elem_slots;
@@ -73,7 +73,7 @@ pub fn index_check_instruction_writes_slot(
 
 // b's cell where it says how many elements are written; Unknown of any other instruction, so that none is looked up in vain.
 fn elements_fact(slots: &[u16], kinds: &[u8], values: &[u64], inst: Instruction) -> FactCell
-    requires { ⌜ Tracked (now slots) (now kinds) (now values) ⌝ }
+    requires { ⌜ ReadableRow (now slots) (now kinds) (now values) ⌝ }
     ensures { λ r. ⌜ r ≡ cellOf (elementsFact (writes (inst .op)) (factFor (now (slots .entry)) (factsOf (now (kinds .entry)) (now (values .entry))) (inst .b))) ⌝ }
 {
     let op = inst.op;
@@ -96,7 +96,7 @@ pub fn slots_written(
     inst: Instruction,
 ) -> Written
     requires { ⌜ Accepted (now sheet) sizes × Holds (firstRange (now sheet)) (codeCount (now sheet)) (now firsts) × (pc < sizes .«code_count») ⌝ }
-    requires { ⌜ (inst ≡ instruction (now sheet) pc) × Tracked (now slots) (now kinds) (now values) ⌝ }
+    requires { ⌜ (inst ≡ instruction (now sheet) pc) × ReadableRow (now slots) (now kinds) (now values) ⌝ }
     ensures { λ r. ⌜ r ≡ slotsWritten which (now (sheet .entry)) pc (now (slots .entry)) (factsOf (now (kinds .entry)) (now (values .entry))) ⌝ }
 {
     match which {

@@ -2,7 +2,7 @@
 -- Assumes nothing.
 use mathlib.Core.Path.{_∙_}
 use native.Mathlib.Omega.{arith}
-use Rattle.closure_marks.proofs.Listing.{fits, fits-not}
+use Rattle.closure_marks.proofs.Listing.{marks-fit, fits-not}
 use borrow.Author.Needs.{needs}
 use Rattle.closure_marks.proofs.slots.list_slots.Statement.{statement}
 use Rattle.closure_marks.proofs.slots.list_slots.Tie as tie
@@ -25,7 +25,7 @@ returns-2 c =
     let write-marked-slots = c .before .before in
     let else1 = write-marked-slots .before .before in
     let count-marks = else1 .before in
-    (count-marks .count-marks .ensures, write-marked-slots .write-marked-slots .ensures ∙ fits _ _ (omega (arith, count-marks .count-marks .ensures, else1 .if1 .left)))
+    (count-marks .count-marks .ensures, write-marked-slots .write-marked-slots .ensures ∙ marks-fit _ _ (omega (arith, count-marks .count-marks .ensures, else1 .if1 .left)))
 
 pub list-slots-spec : {M : Type 1} → statement M
 list-slots-spec =

@@ -3,18 +3,18 @@
 use Prim.Native.Nat.{_-_}
 use native.Mathlib.Omega.{arith}
 use lib.ListN.{length}
-use Rattle.closure_marks.proofs.Listing.{Writing, writing-none, writing-inside, writing-within, writing-room, writing-more, writing-all}
+use Rattle.closure_marks.proofs.Listing.{MarksListed, marks-listed-none, writing-inside, writing-within, writing-room, marks-listed-more, writing-all}
 use Rattle.closure_marks.proofs.slots.write_marked_slots.Statement.{statement}
 use Rattle.closure_marks.proofs.slots.write_marked_slots.Tie as tie
 
 abbrev Inv-loop : tie.InvT-loop
-Inv-loop marks slots₀ s at₀ i₀ slots at i = Writing marks slots₀ slots at i
+Inv-loop marks slots₀ s at₀ i₀ slots at i = MarksListed marks slots₀ slots at i
 
 abbrev μ-loop : tie.MeasureT-loop
 μ-loop marks slots₀ s at₀ i₀ slots at i = length marks - i
 
 loop-holds : tie.Need-loop-holds Inv-loop μ-loop
-loop-holds c = writing-none _ _
+loop-holds c = marks-listed-none _ _
 
 shared-slice-read-write-slot : tie.Need-shared-slice-read-write-slot Inv-loop μ-loop
 shared-slice-read-write-slot c =
@@ -50,7 +50,7 @@ loop-again c =
     let at-loop = in-loop .before in
     let start = at-loop .before .before .before in
     let wrote = c .before .before .write-slot .ensures in
-    writing-more (at-loop .loop .inv) (writing-inside (at-loop .loop .inv) (omega (arith, in-loop .loop-test .taken, start .pre .2))) (start .pre .1) (wrote .0) (wrote .1)
+    marks-listed-more (at-loop .loop .inv) (writing-inside (at-loop .loop .inv) (omega (arith, in-loop .loop-test .taken, start .pre .2))) (start .pre .1) (wrote .0) (wrote .1)
 
 same-length : tie.Need-same-length Inv-loop μ-loop
 same-length c = c .before .loop .inv .long

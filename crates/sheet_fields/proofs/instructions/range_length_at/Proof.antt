@@ -2,12 +2,12 @@
 use native.Mathlib.Omega.{arith}
 use Rattle.model.specs.Sheet.{rangeLength}
 use Rattle.sheet.specs.Sizes.{placesOf, sizesOf}
-use Rattle.sheet.proofs.Inside.{inside}
+use Rattle.sheet.proofs.Inside.{arrays-inside}
 use Rattle.sheet_fields.proofs.instructions.range_length_at.Statement.{statement}
 use Rattle.sheet_fields.proofs.instructions.range_length_at.Tie as tie
 
 u32-in-requires : tie.Need-u32-in-requires
-u32-in-requires c κs = omega (arith, inside (c .before .pre .0) .range-lengths)
+u32-in-requires c κs = omega (arith, arrays-inside (c .before .pre .0) .range-lengths)
 
 returns : tie.Need-returns
 unfolding sizesOf placesOf rangeLength

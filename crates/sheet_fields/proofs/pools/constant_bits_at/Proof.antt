@@ -2,12 +2,12 @@
 use native.Mathlib.Omega.{arith}
 use Rattle.model.specs.Sheet.{constantBits}
 use Rattle.sheet.specs.Sizes.{placesOf, sizesOf}
-use Rattle.sheet.proofs.Inside.{inside}
+use Rattle.sheet.proofs.Inside.{arrays-inside}
 use Rattle.sheet_fields.proofs.pools.constant_bits_at.Statement.{statement}
 use Rattle.sheet_fields.proofs.pools.constant_bits_at.Tie as tie
 
 u64-in-requires : tie.Need-u64-in-requires
-u64-in-requires c κs = omega (arith, inside (c .before .pre .0) .constant-values)
+u64-in-requires c κs = omega (arith, arrays-inside (c .before .pre .0) .constant-values)
 
 returns : tie.Need-returns
 unfolding sizesOf placesOf constantBits

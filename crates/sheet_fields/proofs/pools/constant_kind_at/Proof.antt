@@ -2,12 +2,12 @@
 use native.Mathlib.Omega.{arith}
 use Rattle.model.specs.Sheet.{constantKind}
 use Rattle.sheet.specs.Sizes.{placesOf, sizesOf}
-use Rattle.sheet.proofs.Inside.{inside}
+use Rattle.sheet.proofs.Inside.{arrays-inside}
 use Rattle.sheet_fields.proofs.pools.constant_kind_at.Statement.{statement}
 use Rattle.sheet_fields.proofs.pools.constant_kind_at.Tie as tie
 
 byte-in-requires : tie.Need-byte-in-requires
-byte-in-requires c κs = omega (arith, inside (c .before .pre .0) .constant-kinds)
+byte-in-requires c κs = omega (arith, arrays-inside (c .before .pre .0) .constant-kinds)
 
 returns : tie.Need-returns
 unfolding sizesOf placesOf constantKind

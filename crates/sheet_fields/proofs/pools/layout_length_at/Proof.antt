@@ -3,12 +3,12 @@ use native.Mathlib.Omega.{arith}
 use borrow.Author.Tests.{lt-ltb}
 use Rattle.model.specs.Sheet.{layoutLength}
 use Rattle.sheet.specs.Sizes.{placesOf, sizesOf}
-use Rattle.sheet.proofs.Inside.{inside, layout-length-past}
+use Rattle.sheet.proofs.Inside.{arrays-inside, layout-length-past}
 use Rattle.sheet_fields.proofs.pools.layout_length_at.Statement.{statement}
 use Rattle.sheet_fields.proofs.pools.layout_length_at.Tie as tie
 
 u16-in-requires : tie.Need-u16-in-requires
-u16-in-requires c κs = omega (arith, inside (c .before .before .before .pre) .layout-lengths)
+u16-in-requires c κs = omega (arith, arrays-inside (c .before .before .before .pre) .layout-lengths)
 
 returns : tie.Need-returns
 unfolding sizesOf placesOf layoutLength

@@ -2,12 +2,12 @@
 use native.Mathlib.Omega.{arith}
 use Rattle.model.specs.Sheet.{paramB}
 use Rattle.sheet.specs.Sizes.{placesOf, sizesOf}
-use Rattle.sheet.proofs.Inside.{inside}
+use Rattle.sheet.proofs.Inside.{arrays-inside}
 use Rattle.sheet_fields.proofs.pools.param_b_at.Statement.{statement}
 use Rattle.sheet_fields.proofs.pools.param_b_at.Tie as tie
 
 u16-in-requires : tie.Need-u16-in-requires
-u16-in-requires c κs = omega (arith, inside (c .before .pre .0) .param-bs)
+u16-in-requires c κs = omega (arith, arrays-inside (c .before .pre .0) .param-bs)
 
 returns : tie.Need-returns
 unfolding sizesOf placesOf paramB

@@ -2,12 +2,12 @@
 use Prim.Native.Nat.{_-_}
 use native.Mathlib.Omega.{arith}
 use borrow.Author.Needs.{needs}
-use Rattle.transfer_written.proofs.InRanges.{Passed, passed-none, passed-one, passed-all, held}
+use Rattle.transfer_written.proofs.InRanges.{NoneHolds, none-yet, none-more, none-of-all, one-holds}
 use Rattle.transfer_written.proofs.ranges.holds.Statement.{statement}
 use Rattle.transfer_written.proofs.ranges.holds.Tie as tie
 
 abbrev Inv-loop : tie.InvT-loop
-Inv-loop sheet sizes written slot n i₀ i = Passed written sheet slot i
+Inv-loop sheet sizes written slot n i₀ i = NoneHolds written sheet slot i
 
 abbrev μ-loop : tie.MeasureT-loop
 μ-loop sheet sizes written slot n i₀ i = n - i
@@ -16,7 +16,7 @@ range-count-requires : tie.Need-range-count-requires Inv-loop μ-loop
 range-count-requires c κs = search needs
 
 loop-holds : tie.Need-loop-holds Inv-loop μ-loop
-loop-holds c = passed-none _ _ _
+loop-holds c = none-yet _ _ _
 
 range-of-requires : tie.Need-range-of-requires Inv-loop μ-loop
 range-of-requires c κs =
@@ -28,7 +28,7 @@ in-range-requires c κs = search needs
 
 returns : tie.Need-returns Inv-loop μ-loop
 returns c =
-    held _ _ _ _ (c .before .before .range-of .ensures) (c .before .in-range .ensures)
+    one-holds _ _ _ _ (c .before .before .range-of .ensures) (c .before .in-range .ensures)
     (omega (arith, c .before .before .before .before .before .range-count .ensures)) (c .if1 .taken)
 
 add-i : tie.Need-add-i Inv-loop μ-loop
@@ -39,11 +39,11 @@ loop-less c = omega arith
 
 loop-again : tie.Need-loop-again Inv-loop μ-loop
 loop-again c =
-    passed-one _ _ _ _ (c .before .before .range-of .ensures) (c .before .in-range .ensures) (c .before .before .before .before .loop .inv)
+    none-more _ _ _ _ (c .before .before .range-of .ensures) (c .before .in-range .ensures) (c .before .before .before .before .loop .inv)
     (omega (arith, c .before .before .before .before .before .range-count .ensures)) (c .if1 .left)
 
 returns-2 : tie.Need-returns-2 Inv-loop μ-loop
-returns-2 c = passed-all _ _ _ (c .before .loop .inv) (omega (arith, c .before .before .range-count .ensures))
+returns-2 c = none-of-all _ _ _ (c .before .loop .inv) (omega (arith, c .before .before .range-count .ensures))
 
 pub holds-spec : {M : Type 1} → statement M
 holds-spec =

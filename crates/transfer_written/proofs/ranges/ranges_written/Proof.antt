@@ -3,7 +3,7 @@ use mathlib.Core.Path.{_∙_}
 use native.Mathlib.Omega.{arith}
 use borrow.Author.Needs.{needs}
 use Rattle.sheet.proofs.Asked.{measured}
-use Rattle.transfer_written.proofs.Spans.{in-code, in-table, all-spans, own-spans}
+use Rattle.transfer_written.proofs.Spans.{in-code, in-firsts, all-spans, own-spans}
 use Rattle.transfer_written.proofs.ranges.ranges_written.Statement.{statement}
 use Rattle.transfer_written.proofs.ranges.ranges_written.Tie as tie
 
@@ -16,12 +16,12 @@ returns c = all-spans _ _ _ (c .before .write-count-at .ensures) (c .if1 .taken)
 mul-wide : tie.Need-mul-wide
 mul-wide c =
     let s = c .before .before .before .before in
-    omega (arith, in-table (s .pre .0) (s .pre .1) (s .args .pc) (s .pre .2))
+    omega (arith, in-firsts (s .pre .0) (s .pre .1) (s .args .pc) (s .pre .2))
 
 shared-slice-read-wide : tie.Need-shared-slice-read-wide
 shared-slice-read-wide c =
     let s = c .before .before .before .before .before in
-    in-table (s .pre .0) (s .pre .1) (s .args .pc) (s .pre .2)
+    in-firsts (s .pre .0) (s .pre .1) (s .args .pc) (s .pre .2)
 
 wide-requires : tie.Need-wide-requires
 wide-requires c κs = search needs
