@@ -5,13 +5,10 @@ use mathlib.Core.Bool.{true, false, false≢true}
 use mathlib.Core.List.{List, _++_, append-assoc}
 use Prim.Native.Nat.{ℕ, _+_, _≤_, _<_, min}
 use native.Mathlib.Omega.{arith}
-use lib.Dec.{T}
 use lib.IntN.{ℤ, pos, negsuc, natAbs}
 use lib.ListN.{length, take, drop, length-append, take-append-drop}
 use lib.Seq.{length-take-le, take-at, drop-at, drop-drop, drop-append-le}
-use lib.Signed.{ltZ, nonNeg}
-use mir.Syntax.{w64}
-use mir.Val.{Fits, SFits}
+use lib.Signed.{ltZ}
 use borrow.Author.Tests.{ltb-true}
 use Rattle.io.specs.Counts.{Counts}
 use Rattle.text_words.specs.Text.{Added}
@@ -27,10 +24,6 @@ failed-is (pos k) most e = absurd (omega (arith, ltb-true k 0 e))
 failed-is (negsuc k) most e = refl
 
 -- from 0 up
-pub natural : (z : ℤ) → ltZ z (pos 0) ≡ false → SFits w64 z → T (nonNeg z) × Fits w64 (natAbs z)
-natural (pos k) e h = (tt, record { fits = omega arith })
-natural (negsuc k) e h = absurd (let z : _≡_ {A = ℕ} 0 1 = cc in omega arith)
-
 pub came-is : (z : ℤ) (most count : ℕ) → ltZ z (pos 0) ≡ false → count ≡ min (natAbs z) most → record { count = count; failed = false } ≡ answeredOf z most
 unfolding answeredOf
 came-is (pos k) most count e h = rw h

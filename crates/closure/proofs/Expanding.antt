@@ -1,7 +1,6 @@
 -- The loop of the closure: a slot is taken, its edges are charged and followed, until the stack is empty.
 -- Assumes nothing.
 use mathlib.Core.Path.{_≡_, refl, sym, ap, _∙_}
-use mathlib.Core.Bool.{true, false, false≢true}
 use mathlib.Core.Logic.{_⊎_, inl, inr}
 use mathlib.Core.List.{List, [], _∷_, _++_, reverse, reverse-cons, List·Memᴰ as Member, List·Memᴰ·head as head, List·Memᴰ·tail as tail, List·Memᴰ·not-nil as not-nil}
 use Prim.Native.Nat.{ℕ, zero, suc, _+_, _-_, _≤_, _<_}
@@ -25,7 +24,7 @@ use Rattle.sheet.specs.Measured.{Measured}
 use Rattle.sheet.specs.declared.Sizes.{Sizes}
 use Rattle.sheet.proofs.Counted.{counted}
 use Rattle.sheet.proofs.Limited.{limited}
-use Rattle.finality.proofs.Marks.{IsSet, mark-grows, free, weight, stack-fits}
+use Rattle.finality.proofs.Marks.{IsSet, set-below, mark-grows, free, weight, stack-fits}
 use Rattle.finality.proofs.Closure.{follow-weight, seeded-weight}
 use Rattle.finality.proofs.Cells.{stacked-top, stacked-pop}
 use Rattle.closure_marks.specs.Marks.{MarkedLies, Lain}
@@ -37,11 +36,6 @@ use Rattle.closure_marks.proofs.Marking.{some-lain}
 use Rattle.finality.proofs.Lengths.{zeros-same}
 
 -- ---- what is on the stack is below L
-
-set-below : (marks : List ℕ) (t : ℕ) → IsSet marks t → t < length marks
-set-below [] t e = absurd (false≢true (sym e))
-set-below (x ∷ xs) zero e = omega arith
-set-below (x ∷ xs) (suc t) e = let h = set-below xs t e in omega arith
 
 passed-size : (sheet : List ℕ) (m : Marked) → Passed sheet m → length (m .marks) ≡ localSlots sheet
 unfolding unmarked

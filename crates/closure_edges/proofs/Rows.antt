@@ -16,7 +16,7 @@ use Rattle.model.specs.Opcode.{select}
 use Rattle.model.specs.declared.Instruction.{Instruction}
 use Rattle.closure_edges.specs.Rows.{row, edgeRowIf, rows, dependenceBy, dependence}
 use Rattle.closure_edges.specs.declared.Dependence.{Dependence}
-use Rattle.model.proofs.Tests.{and-false}
+use mathlib.Core.Bool.{and-false}
 
 -- ---- the rules are rows
 

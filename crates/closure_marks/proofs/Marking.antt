@@ -4,7 +4,6 @@ use mathlib.Core.Path.{_≡_, refl, sym, _∙_}
 use mathlib.Core.Bool.{true, false}
 use mathlib.Core.List.{List, [], _∷_}
 use Prim.Native.Nat.{ℕ, zero, suc, _+_, _≤_, _<_}
-use native.Mathlib.Nat.{le-of-suc-le-suc, not-suc-le-zero}
 use native.Mathlib.Omega.{arith}
 use lib.Dec.{eqb}
 use lib.ListN.{length, getD, set, length-set, List·getD-eq-default}
@@ -12,16 +11,10 @@ use borrow.Author.Tests.{eq-eqb, ne-eqb}
 use Rattle.model.specs.Sheet.{localSlots}
 use Rattle.model.specs.Closure.{Marked, marked, mark}
 use Rattle.model.specs.CallDemand.{marking}
-use Rattle.finality.proofs.Marks.{stack-room}
+use Rattle.finality.proofs.Marks.{same-below, stack-room}
 use Rattle.finality.proofs.Cells.{stacked-push}
 use Rattle.closure_marks.specs.Marks.{MarkedLies, Lain, Goes, candidates, Holding, firstSlots, slotsIn, markAll}
 use Rattle.closure_marks.specs.declared.Candidates.{Candidates}
-
--- below the length the default does not show
-same-below : (marks : List ℕ) (slot : ℕ) → slot < length marks → getD marks slot 1 ≡ getD marks slot 0
-same-below [] slot h = absurd (not-suc-le-zero h)
-same-below (x ∷ xs) zero h = refl
-same-below (x ∷ xs) (suc slot) h = same-below xs slot (le-of-suc-le-suc h)
 
 pub some-lain : {sheet : List ℕ} {room : ℕ} {m : Marked} {marks stack : List ℕ} {top : ℕ} → MarkedLies sheet room m marks stack top → Lain marks stack top
 some-lain {sheet} {room} {m} l = record { sheet = sheet; room = room; m = m; lies = l }
@@ -32,7 +25,7 @@ module _ (slot : ℕ) (marks stack : List ℕ) (top : ℕ) where
   module _ (inside : slot < length marks) (free : getD marks slot 0 ≡ 0) where
     module _ {sheet : List ℕ} {room : ℕ} {m : Marked} (l : MarkedLies sheet room m marks stack top) where
       no-mark : eqb (getD (m .marks) slot 1) 0 ≡ true
-      no-mark = let e : getD (m .marks) slot 1 ≡ 0 = rw (l .marks-are) at (same-below marks slot inside ∙ free) in eq-eqb (getD (m .marks) slot 1) 0 e
+      no-mark = let e : getD (m .marks) slot 1 ≡ 0 = rw (l .marks-are) at (sym (same-below marks slot inside) ∙ free) in eq-eqb (getD (m .marks) slot 1) 0 e
 
       has-room : length (m .stack) < localSlots sheet
       has-room = stack-room sheet m slot (l .passed) no-mark
@@ -63,7 +56,7 @@ module _ (slot : ℕ) (marks stack : List ℕ) (top : ℕ) where
   old e = record { on = λ {sheet} {room} {m} l. let p : eqb (getD (m .marks) slot 1) 0 ≡ false = (rw (l .marks-are) at e) in rw p l }
 
   pub mark-old : slot < length marks → (getD marks slot 0 ≡ 0 → ⊥) → Goes (mark slot) marks stack top marks stack top
-  mark-old h k = old (ne-eqb (getD marks slot 1) 0 (λ e. k (sym (same-below marks slot h) ∙ e)))
+  mark-old h k = old (ne-eqb (getD marks slot 1) 0 (λ e. k (same-below marks slot h ∙ e)))
 
   pub mark-past : length marks ≤ slot → Goes (mark slot) marks stack top marks stack top
   mark-past h = old (rw (List·getD-eq-default marks 1 h))

@@ -22,7 +22,7 @@ use Rattle.model.specs.declared.AnalysisKind.{AnalysisKind}
 use Rattle.model.specs.declared.AnalysisKind.the-variants.{Constant, IndexCheck, Container}
 use Rattle.finality.proofs.Lawful.{demand, unknown-length}
 use Rattle.stage_memory.specs.Parts.{entering, behindRoom}
-use Rattle.model.proofs.Tests.{or-true}
+use mathlib.Core.Bool.{or-true}
 
 module _ (which : AnalysisKind) (sheet : List ℕ) (enough : ℕ → Bool) (lengthFact : ℕ → Fact) (budget : VerifierResources) where
   pub closure-refused : (refusal : Refusal) (left : VerifierResources) → trackedSlots which sheet budget ≡ stop refusal left → stage which sheet enough lengthFact budget ≡ stop refusal left
