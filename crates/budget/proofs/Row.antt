@@ -25,20 +25,20 @@ module _ (stage work : ℕ) where
   unfolding chargesCompute
   one-refused b h = rw (lt-leb 4 b h)
 
-  pub covered : (count b : ℕ) → 4 * count ≤ b → charged count b ≡ ok tt (left (b - 4 * count) work)
+  pub edges-covered : (count b : ℕ) → 4 * count ≤ b → charged count b ≡ ok tt (left (b - 4 * count) work)
   unfolding chargesCompute
-  covered zero b h = ap (λ (k : ℕ). ok tt (left k work)) (omega arith)
-  covered (suc i) b h =
-      rw (covered i b (omega arith)) (one-covered (b - 4 * i) (omega arith) ∙ ap (λ (k : ℕ). ok tt (left k work)) (omega arith))
+  edges-covered zero b h = ap (λ (k : ℕ). ok tt (left k work)) (omega arith)
+  edges-covered (suc i) b h =
+      rw (edges-covered i b (omega arith)) (one-covered (b - 4 * i) (omega arith) ∙ ap (λ (k : ℕ). ok tt (left k work)) (omega arith))
 
-  pub refused : (count q r b : ℕ) → q < count → r < 4 → b ≡ 4 * q + r → charged count b ≡ stop (overBudget stage 4 r) (left r work)
+  pub edges-refused : (count q r b : ℕ) → q < count → r < 4 → b ≡ 4 * q + r → charged count b ≡ stop (overBudget stage 4 r) (left r work)
   unfolding chargesCompute
-  refused zero q r b h k e = absurd (omega arith)
-  refused (suc i) q r b h k e = go (ltb q i) refl (λ l. refused i q r b l k e)
+  edges-refused zero q r b h k e = absurd (omega arith)
+  edges-refused (suc i) q r b h k e = go (ltb q i) refl (λ l. edges-refused i q r b l k e)
     where
       go : (t : Bool) → ltb q i ≡ t → (q < i → charged i b ≡ stop (overBudget stage 4 r) (left r work))
           → charged (suc i) b ≡ stop (overBudget stage 4 r) (left r work)
       go true p before = rw (before (ltb-true q i p))
       go false p before =
           let rest : b - 4 * i ≡ r = omega (arith, ltb-false q i p) in
-          rw (covered i b (omega (arith, ltb-false q i p)), rest) (one-refused r k)
+          rw (edges-covered i b (omega (arith, ltb-false q i p)), rest) (one-refused r k)

@@ -20,7 +20,7 @@ use Rattle.model.specs.declared.Answer.the-variants.{Invalid}
 use Rattle.budget.specs.Metering.{asSpent}
 use Rattle.budget.specs.declared.Metering.{Metering}
 use Rattle.budget.specs.declared.Metering.the-variants as M
-use Rattle.model.proofs.Tests.{both-left, both-right}
+use Rattle.model.proofs.Tests.{both}
 use Rattle.sheet.specs.Sizes.{sizesOf}
 use Rattle.sheet_questions.specs.Check.{checkOf, sheetCheck}
 use Rattle.sheet.specs.Measured.{Accepted}
@@ -67,6 +67,27 @@ module _ (sheet : List ℕ) (marks stack : ℕ) {checked : SheetCheck} (e : chec
       go none p = let q : sizes ≡ sizesOf sheet = cc in k ∙ rw q refl
       go (some n) p = let z : _≡_ {A = ℕ} 0 1 = cc in absurd (omega arith)
 
+-- ---- what the analyses begin with
+
+module _ (sheet : List ℕ) (marks stack : ℕ) {given : Admission} (e : given ≡ admission sheet marks stack) {sizes : Sizes} (c : given ≡ Admitted sizes) where
+  admitted : Accepted sheet sizes × (leb (localSlots sheet) marks && leb (localSlots sheet) stack ≡ true)
+  unfolding admission
+  admitted = go (sheetRefusal sheet) refl (sym c ∙ e)
+    where
+      six : (b : Bool) → Admitted sizes ≡ admittedIf b (sizesOf sheet) → (sizes ≡ sizesOf sheet) × (b ≡ true)
+      six true p = unfold admittedIf in (let q : sizes ≡ sizesOf sheet = cc in (q, refl))
+      six false p = unfold admittedIf in (let z : _≡_ {A = ℕ} 0 1 = cc in absurd (omega arith))
+
+      go : (r : Option ℕ) → sheetRefusal sheet ≡ r → Admitted sizes ≡ admissionOf r sheet marks stack
+          → Accepted sheet sizes × (leb (localSlots sheet) marks && leb (localSlots sheet) stack ≡ true)
+      go none h p = unfold admissionOf in (let s = six _ p in (record { are = s .0; accepted = h }, s .1))
+      go (some n) h p = unfold admissionOf in (let z : _≡_ {A = ℕ} 0 1 = cc in absurd (omega arith))
+
+  pub admitted-lengths : Accepted sheet sizes × (localSlots sheet ≤ marks) × (localSlots sheet ≤ stack)
+  admitted-lengths =
+      let room = both (leb (localSlots sheet) marks) _ (admitted .1) in
+      (admitted .0, leb-true _ _ (room .0), leb-true _ _ (room .1))
+
 -- ---- what it says of the call
 
 module _ (sheet : List ℕ) (lent : Lent) {given : Admission} (e : given ≡ admission sheet (length (lent .marks)) (length (lent .stack))) where
@@ -84,28 +105,12 @@ module _ (sheet : List ℕ) (lent : Lent) {given : Admission} (e : given ≡ adm
       go none p = unfold admissionOf afterFive closureRoom in (six _ p)
       go (some n) p = unfold admissionOf afterFive resultOf answer lentAfter in (let q : number ≡ n = cc in ap (λ (k : ℕ). some (result (Invalid k budget) lent)) q)
 
-  -- what the analyses begin with
   pub taken-in : {sizes : Sizes} → given ≡ Admitted sizes → Accepted sheet sizes × (closureRoom sheet lent ≡ true)
-  unfolding admission closureRoom
-  taken-in {sizes} c = go (sheetRefusal sheet) refl (sym c ∙ e)
-    where
-      six : (b : Bool) → Admitted sizes ≡ admittedIf b (sizesOf sheet) → (sizes ≡ sizesOf sheet) × (b ≡ true)
-      six true p = unfold admittedIf in (let q : sizes ≡ sizesOf sheet = cc in (q, refl))
-      six false p = unfold admittedIf in (let z : _≡_ {A = ℕ} 0 1 = cc in absurd (omega arith))
-
-      go : (r : Option ℕ) → sheetRefusal sheet ≡ r → Admitted sizes ≡ admissionOf r sheet (length (lent .marks)) (length (lent .stack))
-          → Accepted sheet sizes × (leb (localSlots sheet) (length (lent .marks)) && leb (localSlots sheet) (length (lent .stack)) ≡ true)
-      go none h p = unfold admissionOf in (let s = six _ p in (record { are = s .0; accepted = h }, s .1))
-      go (some n) h p = unfold admissionOf in (let z : _≡_ {A = ℕ} 0 1 = cc in absurd (omega arith))
+  unfolding closureRoom
+  taken-in c = admitted sheet _ _ e c
 
   pub admitted-asks : {sizes : Sizes} → given ≡ Admitted sizes → Accepted sheet sizes × (localSlots sheet ≤ length (lent .marks)) × (localSlots sheet ≤ length (lent .stack))
-  unfolding closureRoom
-  admitted-asks c =
-      let t = taken-in c in (
-        t .0,
-        leb-true _ _ (both-left (leb (localSlots sheet) (length (lent .marks))) _ (t .1)),
-        leb-true _ _ (both-right (leb (localSlots sheet) (length (lent .marks))) _ (t .1)),
-      )
+  admitted-asks c = admitted-lengths sheet _ _ e c
 
 -- ---- the graph's charges
 

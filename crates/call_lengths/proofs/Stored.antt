@@ -17,8 +17,8 @@ use Rattle.model.specs.Analyses.{Analysed, rowFact, lengthFacts}
 use Rattle.model.specs.Transfer.{checkedFrom}
 use Rattle.model.specs.declared.FactCell.{FactCell}
 use Rattle.memory.proofs.Front.{getD-front}
-use Rattle.memory.proofs.Turned.{Turned, start, turn}
-use Rattle.call_lengths.specs.Lengths.{Ended, lengthFactIf, lengthFact, lengthKinds, lengthValues}
+use Rattle.memory.proofs.Turned.{Turned, turned-none, turn}
+use Rattle.call_lengths.specs.Lengths.{EndedRows, lengthFactIf, lengthFact, lengthKinds, lengthValues}
 use Rattle.fact_row.proofs.Facts.{kind-of, value-of}
 use Rattle.fact_row.proofs.Checks.{checked-twice, checked-small}
 use Rattle.model.proofs.Facts.{fact-back}
@@ -51,29 +51,29 @@ module _ (sheet slots : List ℕ) (rows : List (Option Row)) (pc : ℕ) where
 
 module _ (sheet slots present kinds values : List ℕ) (n : ℕ) (k₀ v₀ : List ℕ) where
   -- after pc turns
-  pub record Stored (k v : List ℕ) (pc : ℕ) : Type 0 where
+  pub record StoredUpto (k v : List ℕ) (pc : ℕ) : Type 0 where
     pub within : pc ≤ n
     pub kinds-room : n ≤ length k₀
     pub values-room : n ≤ length v₀
     pub kinds-long : length k ≡ length k₀
     pub values-long : length v ≡ length v₀
-    pub kinds-turned : (rows : List (Option Row)) → Ended slots rows present kinds values → Turned (λ i. kind (lengthFact sheet slots rows i)) k₀ k pc
-    pub values-turned : (rows : List (Option Row)) → Ended slots rows present kinds values → Turned (λ i. value (lengthFact sheet slots rows i)) v₀ v pc
+    pub kinds-turned : (rows : List (Option Row)) → EndedRows slots rows present kinds values → Turned (λ i. kind (lengthFact sheet slots rows i)) k₀ k pc
+    pub values-turned : (rows : List (Option Row)) → EndedRows slots rows present kinds values → Turned (λ i. value (lengthFact sheet slots rows i)) v₀ v pc
 
-  pub stored-none : n ≤ length k₀ → n ≤ length v₀ → Stored k₀ v₀ 0
+  pub stored-none : n ≤ length k₀ → n ≤ length v₀ → StoredUpto k₀ v₀ 0
   stored-none hk hv = record {
     within = omega arith;
     kinds-room = hk;
     values-room = hv;
     kinds-long = refl;
     values-long = refl;
-    kinds-turned = λ rows e. start _ k₀;
-    values-turned = λ rows e. start _ v₀;
+    kinds-turned = λ rows e. turned-none _ k₀;
+    values-turned = λ rows e. turned-none _ v₀;
   }
 
-  module _ {k v : List ℕ} {pc : ℕ} (s : Stored k v pc) where
-    pub stored-more : pc < n → {cell : FactCell} → ((rows : List (Option Row)) → Ended slots rows present kinds values → cell ≡ cellOf (lengthFact sheet slots rows pc))
-        → Stored (set k pc (cell .kind)) (set v pc (cell .value)) (pc + 1)
+  module _ {k v : List ℕ} {pc : ℕ} (s : StoredUpto k v pc) where
+    pub stored-more : pc < n → {cell : FactCell} → ((rows : List (Option Row)) → EndedRows slots rows present kinds values → cell ≡ cellOf (lengthFact sheet slots rows pc))
+        → StoredUpto (set k pc (cell .kind)) (set v pc (cell .value)) (pc + 1)
     stored-more h {cell} is = record {
       within = omega arith;
       kinds-room = s .kinds-room;
@@ -84,7 +84,7 @@ module _ (sheet slots present kinds values : List ℕ) (n : ℕ) (k₀ v₀ : Li
       values-turned = λ rows e. turn (s .values-turned rows e) (omega (arith, s .values-room, s .values-long)) (value-of (lengthFact sheet slots rows pc) (is rows e));
     }
 
-    pub stored-all : n ≤ pc → n ≡ codeCount sheet → (rows : List (Option Row)) → Ended slots rows present kinds values
+    pub stored-all : n ≤ pc → n ≡ codeCount sheet → (rows : List (Option Row)) → EndedRows slots rows present kinds values
         → (k ≡ lengthKinds sheet slots rows k₀) × (v ≡ lengthValues sheet slots rows v₀)
     unfolding lengthKinds lengthValues
     stored-all h m rows e =

@@ -16,7 +16,7 @@ use Rattle.model.specs.declared.Counts.{Counts}
 use Rattle.model.specs.declared.VerifierResources.{VerifierResources}
 use Rattle.model.specs.declared.Answer.{Answer}
 use Rattle.model.specs.declared.Answer.the-variants.{Analyzed, Invalid, OverBudget, NoRoom}
-use Rattle.call_lengths.specs.Lengths.{Ended, lengthKinds, lengthValues}
+use Rattle.call_lengths.specs.Lengths.{EndedRows, lengthKinds, lengthValues}
 use Rattle.model.specs.Tables.{lengthTable}
 use Rattle.stage_outcome.specs.Answers.{refusing}
 use Rattle.call_lengths.specs.Stored.{Stored, Lengthened}
@@ -47,7 +47,7 @@ module _ {sheet : List ℕ} {a : Analysed} {given : Counts} {slots present kinds
   slots-are : take s slots ≡ a .slots
   slots-are = ap (λ (m : ℕ). take m slots) many ∙ st .slots-are
 
-  pub stored-ended : Ended (take s slots) (a .rows) (take n present) (take (n * s) kinds) (take (n * s) values)
+  pub stored-ended : EndedRows (take s slots) (a .rows) (take n present) (take (n * s) kinds) (take (n * s) values)
   stored-ended = rw (slots-are, cells-are, all, st .present-are, st .kinds-are, st .values-are) (record {
     ascending = st .ascending;
     sized = st .sized;
@@ -58,9 +58,9 @@ module _ {sheet : List ℕ} {a : Analysed} {given : Counts} {slots present kinds
 
   -- what was stored, by the analysis
   pub lengthened : {lk lv lk′ lv′ : List ℕ}
-      → ((rows : List (Option Row)) → Ended (take s slots) rows (take n present) (take (n * s) kinds) (take (n * s) values)
+      → ((rows : List (Option Row)) → EndedRows (take s slots) rows (take n present) (take (n * s) kinds) (take (n * s) values)
       → (lk′ ≡ lengthKinds sheet (take s slots) rows lk) × (lv′ ≡ lengthValues sheet (take s slots) rows lv))
-      → ((constants : Analysed) → constants .slots ≡ take s slots → Ended (take s slots) (constants .rows) (take n present) (take (n * s) kinds) (take (n * s) values)
+      → ((constants : Analysed) → constants .slots ≡ take s slots → EndedRows (take s slots) (constants .rows) (take n present) (take (n * s) kinds) (take (n * s) values)
       → (pc : ℕ) → pc < codeCount sheet → instruction sheet pc .op ≡ 121 → checkedFrom (lengthTable lk′ lv′ pc) ≡ checkedFrom (lengthFacts sheet constants pc))
       → Lengthened sheet a lk lv lk′ lv′
   lengthened {lk} {lv} stores reads = record {
@@ -69,8 +69,8 @@ module _ {sheet : List ℕ} {a : Analysed} {given : Counts} {slots present kinds
     read = λ pc below op. reads a (sym slots-are) stored-ended pc below op;
   }
 
-pub cells-fit : (n s : ℕ) → n ≤ 4096 → s ≤ 65535 → n * s < 2 ^ 64
-cells-fit n s h k = omega (arith, mul-le-mul-right s h)
+pub stored-cells-fit : (n s : ℕ) → n ≤ 4096 → s ≤ 65535 → n * s < 2 ^ 64
+stored-cells-fit n s h k = omega (arith, mul-le-mul-right s h)
 
 -- ---- the cases of the answer so far
 

@@ -15,11 +15,11 @@ use Rattle.model.specs.Tables.{presentByte, rowCells, cells, cellOf}
 use Rattle.model.specs.Analyses.{rowFact}
 use Rattle.model.specs.declared.FactCell.{FactCell}
 use Rattle.finality.proofs.Cells.{length-present, present-at, length-cells, cells-part}
-use Rattle.fact_row.proofs.Facts.{cell}
-use Rattle.fact_row.proofs.Places.{fact-found, fact-untracked, place-inside}
-use Rattle.call_lengths.specs.Lengths.{Ended}
+use Rattle.fact_row.proofs.Facts.{factCell}
+use Rattle.fact_row.proofs.Places.{fact-placed, fact-untracked, place-inside}
+use Rattle.call_lengths.specs.Lengths.{EndedRows}
 
-module _ {slots : List ℕ} {rows : List (Option Row)} {present kinds values : List ℕ} (e : Ended slots rows present kinds values) where
+module _ {slots : List ℕ} {rows : List (Option Row)} {present kinds values : List ℕ} (e : EndedRows slots rows present kinds values) where
   pub rows-long : length rows ≡ length present
   rows-long = sym (length-present rows) ∙ ap length (sym (e .present-are))
 
@@ -27,9 +27,9 @@ module _ {slots : List ℕ} {rows : List (Option Row)} {present kinds values : L
   table-long f = length-cells f (length slots) rows (e .sized) ∙ ap (λ (n : ℕ). n * length slots) rows-long
 
   -- a place of a row lies in both tables
-  pub inside : (pc slot : ℕ) {j : ℕ} → pc < length present → place slots slot ≡ some j
+  pub table-inside : (pc slot : ℕ) {j : ℕ} → pc < length present → place slots slot ≡ some j
       → (pc * length slots + j < length kinds) × (pc * length slots + j < length values)
-  inside pc slot {j} h p =
+  table-inside pc slot {j} h p =
       let l : suc pc * length slots ≤ length present * length slots = mul-le-mul-right (length slots) h in
       let k : j < length slots = place-inside slots slot p in
       (omega (arith, ap length (e .kinds-are), table-long kind), omega (arith, ap length (e .values-are), table-long value))
@@ -62,15 +62,15 @@ module _ {slots : List ℕ} {rows : List (Option Row)} {present kinds values : L
         go (some row) = rw (fact-untracked slots row slot h) u
 
     pub tracked-fact : pc < length present → (getD present pc 0 ≡ 0 → ⊥) → {j : ℕ} → place slots slot ≡ some j
-        → cell (getD kinds (pc * length slots + j) 0) (getD values (pc * length slots + j) 0) ≡ cellOf (rowFact slots (rowAt rows pc) slot)
+        → factCell (getD kinds (pc * length slots + j) 0) (getD values (pc * length slots + j) 0) ≡ cellOf (rowFact slots (rowAt rows pc) slot)
     unfolding presentByte rowFact cellOf kind value
     tracked-fact h there {j} p = go (rowAt rows pc) refl
       where
-        go : (o : Option Row) → rowAt rows pc ≡ o → cell (getD kinds (pc * length slots + j) 0) (getD values (pc * length slots + j) 0) ≡ cellOf (rowFact slots o slot)
+        go : (o : Option Row) → rowAt rows pc ≡ o → factCell (getD kinds (pc * length slots + j) 0) (getD values (pc * length slots + j) 0) ≡ cellOf (rowFact slots o slot)
         go none q = absurd (there (ap (λ (l : List ℕ). getD l pc 0) (e .present-are) ∙ present-at rows pc ∙ ap presentByte q))
         go (some row) q =
             rw (
-              fact-found slots row slot (e .ascending) (e .sized pc row q) p,
+              fact-placed slots row slot (e .ascending) (e .sized pc row q) p,
               e .kinds-are,
               e .values-are,
               cell-at kind refl pc j row h (place-inside slots slot p) q,

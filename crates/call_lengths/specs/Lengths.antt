@@ -18,7 +18,7 @@ use Rattle.model.specs.Lookup.{ascends}
 use Rattle.memory.specs.Front.{front}
 
 -- The rows of an ended run as they lie in memory: s facts to a row, and zeros for an absent one.
-pub record Ended (slots : List ℕ) (rows : List (Option Row)) (present kinds values : List ℕ) : Type 0 where
+pub record EndedRows (slots : List ℕ) (rows : List (Option Row)) (present kinds values : List ℕ) : Type 0 where
   pub ascending : ascends slots ≡ true
   pub sized : (p : ℕ) (r : Row) → rowAt rows p ≡ some r → length r ≡ length slots
   pub present-are : present ≡ presentBytes rows

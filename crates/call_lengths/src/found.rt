@@ -11,7 +11,7 @@ ghost use Rattle.model.specs.Tables.{cellOf, lengthTable};
 ghost use Rattle.model.specs.Transfer.{checkedFrom};
 ghost use Rattle.model.specs.Analyses.{Analysed, rowFact, lengthFacts};
 ghost use Rattle.sheet.specs.Measured.{Measured};
-ghost use Rattle.call_lengths.specs.Lengths.{Ended, lengthFact, lengthKinds, lengthValues};
+ghost use Rattle.call_lengths.specs.Lengths.{EndedRows, lengthFact, lengthKinds, lengthValues};
 use crate::INDEX_CHECK;
 use fact_row::Place;
 use fact_row::checked_cell;
@@ -30,8 +30,8 @@ fn row_fact(
     pc: usize,
     slot: usize,
 ) -> FactCell
-    requires { ⌜ ((rows : List (Option Row)) × Ended (now slots) rows (now present) (now kinds) (now values)) × (pc < length (now present)) ⌝ }
-    ensures { λ r. ⌜ ((rows : List (Option Row)) → Ended (now (slots .entry)) rows (now (present .entry)) (now (kinds .entry)) (now (values .entry)) → r ≡ cellOf (rowFact (now (slots .entry)) (rowAt rows pc) slot)) ⌝ }
+    requires { ⌜ ((rows : List (Option Row)) × EndedRows (now slots) rows (now present) (now kinds) (now values)) × (pc < length (now present)) ⌝ }
+    ensures { λ r. ⌜ ((rows : List (Option Row)) → EndedRows (now (slots .entry)) rows (now (present .entry)) (now (kinds .entry)) (now (values .entry)) → r ≡ cellOf (rowFact (now (slots .entry)) (rowAt rows pc) slot)) ⌝ }
 {
     if present[pc] == 0 {
         return unknown_cell();
@@ -56,9 +56,9 @@ fn length_fact(
     values: &[u64],
     pc: usize,
 ) -> FactCell
-    requires { ⌜ Measured (now sheet) sizes × ((rows : List (Option Row)) × Ended (now slots) rows (now present) (now kinds) (now values)) ⌝ }
+    requires { ⌜ Measured (now sheet) sizes × ((rows : List (Option Row)) × EndedRows (now slots) rows (now present) (now kinds) (now values)) ⌝ }
     requires { ⌜ (pc < sizes .«code_count») × (length (now present) ≡ sizes .«code_count») ⌝ }
-    ensures { λ r. ⌜ ((rows : List (Option Row)) → Ended (now (slots .entry)) rows (now (present .entry)) (now (kinds .entry)) (now (values .entry)) → r ≡ cellOf (lengthFact (now (sheet .entry)) (now (slots .entry)) rows pc)) ⌝ }
+    ensures { λ r. ⌜ ((rows : List (Option Row)) → EndedRows (now (slots .entry)) rows (now (present .entry)) (now (kinds .entry)) (now (values .entry)) → r ≡ cellOf (lengthFact (now (sheet .entry)) (now (slots .entry)) rows pc)) ⌝ }
 {
     let inst = sheet_fields::instruction_at(sheet, pc);
     if inst.op == INDEX_CHECK {
@@ -79,10 +79,10 @@ pub fn length_facts(
     out_kinds: &mut [u8],
     out_values: &mut [u16],
 )
-    requires { ⌜ Measured (now sheet) sizes × ((rows : List (Option Row)) × Ended (now slots) rows (now present) (now kinds) (now values)) ⌝ }
+    requires { ⌜ Measured (now sheet) sizes × ((rows : List (Option Row)) × EndedRows (now slots) rows (now present) (now kinds) (now values)) ⌝ }
     requires { ⌜ (length (now present) ≡ sizes .«code_count») × (sizes .«code_count» ≤ length (now «out_kinds»)) × (sizes .«code_count» ≤ length (now «out_values»)) ⌝ }
-    ensures stored { λ r. ⌜ ((rows : List (Option Row)) → Ended (now (slots .entry)) rows (now (present .entry)) (now (kinds .entry)) (now (values .entry)) → (now («out_kinds» .exit) ≡ lengthKinds (now (sheet .entry)) (now (slots .entry)) rows (now («out_kinds» .entry))) × (now («out_values» .exit) ≡ lengthValues (now (sheet .entry)) (now (slots .entry)) rows (now («out_values» .entry)))) ⌝ }
-    ensures read { λ r. ⌜ ((constants : Analysed) → constants .slots ≡ now (slots .entry) → Ended (now (slots .entry)) (constants .rows) (now (present .entry)) (now (kinds .entry)) (now (values .entry)) → (pc : ℕ) → pc < codeCount (now (sheet .entry)) → instruction (now (sheet .entry)) pc .op ≡ 121 → checkedFrom (lengthTable (now («out_kinds» .exit)) (now («out_values» .exit)) pc) ≡ checkedFrom (lengthFacts (now (sheet .entry)) constants pc)) ⌝ }
+    ensures stored { λ r. ⌜ ((rows : List (Option Row)) → EndedRows (now (slots .entry)) rows (now (present .entry)) (now (kinds .entry)) (now (values .entry)) → (now («out_kinds» .exit) ≡ lengthKinds (now (sheet .entry)) (now (slots .entry)) rows (now («out_kinds» .entry))) × (now («out_values» .exit) ≡ lengthValues (now (sheet .entry)) (now (slots .entry)) rows (now («out_values» .entry)))) ⌝ }
+    ensures read { λ r. ⌜ ((constants : Analysed) → constants .slots ≡ now (slots .entry) → EndedRows (now (slots .entry)) (constants .rows) (now (present .entry)) (now (kinds .entry)) (now (values .entry)) → (pc : ℕ) → pc < codeCount (now (sheet .entry)) → instruction (now (sheet .entry)) pc .op ≡ 121 → checkedFrom (lengthTable (now («out_kinds» .exit)) (now («out_values» .exit)) pc) ≡ checkedFrom (lengthFacts (now (sheet .entry)) constants pc)) ⌝ }
 {
     let n = sizes.code_count;
     let mut pc = 0;

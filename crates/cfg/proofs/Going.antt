@@ -19,9 +19,9 @@ use Rattle.cfg.specs.declared.Flow.the-variants.{FallThrough, Jump, Cond
 use Rattle.cfg.specs.Flow.{asBranch}
 
 -- what falls through has one successor at most, so that another has room
-pub room : (n pc : ℕ) (s : InstructionSuccessors) → s ≡ asRecord (pushFallthrough n pc []) → s .len < 2
+pub second-fits : (n pc : ℕ) (s : InstructionSuccessors) → s ≡ asRecord (pushFallthrough n pc []) → s .len < 2
 unfolding pushFallthrough pushValid push contains asRecord
-room n pc s e = go (ltb (pc + 1) n) refl
+second-fits n pc s e = go (ltb (pc + 1) n) refl
   where
     go : (b : Bool) → ltb (pc + 1) n ≡ b → s .len < 2
     go true q = omega (arith, rw q at (ap (λ (x : InstructionSuccessors). x .len) e))
@@ -36,9 +36,9 @@ module _ (n pc : ℕ) (inst : Instruction) (f : Flow) (goes : asBranch f ≡ bra
   unfolding branchSuccessors
   falls e h = by FallThrough e h
 
-  pub leaves : f ≡ Leave → r ≡ asRecord [] → r ≡ asRecord (successors n pc inst)
+  pub leaves-none : f ≡ Leave → r ≡ asRecord [] → r ≡ asRecord (successors n pc inst)
   unfolding branchSuccessors
-  leaves e h = by Leave e h
+  leaves-none e h = by Leave e h
 
   -- An offset and a target go from call to call as bits.
   module _ (w : Width) (offset target : ℤ) (fo : mag offset < 2 ^ hbits w) (ft : mag target < 2 ^ hbits w64) (targets : List ℕ)

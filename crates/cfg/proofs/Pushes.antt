@@ -7,12 +7,9 @@ use mathlib.Core.List.{List, [], _∷_}
 use Prim.Native.Nat.{ℕ, _≤_, _<_}
 use native.Mathlib.Omega.{arith}
 use borrow.Author.Tests.{eq-eqb, ne-eqb, lt-ltb, le-ltb, ltb-true}
-use lib.Dec.{T}
 use lib.IntN.{ℤ, pos, negsuc, natAbs}
-use lib.Signed.{ltZ, nonNeg}
+use lib.Signed.{ltZ}
 use lib.ListN.{getD}
-use mir.Syntax.{w64}
-use mir.Val.{SFits, Fits}
 use Rattle.model.specs.Successors.{contains, push, pushValid, asRecord}
 use Rattle.model.specs.declared.InstructionSuccessors.{InstructionSuccessors}
 
@@ -57,12 +54,7 @@ module _ (n : ℕ) (targets : List ℕ) where
   past-end (pos k) h = rw (le-ltb k n h)
   past-end (negsuc k) h = refl
 
-  pub inside : (z : ℤ) → ltZ z (pos 0) ≡ false → natAbs z < n → pushValid n targets z ≡ push targets (natAbs z)
+  pub valid-inside : (z : ℤ) → ltZ z (pos 0) ≡ false → natAbs z < n → pushValid n targets z ≡ push targets (natAbs z)
   unfolding pushValid
-  inside (pos k) e h = rw (lt-ltb k n h)
-  inside (negsuc k) e h = absurd (let z : _≡_ {A = ℕ} 0 1 = cc in omega arith)
-
--- what the cast of a target asks
-pub natural : (z : ℤ) → ltZ z (pos 0) ≡ false → SFits w64 z → T (nonNeg z) × Fits w64 (natAbs z)
-natural (pos k) e f = (tt, record { fits = omega arith })
-natural (negsuc k) e f = absurd (let z : _≡_ {A = ℕ} 0 1 = cc in omega arith)
+  valid-inside (pos k) e h = rw (lt-ltb k n h)
+  valid-inside (negsuc k) e h = absurd (let z : _≡_ {A = ℕ} 0 1 = cc in omega arith)

@@ -17,8 +17,8 @@ sel-cond true y z = refl
 sel-cond false y z = refl
 
 -- the bits x, read as signed
-pub read : (w : Width) (x : ℕ) → toZ w x ≡ cond (ltb x (2 ^ hbits w)) (pos x) (negsuc (2 ^ bits w - suc x))
-read w x = sel-cond (ltb x (2 ^ hbits w)) (pos x) (negsuc (2 ^ bits w - suc x))
+pub signed-read : (w : Width) (x : ℕ) → toZ w x ≡ cond (ltb x (2 ^ hbits w)) (pos x) (negsuc (2 ^ bits w - suc x))
+signed-read w x = sel-cond (ltb x (2 ^ hbits w)) (pos x) (negsuc (2 ^ bits w - suc x))
 
 -- ---- bits of the upper half, less the whole: the code finds the number that they stand for at 64 bits, and takes it back to its width
 

@@ -18,8 +18,8 @@ unfoldable pub five : ℕ → ℕ → ℕ → ℕ → ℕ → List ℕ
 five a b c d e = spaced a ++ spaced b ++ spaced c ++ spaced d ++ spaced e
 
 -- the number of the question that refuses a sheet
-unfoldable pub refusedLine : ℕ → List ℕ
-refusedLine number = ascii ": refused" ++ spaced number ++ newline
+unfoldable pub refusedCornerLine : ℕ → List ℕ
+refusedCornerLine number = ascii ": refused" ++ spaced number ++ newline
 
 -- the ten sizes of a sheet that is accepted
 unfoldable pub acceptedLine : Sizes → List ℕ

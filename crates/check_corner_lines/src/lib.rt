@@ -2,7 +2,7 @@
 ghost use Prim.Native.Nat.{_+_, _≤_};
 ghost use lib.ListN.{length};
 ghost use Rattle.text_words.specs.Text.{Added};
-ghost use Rattle.check_corner_lines.specs.Lines.{five, refusedLine, acceptedLine, successorsLine, yesOrNo, writesLine, indexWritesLine};
+ghost use Rattle.check_corner_lines.specs.Lines.{five, refusedCornerLine, acceptedLine, successorsLine, yesOrNo, writesLine, indexWritesLine};
 use model::FactCell;
 use model::InstructionSuccessors;
 use sheet::Sizes;
@@ -10,9 +10,9 @@ use text_words::put;
 use text_words::put_spaced;
 
 // The number of the question that refuses a sheet.
-pub fn refused_line(question: u8, out: &mut [u8]) -> usize
+pub fn refused_corner_line(question: u8, out: &mut [u8]) -> usize
     requires { ⌜ 31 ≤ length (now out) ⌝ }
-    ensures { λ r. ⌜ Added 31 (refusedLine question) 0 (now (out .entry)) r (now (out .exit)) ⌝ }
+    ensures { λ r. ⌜ Added 31 (refusedCornerLine question) 0 (now (out .entry)) r (now (out .exit)) ⌝ }
 {
     let a = put(b": refused", 0, out);
     let b = put_spaced(question as u64, a, out);
@@ -82,7 +82,7 @@ pub fn successors_line(pc: usize, successors: InstructionSuccessors, out: &mut [
 }
 
 // The answer at the end of a line.
-fn put_answer(answer: bool, at: usize, out: &mut [u8]) -> usize
+fn put_yes_or_no(answer: bool, at: usize, out: &mut [u8]) -> usize
     requires { ⌜ at + 6 ≤ length (now out) ⌝ }
     ensures { λ r. ⌜ Added 6 (yesOrNo answer) at (now (out .entry)) r (now (out .exit)) ⌝ }
 {
@@ -100,7 +100,7 @@ pub fn writes_line(pc: usize, slot: u16, is_written: bool, out: &mut [u8]) -> us
     let a = put(b"writes", 0, out);
     let b = put_spaced(pc as u64, a, out);
     let c = put_spaced(slot as u64, b, out);
-    put_answer(is_written, c, out)
+    put_yes_or_no(is_written, c, out)
 }
 
 // The same in the index analysis, with the fact in b.
@@ -119,5 +119,5 @@ pub fn index_writes_line(
     let c = put_spaced(before.kind as u64, b, out);
     let d = put_spaced(before.value, c, out);
     let e = put_spaced(slot as u64, d, out);
-    put_answer(is_written, e, out)
+    put_yes_or_no(is_written, e, out)
 }

@@ -12,7 +12,7 @@ ghost use Rattle.sheet.specs.Measured.{Accepted};
 use check_corner_cases::head_of;
 use check_corner_cases::question_of;
 use check_corner_lines::accepted_line;
-use check_corner_lines::refused_line;
+use check_corner_lines::refused_corner_line;
 use check_corner_text::answer_line;
 use check_input::read_front;
 use libc::STDIN_FILENO;
@@ -59,7 +59,7 @@ fn print_name(length: usize) -> bool {
 }
 
 // Room for a sheet.
-fn no_sheet() -> [u8; 131072]
+fn no_long_sheet() -> [u8; 131072]
     ensures { λ r. ⌜ 131072 ≡ length r ⌝ }
 {
     [0; 131072]
@@ -81,7 +81,7 @@ fn no_ranges() -> [u16; 4096]
 
 // Reads the sheet.
 fn answer_sheet(length: usize, questions: u16) -> bool {
-    let mut sheet = no_sheet();
+    let mut sheet = no_long_sheet();
     let count = read_front(&mut sheet, length);
     if count < length {
         return false;
@@ -115,7 +115,7 @@ fn print_accepted(sizes: Sizes) -> bool {
 
 fn print_refused(question: u8) -> bool {
     let mut line = no_line();
-    let count = refused_line(question, &mut line);
+    let count = refused_corner_line(question, &mut line);
     write_front(&line, count)
 }
 

@@ -5,13 +5,10 @@ use mathlib.Core.Bool.{true, false, false≢true}
 use mathlib.Core.List.{List, _++_, append-assoc}
 use Prim.Native.Nat.{ℕ, _+_, _≤_, _<_, min}
 use native.Mathlib.Omega.{arith}
-use lib.Dec.{T}
 use lib.IntN.{ℤ, pos, negsuc, natAbs}
 use lib.ListN.{length, take, drop, length-append, take-append-drop}
 use lib.Seq.{length-take-le, take-at, drop-at, drop-drop, drop-append-le}
-use lib.Signed.{ltZ, nonNeg}
-use mir.Syntax.{w64}
-use mir.Val.{Fits, SFits}
+use lib.Signed.{ltZ}
 use borrow.Author.Tests.{ltb-true}
 use Rattle.io.specs.Counts.{Counts}
 use Rattle.text_words.specs.Text.{Added}
@@ -27,10 +24,6 @@ failed-is (pos k) most e = absurd (omega (arith, ltb-true k 0 e))
 failed-is (negsuc k) most e = refl
 
 -- from 0 up
-pub natural : (z : ℤ) → ltZ z (pos 0) ≡ false → SFits w64 z → T (nonNeg z) × Fits w64 (natAbs z)
-natural (pos k) e h = (tt, record { fits = omega arith })
-natural (negsuc k) e h = absurd (let z : _≡_ {A = ℕ} 0 1 = cc in omega arith)
-
 pub came-is : (z : ℤ) (most count : ℕ) → ltZ z (pos 0) ≡ false → count ≡ min (natAbs z) most → record { count = count; failed = false } ≡ answeredOf z most
 unfolding answeredOf
 came-is (pos k) most count e h = rw h
@@ -65,8 +58,8 @@ module _ (piece old new : List ℕ) (to count next most : ℕ) (h : to ≤ lengt
 pub still-behind : (old mid new : List ℕ) (done count : ℕ) → drop done mid ≡ drop done old → drop (done + count) new ≡ drop (done + count) mid → drop (done + count) new ≡ drop (done + count) old
 still-behind old mid new done count e k = k ∙ sym (drop-drop count done mid) ∙ ap (drop count) e ∙ drop-drop count done old
 
-pub counted : (count : ℕ) (bytes : List ℕ) → count ≤ length bytes → Counts count bytes
-counted count bytes h = (h, sym (length-take-le count bytes h))
+pub counts-first : (count : ℕ) (bytes : List ℕ) → count ≤ length bytes → Counts count bytes
+counts-first count bytes h = (h, sym (length-take-le count bytes h))
 
 -- ---- the front of a buffer
 
@@ -75,7 +68,7 @@ pub front-read : (front buffer : List ℕ) (count r : ℕ) → count ≤ length 
     → Counts r (front ++ drop count buffer) × (r ≤ count) × (drop r (front ++ drop count buffer) ≡ drop r buffer) × (length buffer < count → r ≡ 0)
 front-read front buffer count r h e k same =
     let t = length-take-le count buffer h in (
-      counted r (front ++ drop count buffer) (omega (arith, length-append front (drop count buffer))),
+      counts-first r (front ++ drop count buffer) (omega (arith, length-append front (drop count buffer))),
       omega arith,
       drop-append-le r front (drop count buffer) k
           ∙ ap (λ (x : List ℕ). x ++ drop count buffer) same

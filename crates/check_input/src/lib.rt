@@ -1,46 +1,23 @@
 // Bytes and little-endian numbers from standard input. What comes, how much of it, and whether a read fails, no contract can say: that of libc's `read`
 // tells only how many bytes it may have moved. So the contracts here determine what lies behind the bytes that came, what is made of an answer of
-// `read` (`answered`) and of several (`so_far`), and that a read fails only where there was room for more. That the count, the failure and the bytes are
+// `read` (`input_from`) and of several (`so_far`), and that a read fails only where there was room for more. That the count, the failure and the bytes are
 // those of the calls of `read` is to be read in the bodies of `read_to`, `read_input` and `read_front`.
 ghost use mathlib.Core.Path.{_≡_};
 ghost use mathlib.Core.Bool.{true};
-ghost use Prim.Native.Nat.{_+_, _*_, _<_, _≤_, min};
+ghost use Prim.Native.Nat.{_+_, _<_, _≤_, min};
 ghost use lib.ListN.{length, take, drop};
 ghost use Rattle.io.specs.Counts.{Counts};
 ghost use Rattle.check_input.specs.Answered.{answeredOf};
 use libc::STDIN_FILENO;
+pub use sheet_bytes::u16_of;
+pub use sheet_bytes::u32_of;
+pub use sheet_bytes::u64_of;
 use text_words::put;
 
 // What came: count bytes, and then the input's end or a failed read, unless there was no room for more.
 pub struct Input {
     pub count: usize,
     pub failed: bool,
-}
-
-// A byte as a number of 16 bits.
-pub fn wide(x: u8) -> u16
-    ensures { λ r. ⌜ (r ≡ x) × (r < 256) ⌝ }
-{
-    x as u16
-}
-
-// Little-endian numbers, from two halves.
-pub fn u16_of(low: u8, high: u8) -> u16
-    ensures { λ r. ⌜ r ≡ low + 256 * high ⌝ }
-{
-    wide(low) + 256 * wide(high)
-}
-
-pub fn u32_of(low: u16, high: u16) -> u32
-    ensures { λ r. ⌜ r ≡ low + 65536 * high ⌝ }
-{
-    low as u32 + 65536 * high as u32
-}
-
-pub fn u64_of(low: u32, high: u32) -> u64
-    ensures { λ r. ⌜ r ≡ low + 4294967296 * high ⌝ }
-{
-    low as u64 + 4294967296 * high as u64
 }
 
 fn least(a: usize, b: usize) -> usize
@@ -51,7 +28,7 @@ fn least(a: usize, b: usize) -> usize
 
 // What `read` answered: how many bytes came, 0 at the end of the input; below 0 it failed. A call that a signal interrupts before it moves a byte
 // counts as one that failed.
-fn answered(got: isize, most: usize) -> Input
+fn input_from(got: isize, most: usize) -> Input
     ensures { λ r. ⌜ (r ≡ answeredOf got most) × (r .count ≤ most) ⌝ }
 {
     if got < 0 {
@@ -83,7 +60,7 @@ fn read_to(buffer: &mut [u8], to: usize, chunk: &mut [u8]) -> Input
     ensures { λ r. ⌜ (to + r .count ≤ length (now (buffer .entry))) × (take to (now (buffer .exit)) ≡ take to (now (buffer .entry))) × (drop (to + r .count) (now (buffer .exit)) ≡ drop (to + r .count) (now (buffer .entry))) × (r .failed ≡ true → r .count ≡ 0) ⌝ }
 {
     let n = least(buffer.len() - to, chunk.len());
-    let input = answered(libc::read(STDIN_FILENO, &mut chunk[..n]), n);
+    let input = input_from(libc::read(STDIN_FILENO, &mut chunk[..n]), n);
     let count = input.count;
     put(&chunk[..count], to, buffer);
     input

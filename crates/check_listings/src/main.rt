@@ -24,14 +24,14 @@ fn list_next() -> bool {
     }
     let name = u32_of(u16_of(head[0], head[1]), u16_of(head[2], head[3]));
     let sheet = u32_of(u16_of(head[4], head[5]), u16_of(head[6], head[7]));
-    if !print_name(name as usize) {
+    if !print_heading(name as usize) {
         return false;
     }
     list_sheet(sheet as usize)
 }
 
 // Copies the name out, as a line.
-fn print_name(length: usize) -> bool {
+fn print_heading(length: usize) -> bool {
     let mut name = io::buffer();
     let count = read_front(&mut name, length);
     if count < length {

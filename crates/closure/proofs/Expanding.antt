@@ -1,7 +1,6 @@
 -- The loop of the closure: a slot is taken, its edges are charged and followed, until the stack is empty.
 -- Assumes nothing.
 use mathlib.Core.Path.{_≡_, refl, sym, ap, _∙_}
-use mathlib.Core.Bool.{true, false, false≢true}
 use mathlib.Core.Logic.{_⊎_, inl, inr}
 use mathlib.Core.List.{List, [], _∷_, _++_, reverse, reverse-cons, List·Memᴰ as Member, List·Memᴰ·head as head, List·Memᴰ·tail as tail, List·Memᴰ·not-nil as not-nil}
 use Prim.Native.Nat.{ℕ, zero, suc, _+_, _-_, _≤_, _<_}
@@ -25,23 +24,18 @@ use Rattle.sheet.specs.Measured.{Measured}
 use Rattle.sheet.specs.declared.Sizes.{Sizes}
 use Rattle.sheet.proofs.Counted.{counted}
 use Rattle.sheet.proofs.Limited.{limited}
-use Rattle.finality.proofs.Marks.{IsSet, mark-grows, free, weight, stack-fits}
+use Rattle.finality.proofs.Marks.{IsSet, set-below, mark-grows, free, weight, stack-fits}
 use Rattle.finality.proofs.Closure.{follow-weight, seeded-weight}
 use Rattle.finality.proofs.Cells.{stacked-top, stacked-pop}
-use Rattle.closure_marks.specs.Marks.{Lies, Lain}
+use Rattle.closure_marks.specs.Marks.{MarkedLies, Lain}
 use Rattle.closure_follow.specs.Sources.{Follows}
 use Rattle.closure.specs.Taking.{Standing, topEdges, topTaken, Takes}
-use Rattle.closure.specs.Expanded.{Blank, expandedTo, expandedOf}
+use Rattle.closure.specs.Expanded.{ZeroScratch, expandedTo, expandedOf}
 use Rattle.closure_follow.specs.declared.Followed.{Followed}
 use Rattle.closure_marks.proofs.Marking.{some-lain}
 use Rattle.finality.proofs.Lengths.{zeros-same}
 
 -- ---- what is on the stack is below L
-
-set-below : (marks : List ℕ) (t : ℕ) → IsSet marks t → t < length marks
-set-below [] t e = absurd (false≢true (sym e))
-set-below (x ∷ xs) zero e = omega arith
-set-below (x ∷ xs) (suc t) e = let h = set-below xs t e in omega arith
 
 passed-size : (sheet : List ℕ) (m : Marked) → Passed sheet m → length (m .marks) ≡ localSlots sheet
 unfolding unmarked
@@ -105,7 +99,7 @@ module _ (room k d : ℕ) (ds stack whole : List ℕ) (lies : stack ≡ stacked 
   pop-top : length ds < room → set stack k 0 ≡ stacked room ds
   pop-top h = rw (lies, top, at) (stacked-pop room d ds h)
 
-module _ {sheet : List ℕ} {room : ℕ} {m : Marked} {marks stack : List ℕ} {top : ℕ} (l : Lies sheet room m marks stack top) where
+module _ {sheet : List ℕ} {room : ℕ} {m : Marked} {marks stack : List ℕ} {top : ℕ} (l : MarkedLies sheet room m marks stack top) where
   lies-below : top ≤ length stack
   lies-below = omega (arith, stack-fits sheet m (l .passed), l .top-is, l .deep, l .long)
 
@@ -125,7 +119,7 @@ module _ {sheet : List ℕ} {room : ℕ} {m : Marked} {marks stack : List ℕ} {
     d-below : getD stack (top - 1) 0 < localSlots sheet
     d-below = rw top-is-d (stacked-below sheet m (l .passed) (some-top .d) (top-member (some-top .d) (some-top .ds) (m .stack) (some-top .is)))
 
-    popped : Lies sheet room rest marks (set stack (top - 1) 0) (top - 1)
+    popped : MarkedLies sheet room rest marks (set stack (top - 1) 0) (top - 1)
     unfolding rest
     popped = record {
       passed = taking (l .passed) (some-top .is) refl;
@@ -170,8 +164,8 @@ takes which sheet {marks} {stack} {marks′} {stack′} {top} {r} some f = recor
     many e k = rw e (omega (arith, rw k at (f .counts)))
 
     laid : {room d : ℕ} {ds : List ℕ} (m : Marked) → m .stack ≡ d ∷ ds → getD stack (top - 1) 0 ≡ d
-        → Lies sheet room (follow (dependencyBit which) (edgesTo sheet (getD stack (top - 1) 0)) (record { marks = m .marks; stack = ds })) marks′ stack′ (r .top)
-        → Lies sheet room (topTaken which sheet (m .stack) m) marks′ stack′ (r .top)
+        → MarkedLies sheet room (follow (dependencyBit which) (edgesTo sheet (getD stack (top - 1) 0)) (record { marks = m .marks; stack = ds })) marks′ stack′ (r .top)
+        → MarkedLies sheet room (topTaken which sheet (m .stack) m) marks′ stack′ (r .top)
     laid m e k l = rw e (rw k at l)
 
 -- ---- each slot is taken once
@@ -211,10 +205,10 @@ module _ (which : AnalysisKind) (sheet : List ℕ) where
   -- Between two turns: a state lies in marks and stack from which the closure goes on with what is left.
   pub record Expanding (budget : VerifierResources) (room : ℕ) (marks stack : List ℕ) (top : ℕ) (left : VerifierResources) : Type 0 where
     pub m : Marked
-    pub lies : Lies sheet room m marks stack top
+    pub lies : MarkedLies sheet room m marks stack top
     pub so-far : whole budget ≡ expand which sheet (weight m) m left
 
-  pub expanding-begun : {budget : VerifierResources} {room : ℕ} {marks stack : List ℕ} {top : ℕ} → Lies sheet room (seeded which sheet) marks stack top
+  pub expanding-begun : {budget : VerifierResources} {room : ℕ} {marks stack : List ℕ} {top : ℕ} → MarkedLies sheet room (seeded which sheet) marks stack top
       → Expanding budget room marks stack top budget
   expanding-begun {budget} l = record { m = seeded which sheet; lies = l; so-far = ap (λ (k : ℕ). expand which sheet k (seeded which sheet) budget) (sym (seeded-weight which sheet)) }
 
@@ -222,7 +216,7 @@ module _ (which : AnalysisKind) (sheet : List ℕ) where
       → Standing sheet marks stack top
   expanding-standing {room = room} x = record { room = room; m = x .m; lies = x .lies }
 
-  lies-weight : {room : ℕ} {m : Marked} {marks stack : List ℕ} {top : ℕ} → Lies sheet room m marks stack top → weight m ≡ free marks + top
+  lies-weight : {room : ℕ} {m : Marked} {marks stack : List ℕ} {top : ℕ} → MarkedLies sheet room m marks stack top → weight m ≡ free marks + top
   unfolding weight
   lies-weight l = omega (arith, ap free (l .marks-are), l .top-is)
 
@@ -283,9 +277,9 @@ module _ (which : AnalysisKind) (sheet : List ℕ) where
 
 -- ---- how it begins
 
-pub blank-lies : {sheet marks stack : List ℕ} {sizes : Sizes} → Measured sheet sizes → Blank sheet marks stack → Lies sheet (length stack) (unmarked sheet) marks stack 0
+pub zero-lies : {sheet marks stack : List ℕ} {sizes : Sizes} → Measured sheet sizes → ZeroScratch sheet marks stack → MarkedLies sheet (length stack) (unmarked sheet) marks stack 0
 unfolding unmarked stacked zeros
-blank-lies {sheet} {marks} {stack} w b = record {
+zero-lies {sheet} {marks} {stack} w b = record {
   passed = begun refl;
   marks-are = b .no-marks ∙ ap (λ (k : ℕ). replicate k 0) (b .wide);
   stack-is = b .no-entries ∙ (let e : length stack - 0 ≡ length stack = omega arith in rw e);
@@ -296,7 +290,7 @@ blank-lies {sheet} {marks} {stack} w b = record {
   small = omega (arith, limited w .local-slots, counted (w .are) .local-slots);
 }
 
-pub lies-room : {sheet : List ℕ} {room : ℕ} {m : Marked} {marks stack : List ℕ} {top : ℕ} → Lies sheet room m marks stack top → Lies sheet (length stack) m marks stack top
+pub lies-room : {sheet : List ℕ} {room : ℕ} {m : Marked} {marks stack : List ℕ} {top : ℕ} → MarkedLies sheet room m marks stack top → MarkedLies sheet (length stack) m marks stack top
 lies-room l = rw (l .long) l
 
 -- ---- how it ends

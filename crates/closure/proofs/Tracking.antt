@@ -16,7 +16,7 @@ use Rattle.budget.specs.Metering.{asSpent}
 use Rattle.budget.specs.declared.Metering.{Metering}
 use Rattle.budget.specs.declared.Metering.the-variants as M
 use Rattle.closure_marks.specs.Slots.{fitted}
-use Rattle.closure.specs.Expanded.{Blank, Expanded, expandedTo, expandedOf}
+use Rattle.closure.specs.Expanded.{ZeroScratch, Expanded, expandedTo, expandedOf}
 use Rattle.closure.specs.Closed.{scratchCharges, closedBy, closedTo, closedOf}
 use Rattle.closure.specs.declared.Closed.{Closed}
 use Rattle.budget.proofs.Spending.{covered, refused, then-covered, then-refused}
@@ -126,7 +126,7 @@ take-zeros (suc l) (x ∷ xs) e =
     rw (p, ← (take-zeros l xs q))
 
 module _ (sheet : List ℕ) {l : ℕ} (marks stack : List ℕ) (all : l ≡ localSlots sheet) (wide : l ≤ length marks) (deep : l ≤ length stack) (no-marks : marks ≡ zeros marks) (no-entries : stack ≡ zeros stack) where
-  pub blank : Blank sheet (take l marks) stack
+  pub blank : ZeroScratch sheet (take l marks) stack
   unfolding zeros
   blank = record {
     wide = length-take-le l marks wide ∙ all;

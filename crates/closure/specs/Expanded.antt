@@ -13,7 +13,7 @@ use Rattle.budget.specs.declared.Metering.{Metering}
 use Rattle.budget.specs.declared.Metering.the-variants as M
 
 -- L marks and a stack of at least L entries, all zero
-pub record Blank (sheet marks stack : List ℕ) : Type 0 where
+pub record ZeroScratch (sheet marks stack : List ℕ) : Type 0 where
   pub wide : length marks ≡ localSlots sheet
   pub deep : localSlots sheet ≤ length stack
   pub no-marks : marks ≡ zeros marks

@@ -7,14 +7,14 @@ use lib.ListN.{length}
 use Rattle.model.specs.Dependencies.{dependencyBit, edgesTo}
 use Rattle.model.specs.Closure.{Marked, follow}
 use Rattle.model.specs.declared.AnalysisKind.{AnalysisKind}
-use Rattle.closure_marks.specs.Marks.{Lies}
+use Rattle.closure_marks.specs.Marks.{MarkedLies}
 use Rattle.closure_follow.specs.declared.Followed.{Followed}
 
 -- some state of this sheet's closure lies there
 pub record Standing (sheet marks stack : List ℕ) (top : ℕ) : Type 0 where
   pub room : ℕ
   pub m : Marked
-  pub lies : Lies sheet room m marks stack top
+  pub lies : MarkedLies sheet room m marks stack top
 
 -- how many edges the slot on top has
 unfoldable pub topEdges : List ℕ → List ℕ → ℕ
@@ -28,5 +28,5 @@ topTaken which sheet (d ∷ ds) m = follow (dependencyBit which) (edgesTo sheet 
 
 -- The slot on top is taken from whatever state lies there, and its edges are counted.
 pub record Takes (which : AnalysisKind) (sheet marks stack : List ℕ) (top : ℕ) (marks′ stack′ : List ℕ) (r : Followed) : Type 0 where
-  pub counts : {room : ℕ} {m : Marked} → Lies sheet room m marks stack top → r .count ≡ topEdges sheet (m .stack)
-  pub lies : {room : ℕ} {m : Marked} → Lies sheet room m marks stack top → Lies sheet room (topTaken which sheet (m .stack) m) marks′ stack′ (r .top)
+  pub counts : {room : ℕ} {m : Marked} → MarkedLies sheet room m marks stack top → r .count ≡ topEdges sheet (m .stack)
+  pub lies : {room : ℕ} {m : Marked} → MarkedLies sheet room m marks stack top → MarkedLies sheet room (topTaken which sheet (m .stack) m) marks′ stack′ (r .top)

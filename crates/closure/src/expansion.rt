@@ -7,7 +7,7 @@ ghost use Rattle.model.specs.Call.{zeros};
 ghost use Rattle.sheet.specs.Measured.{Measured};
 ghost use Rattle.closure_edges.specs.Chain.{Chained};
 ghost use Rattle.closure.specs.Taking.{Standing, Takes};
-ghost use Rattle.closure.specs.Expanded.{Blank, expandedTo, expandedOf};
+ghost use Rattle.closure.specs.Expanded.{ZeroScratch, expandedTo, expandedOf};
 use budget::Metering;
 use budget::charge_work;
 use budget::metered;
@@ -69,7 +69,7 @@ fn expand_along(
     marks: &mut [u8],
     stack: &mut [u16],
 ) -> Metering
-    requires { ⌜ Measured (now sheet) sizes × Blank (now sheet) (now marks) (now stack) × Chained (now sheet) (now heads) (now nexts) (now pcs) from ⌝ }
+    requires { ⌜ Measured (now sheet) sizes × ZeroScratch (now sheet) (now marks) (now stack) × Chained (now sheet) (now heads) (now nexts) (now pcs) from ⌝ }
     ensures { λ r. ⌜ (expandedTo r (now (marks .exit)) ≡ expandedOf (now (marks .entry)) (expand which (now (sheet .entry)) (localSlots (now (sheet .entry))) (seeded which (now (sheet .entry))) resources)) × (now (stack .exit) ≡ zeros (now (stack .entry))) ⌝ }
 {
     let mut top = seed_slots(which, sheet, sizes, marks, stack);
@@ -108,7 +108,7 @@ fn expand_short(
     marks: &mut [u8],
     stack: &mut [u16],
 ) -> Metering
-    requires { ⌜ Measured (now sheet) sizes × Blank (now sheet) (now marks) (now stack) ⌝ }
+    requires { ⌜ Measured (now sheet) sizes × ZeroScratch (now sheet) (now marks) (now stack) ⌝ }
     ensures { λ r. ⌜ (expandedTo r (now (marks .exit)) ≡ expandedOf (now (marks .entry)) (expand which (now (sheet .entry)) (localSlots (now (sheet .entry))) (seeded which (now (sheet .entry))) resources)) × (now (stack .exit) ≡ zeros (now (stack .entry))) ⌝ }
 {
     let heads = [0u16; 1];
@@ -138,7 +138,7 @@ pub fn expand(
     marks: &mut [u8],
     stack: &mut [u16],
 ) -> Metering
-    requires { ⌜ Measured (now sheet) sizes × Blank (now sheet) (now marks) (now stack) ⌝ }
+    requires { ⌜ Measured (now sheet) sizes × ZeroScratch (now sheet) (now marks) (now stack) ⌝ }
     ensures { λ r. ⌜ (expandedTo r (now (marks .exit)) ≡ expandedOf (now (marks .entry)) (expand which (now (sheet .entry)) (localSlots (now (sheet .entry))) (seeded which (now (sheet .entry))) resources)) × (now (stack .exit) ≡ zeros (now (stack .entry))) ⌝ }
 {
     if sizes.code_count < 33 {

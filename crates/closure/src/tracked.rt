@@ -6,7 +6,7 @@ ghost use Rattle.model.specs.Closure.{trackedSlots};
 ghost use Rattle.model.specs.Call.{zeros};
 ghost use Rattle.sheet.specs.Measured.{Measured};
 ghost use Rattle.budget.specs.Metering.{asSpent};
-ghost use Rattle.closure.specs.Expanded.{Blank};
+ghost use Rattle.closure.specs.Expanded.{ZeroScratch};
 ghost use Rattle.closure.specs.Closed.{scratchCharges, closedBy, closedTo, closedOf};
 use crate::Closed;
 use crate::expansion::expand;
@@ -60,7 +60,7 @@ fn track(
     stack: &mut [u16],
     slots: &mut [u16],
 ) -> Closed
-    requires { ⌜ Measured (now sheet) sizes × Blank (now sheet) (now marks) (now stack) ⌝ }
+    requires { ⌜ Measured (now sheet) sizes × ZeroScratch (now sheet) (now marks) (now stack) ⌝ }
     ensures { λ r. ⌜ (closedTo r (now (slots .exit)) ≡ closedOf (now (slots .entry)) (trackedSlots which (now (sheet .entry)) resources)) × (now (marks .exit) ≡ zeros (now (marks .entry))) × (now (stack .exit) ≡ zeros (now (stack .entry))) ⌝ }
 {
     let scratch = charge_scratch(sizes.local_slots, resources);

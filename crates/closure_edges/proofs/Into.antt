@@ -11,9 +11,9 @@ use borrow.Author.Tests.{ne-eqb}
 use Rattle.model.specs.Count.{collect}
 use Rattle.model.specs.Dependencies.{FactDependency, edgeIf, edge, instructionEdges, keepIf, edgesInto}
 use Rattle.model.specs.declared.Instruction.{Instruction}
-use Rattle.closure_edges.specs.Rows.{row, rowIf, rows, dependence}
+use Rattle.closure_edges.specs.Rows.{row, edgeRowIf, rows, dependence}
 use Rattle.closure_edges.specs.declared.Dependence.{Dependence}
-use Rattle.closure_edges.proofs.Rows.{rows-are}
+use Rattle.closure_edges.proofs.Rows.{edge-rows-are}
 
 pub into-append : (d : ℕ) (xs ys : List FactDependency) → edgesInto d (xs ++ ys) ≡ edgesInto d xs ++ edgesInto d ys
 unfolding edgesInto keepIf
@@ -49,13 +49,13 @@ module _ (l d kinds : ℕ) where
 
 -- outside the rows
 pub misses : (l d : ℕ) (inst : Instruction) (r : Dependence) → (d < inst .a) ⊎ (inst .a + r .span ≤ d) → edgesInto d (rows r l inst) ≡ []
-unfolding rows rowIf edgesInto
+unfolding rows edgeRowIf edgesInto
 misses l d inst r h = into-append d (row l (inst .a) (inst .b) (r .kinds) (r .span)) _ ∙ rw (row-misses l d (r .kinds) (inst .a) (inst .b) (r .span) h) (go (r .fold))
   where
-    go : (t : Bool) → edgesInto d (rowIf t l (inst .a) (inst .c) (r .kinds) (r .span)) ≡ []
+    go : (t : Bool) → edgesInto d (edgeRowIf t l (inst .a) (inst .c) (r .kinds) (r .span)) ≡ []
     go true = row-misses l d (r .kinds) (inst .a) (inst .c) (r .span) h
     go false = refl
 
 -- and so of the instruction
 pub span-misses : (l d : ℕ) (inst : Instruction) → (d < inst .a) ⊎ (inst .a + dependence inst .span ≤ d) → edgesInto d (instructionEdges l inst) ≡ []
-span-misses l d inst h = ap (edgesInto d) (sym (rows-are inst refl l)) ∙ misses l d inst (dependence inst) h
+span-misses l d inst h = ap (edgesInto d) (sym (edge-rows-are inst refl l)) ∙ misses l d inst (dependence inst) h

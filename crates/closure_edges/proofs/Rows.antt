@@ -14,9 +14,9 @@ use Rattle.model.specs.Count.{collect}
 use Rattle.model.specs.Dependencies.{copyDependencies, copyWork, edgeIf, edge, instructionEdges, edgesBy, depends, Depends, copyEdge, copyNEdges, foldEdges, iterEdge, noEdges, dependencyBit}
 use Rattle.model.specs.Opcode.{select}
 use Rattle.model.specs.declared.Instruction.{Instruction}
-use Rattle.closure_edges.specs.Rows.{row, rowIf, rows, dependenceBy, dependence}
+use Rattle.closure_edges.specs.Rows.{row, edgeRowIf, rows, dependenceBy, dependence}
 use Rattle.closure_edges.specs.declared.Dependence.{Dependence}
-use Rattle.model.proofs.Tests.{and-false}
+use mathlib.Core.Bool.{and-false}
 
 -- ---- the rules are rows
 
@@ -25,7 +25,7 @@ unfolding row collect
 row-one l a b kinds = rw (add-zero a, add-zero b)
 
 by-rows : (l : ℕ) (inst : Instruction) (rule : Depends) → rows (dependenceBy rule inst) l inst ≡ edgesBy rule l inst
-unfolding dependenceBy edgesBy rows rowIf row collect dependencyBit
+unfolding dependenceBy edgesBy rows edgeRowIf row collect dependencyBit
 by-rows l inst copyEdge = append-nil (row l (inst .a) (inst .b) copyDependencies 1) ∙ row-one l (inst .a) (inst .b) copyDependencies
 by-rows l inst copyNEdges = append-nil (row l (inst .a) (inst .b) copyDependencies (inst .c))
 by-rows l inst foldEdges = rw (row-one l (inst .a) (inst .b) 1, row-one l (inst .a) (inst .c) 1)
@@ -33,9 +33,9 @@ by-rows l inst iterEdge = append-nil (row l (inst .a) (inst .b) 4 1) ∙ row-one
 by-rows l inst noEdges = refl
 
 -- the edges of an instruction are the rows of its dependence
-pub rows-are : {r : Dependence} (inst : Instruction) → r ≡ dependence inst → (l : ℕ) → rows r l inst ≡ instructionEdges l inst
+pub edge-rows-are : {r : Dependence} (inst : Instruction) → r ≡ dependence inst → (l : ℕ) → rows r l inst ≡ instructionEdges l inst
 unfolding instructionEdges
-rows-are inst e l = ap (λ (d : Dependence). rows d l inst) e ∙ by-rows l inst (depends (inst .op))
+edge-rows-are inst e l = ap (λ (d : Dependence). rows d l inst) e ∙ by-rows l inst (depends (inst .op))
 
 -- ---- how many edges a row has
 
@@ -71,13 +71,13 @@ length-row l a b kinds (suc i) =
 
 pub length-rows-fold : (l : ℕ) (inst : Instruction) (r : Dependence) → r .fold ≡ true
     → length (rows r l inst) ≡ min (r .span) (min (l - inst .a) (l - inst .b)) + min (r .span) (min (l - inst .a) (l - inst .c))
-unfolding rows rowIf
+unfolding rows edgeRowIf
 length-rows-fold l inst r e =
     rw e (length-append (row l (inst .a) (inst .b) (r .kinds) (r .span)) (row l (inst .a) (inst .c) (r .kinds) (r .span))
     ∙ rw (length-row l (inst .a) (inst .b) (r .kinds) (r .span), length-row l (inst .a) (inst .c) (r .kinds) (r .span)))
 
 pub length-rows-one : (l : ℕ) (inst : Instruction) (r : Dependence) → r .fold ≡ false → length (rows r l inst) ≡ min (r .span) (min (l - inst .a) (l - inst .b))
-unfolding rows rowIf
+unfolding rows edgeRowIf
 length-rows-one l inst r e = rw (e, append-nil (row l (inst .a) (inst .b) (r .kinds) (r .span))) (length-row l (inst .a) (inst .b) (r .kinds) (r .span))
 
 -- ---- as the code counts them

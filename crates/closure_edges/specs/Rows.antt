@@ -14,13 +14,13 @@ unfoldable pub row : ℕ → ℕ → ℕ → ℕ → ℕ → List FactDependency
 row l a b kinds span = collect (λ i. edge l (a + i) (b + i) kinds) span
 
 -- a row, where the test holds
-unfoldable pub rowIf : Bool → ℕ → ℕ → ℕ → ℕ → ℕ → List FactDependency
-rowIf true l a b kinds span = row l a b kinds span
-rowIf false l a b kinds span = []
+unfoldable pub edgeRowIf : Bool → ℕ → ℕ → ℕ → ℕ → ℕ → List FactDependency
+edgeRowIf true l a b kinds span = row l a b kinds span
+edgeRowIf false l a b kinds span = []
 
 -- the edges of an instruction that depends so
 unfoldable pub rows : Dependence → ℕ → Instruction → List FactDependency
-rows r l inst = row l (inst .a) (inst .b) (r .kinds) (r .span) ++ rowIf (r .fold) l (inst .a) (inst .c) (r .kinds) (r .span)
+rows r l inst = row l (inst .a) (inst .b) (r .kinds) (r .span) ++ edgeRowIf (r .fold) l (inst .a) (inst .c) (r .kinds) (r .span)
 
 -- how the slots that an instruction sets depend on others, by its rule: one of them, or "CopyN's count is c", of a mask
 unfoldable pub dependenceBy : Depends → Instruction → Dependence

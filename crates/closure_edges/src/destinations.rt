@@ -18,7 +18,7 @@ pub fn bucket_of(slot: usize) -> usize
 }
 
 // Where the slots end that an instruction's edges may lead to.
-fn end_of(l: usize, a: usize, span: usize) -> usize
+fn reached_end(l: usize, a: usize, span: usize) -> usize
     requires { ⌜ (a ≤ 65535) × (span ≤ 65535) ⌝ }
     ensures { λ r. ⌜ r ≡ min (a + span) l ⌝ }
 {
@@ -33,7 +33,7 @@ pub fn buckets_of(inst: Instruction, l: usize) -> Buckets
 {
     let a = inst.a as usize;
     let rule = dependence_of(inst);
-    let end = end_of(l, a, rule.span as usize);
+    let end = reached_end(l, a, rule.span as usize);
     if a < end {
         let first = bucket_of(a);
         let last = bucket_of(end - 1);

@@ -1,6 +1,6 @@
 // The edges of one instruction, by its opcode.
 ghost use mathlib.Core.Path.{_≡_};
-ghost use Prim.Native.Nat.{ℕ, _+_, _-_, _≤_, min};
+ghost use Prim.Native.Nat.{_+_, _-_, _≤_, min};
 ghost use lib.ListN.{length};
 ghost use Rattle.model.specs.Dependencies.{depends, copyWork, instructionEdges};
 ghost use Rattle.closure_edges.specs.Rows.{dependence};

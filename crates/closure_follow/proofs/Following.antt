@@ -18,7 +18,7 @@ use Rattle.model.specs.Dependencies.{FactDependency, edgeIf, edge, Depends, dep
 use Rattle.model.specs.Closure.{Marked, mark, followUnless, follow}
 use Rattle.model.specs.Opcode.{select}
 use Rattle.model.specs.declared.Instruction.{Instruction}
-use Rattle.closure_edges.specs.Rows.{row, rowIf, rows, dependenceBy, dependence}
+use Rattle.closure_edges.specs.Rows.{row, edgeRowIf, rows, dependenceBy, dependence}
 use Rattle.closure_marks.specs.Marks.{Goes, Holding, slotsIn, markAll}
 use Rattle.closure_follow.specs.Sources.{edgesFrom, edgesIn, onlyIf, Follows}
 use Rattle.closure_edges.specs.declared.Dependence.{Dependence}
@@ -77,12 +77,12 @@ module _ (l d : ℕ) (inst : Instruction) (r : Dependence) (are : rows r l inst 
 
   hits : (i : ℕ) → d ≡ inst .a + i → i < r .span → d < l
       → edgesInto d (rows r l inst) ≡ edgesFrom d (r .kinds) (onlyIf (ltb (inst .b + i) l) (inst .b + i) ++ onlyIf (r .fold && ltb (inst .c + i) l) (inst .c + i))
-  unfolding rows rowIf edgesFrom edgesInto onlyIf
+  unfolding rows edgeRowIf edgesFrom edgesInto onlyIf
   hits i p h k =
       into-append d (row l (inst .a) (inst .b) (r .kinds) (r .span)) _
       ∙ rw (row-hits l d (r .kinds) (inst .a) (inst .b) (r .span) i p h k, from-append d (r .kinds) (onlyIf (ltb (inst .b + i) l) (inst .b + i)) (onlyIf (r .fold && ltb (inst .c + i) l) (inst .c + i)), go (r .fold))
     where
-      go : (t : Bool) → edgesInto d (rowIf t l (inst .a) (inst .c) (r .kinds) (r .span)) ≡ edgesFrom d (r .kinds) (onlyIf (t && ltb (inst .c + i) l) (inst .c + i))
+      go : (t : Bool) → edgesInto d (edgeRowIf t l (inst .a) (inst .c) (r .kinds) (r .span)) ≡ edgesFrom d (r .kinds) (onlyIf (t && ltb (inst .c + i) l) (inst .c + i))
       go true = row-hits l d (r .kinds) (inst .a) (inst .c) (r .span) i p h k
       go false = refl
 
@@ -208,7 +208,7 @@ module _ (sheet : List ℕ) (d : ℕ) where
           rw (s .none hi (omega arith) (omega arith)) (append-nil (collect (edgesAt sheet d) hi) ∙ earlier (omega arith) (record { none = λ pc k l. s .none pc k (omega arith) }))
 
   -- what a link tells
-  pub record Next (nexts pcs : List ℕ) (link lo : ℕ) : Type 0 where
+  pub record NextLink (nexts pcs : List ℕ) (link lo : ℕ) : Type 0 where
     pub in-nexts : link - 1 < length nexts
     pub back : getD nexts (link - 1) 0 < link
     pub later : lo ≤ getD pcs (link - 1) 0
@@ -216,7 +216,7 @@ module _ (sheet : List ℕ) (d : ℕ) where
     pub silent : Silent sheet d lo (getD pcs (link - 1) 0)
     pub rest : Chain sheet nexts pcs d (getD nexts (link - 1) 0) (getD pcs (link - 1) 0 + 1)
 
-  next : {nexts pcs : List ℕ} {link lo : ℕ} → 0 < link → Chain sheet nexts pcs d link lo → Next nexts pcs link lo
+  next : {nexts pcs : List ℕ} {link lo : ℕ} → 0 < link → Chain sheet nexts pcs d link lo → NextLink nexts pcs link lo
   next some (ended e s) = absurd (omega arith)
   next {link = link} some (linked {i = i} e inside back later code s rest) =
       let k : link - 1 ≡ i = omega arith in
@@ -227,7 +227,7 @@ module _ (sheet : List ℕ) (d : ℕ) where
   chain-end none (linked e inside back later code s rest) = absurd (omega arith)
 
   -- The edges of the instructions below lo are followed, and the chain tells the others. `es` are those from `from` on.
-  pub record Walked (nexts pcs : List ℕ) (from bit : ℕ) (marks₀ stack₀ : List ℕ) (followed₀ : Followed) (marks stack : List ℕ) (followed : Followed) (link : ℕ) : Type 0 where
+  pub record ChainWalked (nexts pcs : List ℕ) (from bit : ℕ) (marks₀ stack₀ : List ℕ) (followed₀ : Followed) (marks stack : List ℕ) (followed : Followed) (link : ℕ) : Type 0 where
     pub lo : ℕ
     pub inside : lo ≤ codeCount sheet
     pub chain : Chain sheet nexts pcs d link lo
@@ -236,10 +236,10 @@ module _ (sheet : List ℕ) (d : ℕ) where
     pub follows : Follows bit es marks₀ stack₀ followed₀ marks stack followed
     pub are : collect (edgesAt sheet d) from ++ es ≡ collect (edgesAt sheet d) lo
 
-  pub walked-none : {nexts pcs : List ℕ} {from bit : ℕ} {marks stack : List ℕ} {followed : Followed} {link : ℕ} → from ≤ codeCount sheet → Chain sheet nexts pcs d link from
-      → followed .count ≤ from * 255 → Walked nexts pcs from bit marks stack followed marks stack followed link
+  pub chain-walked-none : {nexts pcs : List ℕ} {from bit : ℕ} {marks stack : List ℕ} {followed : Followed} {link : ℕ} → from ≤ codeCount sheet → Chain sheet nexts pcs d link from
+      → followed .count ≤ from * 255 → ChainWalked nexts pcs from bit marks stack followed marks stack followed link
   unfolding follow
-  walked-none {from = from} h c k = record {
+  chain-walked-none {from = from} h c k = record {
     lo = from;
     inside = h;
     chain = c;
@@ -250,15 +250,15 @@ module _ (sheet : List ℕ) (d : ℕ) where
   }
 
   module _ {nexts pcs : List ℕ} {from bit : ℕ} {marks₀ stack₀ : List ℕ} {followed₀ : Followed} {marks stack : List ℕ} {followed : Followed} {link : ℕ}
-      (w : Walked nexts pcs from bit marks₀ stack₀ followed₀ marks stack followed link) where
-    pub walked-next : 0 < link → Next nexts pcs link (w .lo)
+      (w : ChainWalked nexts pcs from bit marks₀ stack₀ followed₀ marks stack followed link) where
+    pub walked-next : 0 < link → NextLink nexts pcs link (w .lo)
     walked-next some = next some (w .chain)
 
-    pub walked-more : (some : 0 < link) {inst : Instruction} {l : ℕ} {marks′ stack′ : List ℕ} {r : Followed} → inst ≡ instruction sheet (getD pcs (link - 1) 0) → l ≡ localSlots sheet
+    pub chain-walked-more : (some : 0 < link) {inst : Instruction} {l : ℕ} {marks′ stack′ : List ℕ} {r : Followed} → inst ≡ instruction sheet (getD pcs (link - 1) 0) → l ≡ localSlots sheet
         → r .count ≤ followed .count + 255 → Follows bit (edgesInto d (instructionEdges l inst)) marks stack followed marks′ stack′ r
-        → Walked nexts pcs from bit marks₀ stack₀ followed₀ marks′ stack′ r (getD nexts (link - 1) 0)
+        → ChainWalked nexts pcs from bit marks₀ stack₀ followed₀ marks′ stack′ r (getD nexts (link - 1) 0)
     unfolding collect edgesAt
-    walked-more some e k small f =
+    chain-walked-more some e k small f =
         let n = walked-next some in
         let p = getD pcs (link - 1) 0 in
         record {

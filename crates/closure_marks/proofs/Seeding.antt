@@ -66,5 +66,5 @@ seeds-all which sheet pc n h k e p = let q : pc ≡ codeCount sheet = omega arit
 pub for-kind : {which is : AnalysisKind} (op : ℕ) {fs : List Field} → fs ≡ seedFields is op → which ≡ is → fs ≡ seedFields which op
 for-kind op e w = rw w e
 
-pub held : (inst : Instruction) (c : Candidates) (f g : Fields) {fs : List Field} → fieldsIn f ≡ fs → f ≡ g → Holding c (map (field inst) (fieldsIn g)) → Holding c (map (field inst) fs)
-held inst c f g e w h = rw (← e, w) h
+pub fields-held : (inst : Instruction) (c : Candidates) (f g : Fields) {fs : List Field} → fieldsIn f ≡ fs → f ≡ g → Holding c (map (field inst) (fieldsIn g)) → Holding c (map (field inst) fs)
+fields-held inst c f g e w h = rw (← e, w) h

@@ -12,7 +12,7 @@ use Rattle.closure_marks.specs.declared.Candidates.{Candidates}
 
 -- A state of a closure lies in L marks and in a stack of at least L entries, of which the first `top` are used. (The lengths follow from
 -- the contents.)
-pub record Lies (sheet : List ℕ) (room : ℕ) (m : Marked) (marks stack : List ℕ) (top : ℕ) : Type 0 where
+pub record MarkedLies (sheet : List ℕ) (room : ℕ) (m : Marked) (marks stack : List ℕ) (top : ℕ) : Type 0 where
   pub passed : Passed sheet m
   pub marks-are : marks ≡ m .marks
   pub stack-is : stack ≡ stacked room (m .stack)
@@ -27,21 +27,21 @@ pub record Lain (marks stack : List ℕ) (top : ℕ) : Type 0 where
   pub sheet : List ℕ
   pub room : ℕ
   pub m : Marked
-  pub lies : Lies sheet room m marks stack top
+  pub lies : MarkedLies sheet room m marks stack top
 
 -- Whatever state lies there goes through `step`.
 pub record Goes (step : Marked → Marked) (marks stack : List ℕ) (top : ℕ) (marks′ stack′ : List ℕ) (top′ : ℕ) : Type 0 where
-  pub on : {sheet : List ℕ} {room : ℕ} {m : Marked} → Lies sheet room m marks stack top → Lies sheet room (step m) marks′ stack′ top′
+  pub on : {sheet : List ℕ} {room : ℕ} {m : Marked} → MarkedLies sheet room m marks stack top → MarkedLies sheet room (step m) marks′ stack′ top′
 
 -- the first of two slots
-unfoldable pub firstOf : ℕ → List ℕ → List ℕ
-firstOf zero slots = []
-firstOf (suc zero) slots = getD slots 0 0 ∷ []
-firstOf (suc (suc n)) slots = getD slots 0 0 ∷ getD slots 1 0 ∷ []
+unfoldable pub firstSlots : ℕ → List ℕ → List ℕ
+firstSlots zero slots = []
+firstSlots (suc zero) slots = getD slots 0 0 ∷ []
+firstSlots (suc (suc n)) slots = getD slots 0 0 ∷ getD slots 1 0 ∷ []
 
 -- the slots of a value
 unfoldable pub slotsIn : Candidates → List ℕ
-slotsIn c = firstOf (c .len) (c .slots)
+slotsIn c = firstSlots (c .len) (c .slots)
 
 -- a value of two places
 abbrev pub candidates : ℕ → ℕ → ℕ → Candidates

@@ -41,7 +41,7 @@ fn write_slot(mark: u8, slot: usize, slots: &mut [u16], at: usize) -> usize
 }
 
 // The s marked slots, in the first places. No mark behind the last of them is read.
-fn write_slots(marks: &[u8], slots: &mut [u16], s: usize)
+fn write_marked_slots(marks: &[u8], slots: &mut [u16], s: usize)
     requires { ⌜ (length (now marks) ≤ 65535) × (length (places 0 (now marks)) ≤ length (now slots)) × (s ≡ length (places 0 (now marks))) ⌝ }
     ensures { λ r. ⌜ now (slots .exit) ≡ places 0 (now (marks .entry)) ++ drop (length (places 0 (now (marks .entry)))) (now (slots .entry)) ⌝ }
 {
@@ -62,6 +62,6 @@ pub fn list_slots(marks: &[u8], slots: &mut [u16]) -> usize
     if slots.len() < s {
         return s;
     }
-    write_slots(marks, slots, s);
+    write_marked_slots(marks, slots, s);
     s
 }

@@ -11,7 +11,7 @@ ghost use Rattle.model.specs.declared.AnalysisKind.the-variants.{Constant, Inde
 ghost use Rattle.model.specs.Call.{table, scratch, lent};
 ghost use Rattle.model.specs.Interface.{exported, exportedOf, looked, lookedUp, reachedNumber};
 use export_numbers::put_answer;
-use export_numbers::put_fact;
+use export_numbers::put_slot_fact;
 use export_numbers::reached;
 use lookup::constant_fact_for_slot;
 use lookup::container_fact_for_slot;
@@ -90,7 +90,7 @@ pub extern "C" fn vo_facts_constant(
     ensures { λ r. ⌜ looked r (now (out .exit)) ≡ lookedUp (leb 2 (length (now (out .entry)))) (factForSlot Constant (now (slots .entry)) (now (present .entry)) (now (kinds .entry)) (now (values .entry)) pc slot) (now (out .entry)) ⌝ }
 {
     let fact = constant_fact_for_slot(slots, present, kinds, values, pc, slot);
-    put_fact(fact, out)
+    put_slot_fact(fact, out)
 }
 
 // The same of the index analysis.
@@ -107,7 +107,7 @@ pub extern "C" fn vo_facts_index_check(
     ensures { λ r. ⌜ looked r (now (out .exit)) ≡ lookedUp (leb 2 (length (now (out .entry)))) (factForSlot IndexCheck (now (slots .entry)) (now (present .entry)) (now (kinds .entry)) (now (values .entry)) pc slot) (now (out .entry)) ⌝ }
 {
     let fact = index_check_fact_for_slot(slots, present, kinds, values, pc, slot);
-    put_fact(fact, out)
+    put_slot_fact(fact, out)
 }
 
 // The same of the container analysis.
@@ -124,7 +124,7 @@ pub extern "C" fn vo_facts_container(
     ensures { λ r. ⌜ looked r (now (out .exit)) ≡ lookedUp (leb 2 (length (now (out .entry)))) (factForSlot Container (now (slots .entry)) (now (present .entry)) (now (kinds .entry)) (now (values .entry)) pc slot) (now (out .entry)) ⌝ }
 {
     let fact = container_fact_for_slot(slots, present, kinds, values, pc, slot);
-    put_fact(fact, out)
+    put_slot_fact(fact, out)
 }
 
 // The one known constant of a slot, in the same numbers.
@@ -140,7 +140,7 @@ pub extern "C" fn vo_facts_fixed(
     ensures { λ r. ⌜ looked r (now (out .exit)) ≡ lookedUp (leb 2 (length (now (out .entry)))) (fixed (now (slots .entry)) (now (present .entry)) (now (kinds .entry)) (now (values .entry)) slot) (now (out .entry)) ⌝ }
 {
     let fact = fixed_fact(slots, present, kinds, values, slot);
-    put_fact(fact, out)
+    put_slot_fact(fact, out)
 }
 
 // 1 yes, 0 no, 9.

@@ -13,9 +13,9 @@ use Rattle.model.specs.Count.{collect}
 use Rattle.model.specs.Sheet.{codeCount, localSlots, instruction}
 use Rattle.model.specs.Dependencies.{FactDependency, edgeIf, edge, keepIf, edgesInto, edgesTo}
 use Rattle.model.specs.declared.Instruction.{Instruction}
-use Rattle.closure_edges.specs.Rows.{row, rowIf, rows, dependence}
+use Rattle.closure_edges.specs.Rows.{row, edgeRowIf, rows, dependence}
 use Rattle.closure_edges.specs.declared.Dependence.{Dependence}
-use Rattle.closure_edges.proofs.Rows.{rows-are}
+use Rattle.closure_edges.proofs.Rows.{edge-rows-are}
 use Rattle.closure_edges.proofs.Into.{into-append, edge-other, row-misses}
 
 module _ (l d kinds : ℕ) where
@@ -46,12 +46,12 @@ module _ (l d kinds : ℕ) where
 rows-few : (l d : ℕ) (inst : Instruction) (r : Dependence) → length (edgesInto d (rows r l inst)) ≤ 2
 unfolding rows
 rows-few l d inst r =
-    rw (into-append d (row l (inst .a) (inst .b) (r .kinds) (r .span)) (rowIf (r .fold) l (inst .a) (inst .c) (r .kinds) (r .span)))
-    (omega (arith, length-append (edgesInto d (row l (inst .a) (inst .b) (r .kinds) (r .span))) (edgesInto d (rowIf (r .fold) l (inst .a) (inst .c) (r .kinds) (r .span))), row-few l d (r .kinds) (inst .a) (inst .b) (r .span), second (r .fold)))
+    rw (into-append d (row l (inst .a) (inst .b) (r .kinds) (r .span)) (edgeRowIf (r .fold) l (inst .a) (inst .c) (r .kinds) (r .span)))
+    (omega (arith, length-append (edgesInto d (row l (inst .a) (inst .b) (r .kinds) (r .span))) (edgesInto d (edgeRowIf (r .fold) l (inst .a) (inst .c) (r .kinds) (r .span))), row-few l d (r .kinds) (inst .a) (inst .b) (r .span), second (r .fold)))
   where
-    second : (t : Bool) → length (edgesInto d (rowIf t l (inst .a) (inst .c) (r .kinds) (r .span))) ≤ 1
-    second true = unfold rowIf in (row-few l d (r .kinds) (inst .a) (inst .c) (r .span))
-    second false = unfold rowIf edgesInto in (omega arith)
+    second : (t : Bool) → length (edgesInto d (edgeRowIf t l (inst .a) (inst .c) (r .kinds) (r .span))) ≤ 1
+    second true = unfold edgeRowIf in (row-few l d (r .kinds) (inst .a) (inst .c) (r .span))
+    second false = unfold edgeRowIf edgesInto in (omega arith)
 
 collect-few : {A : Type 0} (f : ℕ → List A) (n : ℕ) → ((i : ℕ) → length (f i) ≤ 2) → length (collect f n) ≤ 2 * n
 unfolding collect
@@ -62,4 +62,4 @@ pub edges-few : (sheet : List ℕ) (d : ℕ) → length (edgesTo sheet d) ≤ 2 
 unfolding edgesTo
 edges-few sheet d =
     collect-few _ (codeCount sheet)
-    (λ pc. rw (ap (edgesInto d) (sym (rows-are (instruction sheet pc) refl (localSlots sheet)))) (rows-few (localSlots sheet) d (instruction sheet pc) (dependence (instruction sheet pc))))
+    (λ pc. rw (ap (edgesInto d) (sym (edge-rows-are (instruction sheet pc) refl (localSlots sheet)))) (rows-few (localSlots sheet) d (instruction sheet pc) (dependence (instruction sheet pc))))

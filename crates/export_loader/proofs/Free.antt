@@ -28,15 +28,16 @@ module _ (which : AnalysisKind) (sheet : List ℕ) where
   take-same [] go free m budget out left later e = sym (given m budget e)
   take-same (d ∷ ds) go free m budget out left later e = let p = then-parts e in later _ (p .rest) (p .after)
 
+  take-none : (m : Marked) (ds : List ℕ) → takeFree which sheet ds (λ m′. m) m ≡ m
+  unfolding takeFree
+  take-none m [] = refl
+  take-none m (d ∷ ds) = refl
+
   expand-same : (fuel : ℕ) (m : Marked) (budget : VerifierResources) (out : Marked) (left : VerifierResources)
       → expand which sheet fuel m budget ≡ ok out left → out ≡ expandFree which sheet fuel m
   unfolding expand expandFree giveUp
   expand-same zero m budget out left e =
-      take-same (m .stack) (λ m′. giveUp) (λ m′. m) m budget out left (λ m′ rest k. let z : _≡_ {A = ℕ} 0 1 = cc in absurd (omega arith)) e ∙ same (m .stack)
-    where
-      same : (ds : List ℕ) → takeFree which sheet ds (λ m′. m) m ≡ m
-      same [] = unfold takeFree in refl
-      same (d ∷ ds) = unfold takeFree in refl
+      take-same (m .stack) (λ m′. giveUp) (λ m′. m) m budget out left (λ m′ rest k. let z : _≡_ {A = ℕ} 0 1 = cc in absurd (omega arith)) e ∙ take-none m (m .stack)
   expand-same (suc fuel) m budget out left e =
       take-same (m .stack) (λ m′. expand which sheet fuel m′) (λ m′. expandFree which sheet fuel m′) m budget out left
       (λ m′ rest k. expand-same fuel m′ rest out left k) e
@@ -87,11 +88,7 @@ module _ (which : AnalysisKind) (sheet : List ℕ) where
       → Gives (expand which sheet fuel m budget) (expandFree which sheet fuel m)
   unfolding expand expandFree weight
   expand-gives zero m budget h k =
-      rw (same (m .stack)) at (take-gives (m .stack) (λ m′. giveUp) (λ m′. m) m budget 0 (omega arith) k (λ d rest left e w. let l : length (m .stack) ≡ suc (length rest) = ap length e in absurd (omega arith)))
-    where
-      same : (ds : List ℕ) → takeFree which sheet ds (λ m′. m) m ≡ m
-      same [] = unfold takeFree in refl
-      same (d ∷ ds) = unfold takeFree in refl
+      rw (take-none m (m .stack)) at (take-gives (m .stack) (λ m′. giveUp) (λ m′. m) m budget 0 (omega arith) k (λ d rest left e w. let l : length (m .stack) ≡ suc (length rest) = ap length e in absurd (omega arith)))
   expand-gives (suc fuel) m budget h k =
       take-gives (m .stack) (λ m′. expand which sheet fuel m′) (λ m′. expandFree which sheet fuel m′) m budget (suc fuel) (omega arith) k
       (λ d rest left e w.

@@ -1,15 +1,15 @@
--- What a loader is told, by each way out of the functions.
+-- What a loader is room-told, by each way out of the functions.
 -- Assumes nothing.
 use mathlib.Core.Path.{_≡_, refl, sym, ap, _∙_}
 use mathlib.Core.Bool.{Bool, true, false}
 use mathlib.Core.List.{List, [], _∷_}
 use mathlib.Core.Option.{Option, none, some}
-use Prim.Native.Nat.{ℕ, zero, _*_, _≤_, _<_}
+use Prim.Native.Nat.{ℕ, _*_, _≤_, _<_}
 use native.Mathlib.Nat.{mul-le-mul}
 use native.Mathlib.Omega.{arith}
 use lib.Dec.{leb, ltb}
 use lib.ListN.{length, set}
-use borrow.Author.Tests.{le-leb, lt-leb, leb-true, lt-ltb, le-ltb}
+use borrow.Author.Tests.{le-leb, lt-leb, lt-ltb, le-ltb}
 use Rattle.model.specs.Sheet.{codeCount, localSlots, layoutCount, sheetRefusal}
 use Rattle.model.specs.Charges.{overBudget, noRoom, Spent, ok, stop, unfinished}
 use Rattle.model.specs.Closure.{trackedSlots}
@@ -18,18 +18,19 @@ use Rattle.model.specs.Listing.{lowest}
 use Rattle.model.specs.declared.VerifierResources.{VerifierResources}
 use Rattle.model.specs.declared.AnalysisKind.{AnalysisKind}
 use Rattle.model.specs.declared.AnalysisKind.the-variants.{Constant, IndexCheck, Container}
-use Rattle.model.proofs.Tests.{both-left, both-right}
 use Rattle.sheet.specs.Sizes.{sizesOf}
 use Rattle.sheet.specs.Measured.{Measured, Accepted}
 use Rattle.sheet.specs.declared.Sizes.{Sizes}
 use Rattle.sheet.proofs.Counted.{counted}
 use Rattle.sheet.proofs.Limited.{limited}
 use Rattle.sheet_questions.specs.Check.{checkOf, sheetCheck}
+use Rattle.sheet_questions.proofs.Refused.{accepted}
 use Rattle.sheet_questions.specs.declared.SheetCheck.{SheetCheck}
 use Rattle.sheet_questions.specs.declared.SheetCheck.the-variants as Q
 use Rattle.call_admission.specs.Admitted.{admittedIf, admissionOf, admission}
 use Rattle.call_admission.specs.declared.Admission.{Admission}
 use Rattle.call_admission.specs.declared.Admission.the-variants as A
+use Rattle.call_admission.proofs.Asking.{admitted-lengths}
 use Rattle.closure.specs.Closed.{Ended, closedTo, closedOf}
 use Rattle.closure.specs.declared.Closed.{Closed}
 use Rattle.closure.specs.declared.Closed.the-variants.{Tracked, Refused}
@@ -103,9 +104,9 @@ module _ (sheet marks stack out : List ℕ) where
   out-too-short h = rw (lt-leb 4 (length out) h) refl
 
   module _ (long : 4 ≤ length out) {given : Admission} (e : given ≡ admission sheet (length marks) (length stack)) where
-    pub turned-away : {number : ℕ} → given ≡ A.Refused number → room number marks stack out ≡ roomOf (leb 4 (length out)) sheet marks stack out
+    pub room-refused : {number : ℕ} → given ≡ A.Refused number → room number marks stack out ≡ roomOf (leb 4 (length out)) sheet marks stack out
     unfolding roomOf admission
-    turned-away {number} c = rw (le-leb 4 (length out) long) (go (sheetRefusal sheet) (sym c ∙ e))
+    room-refused {number} c = rw (le-leb 4 (length out) long) (go (sheetRefusal sheet) (sym c ∙ e))
       where
         six : (b : Bool) → A.Refused number ≡ admittedIf b (sizesOf sheet) → room number marks stack out ≡ roomIf b sheet marks stack out
         six true p = unfold admittedIf in (let z : _≡_ {A = ℕ} 0 1 = cc in absurd (omega arith))
@@ -115,31 +116,12 @@ module _ (sheet marks stack out : List ℕ) where
         go none p = unfold admissionOf roomAfterFive in (six _ p)
         go (some n) p = unfold admissionOf roomAfterFive in (let q : number ≡ n = cc in ap (λ (k : ℕ). room k marks stack out) q)
 
-    -- what the closures begin with
-    pub taken-in : {sizes : Sizes} → given ≡ A.Admitted sizes → Accepted sheet sizes × (localSlots sheet ≤ length marks) × (localSlots sheet ≤ length stack)
-    unfolding admission
-    taken-in {sizes} c = go (sheetRefusal sheet) refl (sym c ∙ e)
-      where
-        six : (b : Bool) → A.Admitted sizes ≡ admittedIf b (sizesOf sheet) → (sizes ≡ sizesOf sheet) × (b ≡ true)
-        six true p = unfold admittedIf in (let q : sizes ≡ sizesOf sheet = cc in (q, refl))
-        six false p = unfold admittedIf in (let z : _≡_ {A = ℕ} 0 1 = cc in absurd (omega arith))
-
-        go : (r : Option ℕ) → sheetRefusal sheet ≡ r → A.Admitted sizes ≡ admissionOf r sheet (length marks) (length stack)
-            → Accepted sheet sizes × (localSlots sheet ≤ length marks) × (localSlots sheet ≤ length stack)
-        go none h p = unfold admissionOf in (
-            let s = six _ p in (
-              record { are = s .0; accepted = h },
-              leb-true _ _ (both-left (leb (localSlots sheet) (length marks)) _ (s .1)),
-              leb-true _ _ (both-right (leb (localSlots sheet) (length marks)) _ (s .1)),
-            ))
-        go (some n) h p = unfold admissionOf in (let z : _≡_ {A = ℕ} 0 1 = cc in absurd (omega arith))
-
-    -- all four told
-    pub told : {sizes : Sizes} {marks′ stack′ out′ : List ℕ} → given ≡ A.Admitted sizes → marks′ ≡ zeros marks → stack′ ≡ zeros stack → out′ ≡ inFront (roomNumbers sheet) out
+    -- all four room-told
+    pub room-told : {sizes : Sizes} {marks′ stack′ out′ : List ℕ} → given ≡ A.Admitted sizes → marks′ ≡ zeros marks → stack′ ≡ zeros stack → out′ ≡ inFront (roomNumbers sheet) out
         → room 0 marks′ stack′ out′ ≡ roomOf (leb 4 (length out)) sheet marks stack out
     unfolding roomOf roomAfterFive roomIf
-    told c p q o =
-        let t = taken-in c in
+    room-told c p q o =
+        let t = admitted-lengths sheet _ _ e c in
         rw (le-leb 4 (length out) long, t .0 .accepted, le-leb _ _ (t .1), le-leb _ _ (t .2), p, q, o) refl
 
 -- ---- the lowest layout
@@ -171,15 +153,7 @@ module _ (sheet : List ℕ) (layout : ℕ) (out : List ℕ) where
         go none p = unfold checkOf in (let z : _≡_ {A = ℕ} 0 1 = cc in absurd (omega arith))
         go (some n) p = unfold checkOf lowestAfterFive in (let q : number ≡ n = cc in ap (λ (k : ℕ). looked k out) q)
 
-    pub accepted : {sizes : Sizes} → checked ≡ Q.Accepted sizes → Accepted sheet sizes
-    unfolding sheetCheck
-    accepted {sizes} c = go (sheetRefusal sheet) refl (sym c ∙ e)
-      where
-        go : (r : Option ℕ) → sheetRefusal sheet ≡ r → Q.Accepted sizes ≡ checkOf (sizesOf sheet) r → Accepted sheet sizes
-        go none h p = unfold checkOf in (record { are = cc; accepted = h })
-        go (some n) h p = unfold checkOf in (let z : _≡_ {A = ℕ} 0 1 = cc in absurd (omega arith))
-
     pub searched : {sizes : Sizes} {returned : ℕ} {out′ : List ℕ} → checked ≡ Q.Accepted sizes
         → looked returned out′ ≡ lowestIf (ltb layout (layoutCount sheet)) sheet layout out → looked returned out′ ≡ lowestOf (leb 1 (length out)) sheet layout out
     unfolding lowestOf lowestAfterFive
-    searched c p = rw (le-leb 1 (length out) long, accepted c .accepted) p
+    searched c p = rw (le-leb 1 (length out) long, accepted sheet (sym c ∙ e) .accepted) p

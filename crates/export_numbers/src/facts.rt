@@ -8,7 +8,7 @@ use model::SlotFact;
 
 // 0 with the cell's kind and value at the front of out, 254 for "none", 9; 255 where out has fewer than 2 entries. But for 0, out keeps its
 // content.
-pub fn put_fact(fact: SlotFact, out: &mut [u64]) -> u8
+pub fn put_slot_fact(fact: SlotFact, out: &mut [u64]) -> u8
     ensures { λ r. ⌜ looked r (now (out .exit)) ≡ lookedUp (leb 2 (length (now (out .entry)))) fact (now (out .entry)) ⌝ }
 {
     if out.len() < 2 {

@@ -37,8 +37,8 @@ pub record Halved (xs : List ℕ) (slot base size : ℕ) : Type 0 where
   pub below : (k : ℕ) → k < base → getD xs k 0 < slot
   pub above : (k : ℕ) → base + size ≤ k → k < length xs → slot < getD xs k 0
 
-pub whole : (xs : List ℕ) (slot : ℕ) → 1 ≤ length xs → Halved xs slot 0 (length xs)
-whole xs slot h = record { some = h; within = omega arith; below = λ k m. omega arith; above = λ k m l. omega arith }
+pub halved-none : (xs : List ℕ) (slot : ℕ) → 1 ≤ length xs → Halved xs slot 0 (length xs)
+halved-none xs slot h = record { some = h; within = omega arith; below = λ k m. omega arith; above = λ k m l. omega arith }
 
 module _ {xs : List ℕ} {slot base size : ℕ} (b : Halved xs slot base size) (h : ascends xs ≡ true) (more : 1 < size) where
   halved-by : (t : Bool) → ltb slot (getD xs (base + size / 2) 0) ≡ t → Halved xs slot (cond t base (base + size / 2)) (size - size / 2)
@@ -94,8 +94,8 @@ pub times-le : (half : ℕ) (t : Bool) → half * boolByte t ≤ half
 times-le half true = omega arith
 times-le half false = omega arith
 
-pub stepped : (slot t base half : ℕ) → base + half * boolByte (leb t slot) ≡ cond (ltb slot t) base (base + half)
-stepped slot t base half = go (ltb slot t) refl
+pub half-stepped : (slot t base half : ℕ) → base + half * boolByte (leb t slot) ≡ cond (ltb slot t) base (base + half)
+half-stepped slot t base half = go (ltb slot t) refl
   where
     go : (u : Bool) → ltb slot t ≡ u → base + half * boolByte (leb t slot) ≡ cond u base (base + half)
     go true e = rw (lt-leb t slot (ltb-true slot t e)) (omega arith)

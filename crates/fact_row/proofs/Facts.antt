@@ -7,8 +7,8 @@ use Rattle.model.specs.Tables.{factIn, cellOf}
 use Rattle.model.specs.declared.FactCell.{FactCell}
 use Rattle.model.proofs.Facts.{fact-back}
 
-abbrev pub cell : ℕ → ℕ → FactCell
-cell k v = record { kind = k; value = v }
+abbrev pub factCell : ℕ → ℕ → FactCell
+factCell k v = record { kind = k; value = v }
 
 -- what a cell stands for is the fact whose cell it is
 pub read : (f : Fact) {r : FactCell} → r ≡ cellOf f → factIn r ≡ f

@@ -83,9 +83,9 @@ place-inside xs slot {j} e = let s = stands-from 0 xs slot j e in omega (arith, 
 -- ---- the fact of a slot
 
 module _ (xs : List ℕ) (row : Row) (slot : ℕ) where
-  pub fact-found : ascends xs ≡ true → length row ≡ length xs → {j : ℕ} → place xs slot ≡ some j → factFor xs row slot ≡ getD row j unknown
+  pub fact-placed : ascends xs ≡ true → length row ≡ length xs → {j : ℕ} → place xs slot ≡ some j → factFor xs row slot ≡ getD row j unknown
   unfolding place
-  fact-found h n {j} e =
+  fact-placed h n {j} e =
       let s = stands-from 0 xs slot j e in
       let k : s .k ≡ j = omega (arith, s .is) in
       fact-at xs row slot (s .k) n (s .inside) (s .slot-is) (λ i m q. omega (arith, ascends-lt xs h i (s .k) m (s .inside), s .slot-is)) ∙ rw k

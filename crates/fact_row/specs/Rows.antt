@@ -15,11 +15,17 @@ pub record Lies (row : Row) (kinds values : List ℕ) : Type 0 where
   pub values-are : values ≡ map value row
 
 -- what the readers of a row ask: the slots ascend, and kinds and values hold a fact for each
-pub record Tracked (slots kinds values : List ℕ) : Type 0 where
+pub record ReadableRow (slots kinds values : List ℕ) : Type 0 where
   pub ascending : ascends slots ≡ true
   pub kinds-long : length kinds ≡ length slots
   pub values-long : length values ≡ length slots
   pub lies : Lies (factsOf kinds values) kinds values
+
+-- what a writer of a row asks: the slots ascend, and kinds and values have a place for each
+pub record WritableRow (slots kinds values : List ℕ) : Type 0 where
+  pub ascending : ascends slots ≡ true
+  pub kinds-long : length kinds ≡ length slots
+  pub values-long : length values ≡ length slots
 
 -- how many of the slots lie below the given one: those before r do, and no others
 pub record Bound (slots : List ℕ) (slot r : ℕ) : Type 0 where

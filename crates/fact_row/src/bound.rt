@@ -6,8 +6,8 @@ ghost use lib.Dec.{ltb};
 ghost use Rattle.model.specs.Lookup.{ascends, place};
 ghost use Rattle.model.specs.Transfer.{factFor};
 ghost use Rattle.model.specs.Tables.{factsOf, cellOf};
-ghost use Rattle.fact_row.specs.Place.{placed};
-ghost use Rattle.fact_row.specs.Rows.{Tracked, Bound};
+ghost use Rattle.fact_row.specs.Place.{placed, setAt};
+ghost use Rattle.fact_row.specs.Rows.{ReadableRow, Bound, WritableRow};
 use crate::Place;
 use crate::cells::unknown_cell;
 use model::FactCell;
@@ -67,7 +67,7 @@ pub fn find(slots: &[u16], slot: usize) -> Place
 
 // `fact_for_tracked_source`: the fact of a slot; Unknown of an untracked one, and of a number past 65,535.
 pub fn fact_for_tracked_source(slots: &[u16], kinds: &[u8], values: &[u64], slot: usize) -> FactCell
-    requires { ⌜ Tracked (now slots) (now kinds) (now values) ⌝ }
+    requires { ⌜ ReadableRow (now slots) (now kinds) (now values) ⌝ }
     ensures { λ r. ⌜ r ≡ cellOf (factFor (now (slots .entry)) (factsOf (now (kinds .entry)) (now (values .entry))) slot) ⌝ }
 {
     let at = lower_bound(slots, slot);
@@ -81,4 +81,16 @@ pub fn fact_for_tracked_source(slots: &[u16], kinds: &[u8], values: &[u64], slot
         kind: kinds[at],
         value: values[at],
     }
+}
+
+// A slot's fact is set, if the slot is tracked.
+pub fn set_fact(slots: &[u16], slot: usize, cell: FactCell, kinds: &mut [u8], values: &mut [u64])
+    requires { ⌜ WritableRow (now slots) (now kinds) (now values) ⌝ }
+    ensures { λ r. ⌜ (now (kinds .exit) ≡ setAt (place (now (slots .entry)) slot) (now (kinds .entry)) (cell .kind)) × (now (values .exit) ≡ setAt (place (now (slots .entry)) slot) (now (values .entry)) (cell .value)) ⌝ }
+{
+    let Place::At(j) = find(slots, slot) else {
+        return;
+    };
+    kinds[j] = cell.kind;
+    values[j] = cell.value;
 }

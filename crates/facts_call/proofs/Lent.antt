@@ -11,7 +11,7 @@ use Rattle.model.specs.Listing.{callLines, listingTable, listingLent}
 use Rattle.model.specs.declared.VerifierResources.{VerifierResources}
 use Rattle.model.specs.declared.AnalysisKind.the-variants.{Constant, IndexCheck, Container}
 use Rattle.model.specs.declared.Answer.{Answer}
-use Rattle.text_words.specs.Text.{Added, Shows}
+use Rattle.text_words.specs.Text.{Added, ShowsText}
 use Rattle.text_words.proofs.Writing.{then, shows}
 use Rattle.text_listing.specs.Answer.{answerPart, lastLine, answerText}
 use Rattle.text_listing.proofs.Answered.{answer-listed}
@@ -47,7 +47,7 @@ module _ (sheet : List ℕ) (r : Answer) (after : Lent) (ended : some (result r 
       → Added m₂ (answerPart IndexCheck sheet r (after .index)) a one b two
       → Added m₃ (answerPart Container sheet r (after .containers)) b two c three
       → Added m₄ (lastLine r) c three next new
-      → Shows (callLines sheet (call sheet fresh listingLent)) old next new
+      → ShowsText (callLines sheet (call sheet fresh listingLent)) old next new
   unfolding answerText
   call-shown {old} {new} {next} w v u t =
       let s = shows (then (then (then w v) u) t) in

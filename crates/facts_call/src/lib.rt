@@ -5,7 +5,7 @@ ghost use Rattle.model.specs.Charges.{fresh};
 ghost use Rattle.model.specs.Call.{call};
 ghost use Rattle.model.specs.Listing.{callLines, listingLent};
 ghost use Rattle.sheet_layouts.specs.Readable.{Readable};
-ghost use Rattle.text_words.specs.Text.{Shows};
+ghost use Rattle.text_words.specs.Text.{ShowsText};
 use model::AnalysisKind;
 use model::VerifierResources;
 use sheet::Sizes;
@@ -16,7 +16,7 @@ use verifier::analyze;
 // "for s over 32 in question 8's [place]": what is lent has room for 32 tracked slots.
 pub fn list_facts(sheet: &[u8], sizes: Sizes, starts: &[u16], out: &mut [u8]) -> usize
     requires { ⌜ Readable (now sheet) sizes (now starts) × (sizes .«code_count» ≤ 256) × (2187530 ≤ length (now out)) ⌝ }
-    ensures { λ r. ⌜ Shows (callLines (now (sheet .entry)) (call (now (sheet .entry)) fresh listingLent)) (now (out .entry)) r (now (out .exit)) ⌝ }
+    ensures { λ r. ⌜ ShowsText (callLines (now (sheet .entry)) (call (now (sheet .entry)) fresh listingLent)) (now (out .entry)) r (now (out .exit)) ⌝ }
 {
     let mut constant_slots = facts_room::slots();
     let mut constant_present = facts_room::present();

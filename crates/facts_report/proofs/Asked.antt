@@ -15,10 +15,10 @@ use Rattle.model.specs.Listing.{tooLarge, refusedLine, callLines, listingLent, 
 use Rattle.sheet.specs.Sizes.{sizesOf}
 use Rattle.sheet_questions.specs.Check.{checkOf, sheetCheck}
 use Rattle.sheet_questions.specs.declared.SheetCheck.the-variants.{Refused}
-use Rattle.text_words.specs.Text.{Shows}
+use Rattle.text_words.specs.Text.{ShowsText}
 
 -- the same text under another name
-pub shown-as : {text other : Option (List ℕ)} {old new : List ℕ} {count : ℕ} → other ≡ text → Shows text old count new → Shows other old count new
+pub shown-as : {text other : Option (List ℕ)} {old new : List ℕ} {count : ℕ} → other ≡ text → ShowsText text old count new → ShowsText other old count new
 shown-as e w = record { within = w .within; front = e ∙ w .front; rest = w .rest }
 
 module _ (sheet : List ℕ) where

@@ -5,7 +5,7 @@ ghost use Prim.Native.Nat.{_≤_};
 ghost use lib.ListN.{length, take, drop};
 ghost use Rattle.model.specs.Listing.{asked, listing};
 ghost use Rattle.sheet.specs.Measured.{Accepted};
-ghost use Rattle.text_words.specs.Text.{Shows};
+ghost use Rattle.text_words.specs.Text.{ShowsText};
 use facts_call::list_facts;
 use sheet::Sizes;
 use sheet_offsets::layout_starts;
@@ -41,7 +41,7 @@ pub fn list(sheet: &[u8], out: &mut [u8; 2187530]) -> usize
 // "for n over 256 or L over 4,096 in question 6's place": the call itself would first charge for them, and could answer 7
 fn list_accepted(sheet: &[u8], sizes: Sizes, out: &mut [u8]) -> usize
     requires { ⌜ Accepted (now sheet) sizes × (2187530 ≤ length (now out)) ⌝ }
-    ensures { λ r. ⌜ Shows (asked none (now (sheet .entry))) (now (out .entry)) r (now (out .exit)) ⌝ }
+    ensures { λ r. ⌜ ShowsText (asked none (now (sheet .entry))) (now (out .entry)) r (now (out .exit)) ⌝ }
 {
     if MOST_INSTRUCTIONS < sizes.code_count {
         return too_large(0, out);

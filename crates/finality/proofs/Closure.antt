@@ -20,7 +20,7 @@ use Rattle.model.specs.declared.VerifierResources.{VerifierResources}
 use Rattle.model.specs.declared.Instruction.{Instruction}
 use Rattle.model.specs.declared.AnalysisKind.{AnalysisKind}
 use Rattle.model.proofs.Metered.{then-parts, bound-parts, given, Finishes, bound-finishes, then-finishes, give-finishes, bytes-finish, work-finishes}
-use Rattle.finality.proofs.Marks.{IsSet, Grows, grows-self, grows-on, mark-grows, mark-sets, mark-only, weight, mark-weight, unmarked-weight}
+use Rattle.finality.proofs.Marks.{IsSet, set-below, Grows, grows-self, grows-on, mark-grows, mark-sets, mark-only, weight, mark-weight, unmarked-weight}
 use Rattle.finality.proofs.Places.{places-ascend, places-only, places-all}
 use Rattle.model.proofs.Tests.{both-right}
 
@@ -358,15 +358,10 @@ module _ (which : AnalysisKind) (sheet : List ℕ) where
       go (inl x) = absurd (not-nil (rw (h .empty) at x))
       go (inr f) = f e k s
 
-  below-size : (marks : List ℕ) (t : ℕ) → IsSet marks t → t < length marks
-  below-size [] t e = absurd (false≢true (sym e))
-  below-size (x ∷ xs) zero e = omega arith
-  below-size (x ∷ xs) (suc t) e = let h = below-size xs t e in omega arith
-
   exactly : (out : Marked) → Ended (seeded which sheet) out → TrackedExactly which sheet (places 0 (out .marks))
   exactly out h = record {
     ascending = places-ascend 0 (out .marks);
-    below = λ slot m. let k = is-set slot m in rw⁻¹ (h .between .sound .size) (below-size (out .marks) slot k);
+    below = λ slot m. let k = is-set slot m in rw⁻¹ (h .between .sound .size) (set-below (out .marks) slot k);
     only = λ slot m. h .between .sound .only slot (is-set slot m);
     all = λ slot t. let same : 0 + slot ≡ slot = omega arith in rw same at (places-all 0 (out .marks) slot (all-set out h slot t));
   }

@@ -46,17 +46,17 @@ rowDiffers-self (f ∷ fs) = rw (differs-self f, rowDiffers-self fs)
 
 -- ---- the weight of a fact: how often it can still change
 
-unfoldable pub weight : Fact → ℕ
-weight unknown = 1
-weight conflict = 0
-weight (known k v) = 2
+unfoldable pub factWeight : Fact → ℕ
+factWeight unknown = 1
+factWeight conflict = 0
+factWeight (known k v) = 2
 
 unfoldable pub rowWeight : Row → ℕ
 rowWeight [] = 0
-rowWeight (f ∷ fs) = weight f + rowWeight fs
+rowWeight (f ∷ fs) = factWeight f + rowWeight fs
 
-pub weight-max : (f : Fact) → weight f ≤ 2
-unfolding weight
+pub weight-max : (f : Fact) → factWeight f ≤ 2
+unfolding factWeight
 weight-max unknown = omega arith
 weight-max conflict = omega arith
 weight-max (known k v) = omega arith
@@ -105,8 +105,8 @@ module _ (same : ℕ → ℕ → ℕ → ℕ → Bool) where
   join-self h conflict = refl
   join-self h (known k v) = rw h
 
-  pub join-le : (f g : Fact) → weight (join same f g) ≤ weight f
-  unfolding join weight
+  pub join-le : (f g : Fact) → factWeight (join same f g) ≤ factWeight f
+  unfolding join factWeight
   join-le conflict g = omega arith
   join-le unknown conflict = omega arith
   join-le unknown unknown = omega arith
@@ -115,12 +115,12 @@ module _ (same : ℕ → ℕ → ℕ → ℕ → Bool) where
   join-le (known k v) unknown = omega arith
   join-le (known k v) (known l w) = go (same k v l w)
     where
-      go : (b : Bool) → weight (cond b (known k v) conflict) ≤ 2
+      go : (b : Bool) → factWeight (cond b (known k v) conflict) ≤ 2
       go true = omega arith
       go false = omega arith
 
-  pub join-lt : (f g : Fact) → differs f (join same f g) ≡ true → weight (join same f g) < weight f
-  unfolding join weight differs kind value
+  pub join-lt : (f g : Fact) → differs f (join same f g) ≡ true → factWeight (join same f g) < factWeight f
+  unfolding join factWeight differs kind value
   join-lt conflict g e = absurd (false≢true e)
   join-lt unknown conflict e = omega arith
   join-lt unknown unknown e = absurd (false≢true e)
@@ -129,7 +129,7 @@ module _ (same : ℕ → ℕ → ℕ → ℕ → Bool) where
   join-lt (known k v) unknown e = omega arith
   join-lt (known k v) (known l w) e = go (same k v l w) e
     where
-      go : (b : Bool) → differs (known k v) (cond b (known k v) conflict) ≡ true → weight (cond b (known k v) conflict) < 2
+      go : (b : Bool) → differs (known k v) (cond b (known k v) conflict) ≡ true → factWeight (cond b (known k v) conflict) < 2
       go true h = absurd (false≢true (sym (differs-self (known k v)) ∙ h))
       go false h = omega arith
 
@@ -174,7 +174,7 @@ module _ (same : ℕ → ℕ → ℕ → ℕ → Bool) where
     where
       go : (rowDiffers fs (joinRow same fs gs) ≡ true → rowWeight (joinRow same fs gs) < rowWeight fs)
           → (b : Bool) → differs f (join same f g) ≡ b → b || rowDiffers fs (joinRow same fs gs) ≡ true
-          → weight (join same f g) + rowWeight (joinRow same fs gs) < weight f + rowWeight fs
+          → factWeight (join same f g) + rowWeight (joinRow same fs gs) < factWeight f + rowWeight fs
       go rest true d h = omega (arith, join-lt f g d, joinRow-le fs gs)
       go rest false d h = omega (arith, join-le f g, rest h)
 

@@ -1,6 +1,6 @@
 -- Marks and stack of the closure: what marking a slot changes.
 -- Assumes nothing.
-use mathlib.Core.Path.{_≡_, refl, ap, _∙_}
+use mathlib.Core.Path.{_≡_, refl, sym, ap, _∙_}
 use mathlib.Core.Bool.{Bool, true, false, false≢true}
 use mathlib.Core.Logic.{_⊎_, inl, inr}
 use mathlib.Core.List.{List, [], _∷_, List·Memᴰ as Member, List·Memᴰ·head as head, List·Memᴰ·tail as tail, List·Memᴰ·cases-cons as cases-cons}
@@ -18,6 +18,12 @@ use Rattle.model.specs.CallDemand.{Passed, begun, marking, taking}
 -- a slot's mark is set; from the end on there is none
 abbrev pub IsSet : List ℕ → ℕ → Type 0
 IsSet marks slot = eqb (getD marks slot 0) 0 ≡ false
+
+-- a mark that is set is one of them
+pub set-below : (marks : List ℕ) (t : ℕ) → IsSet marks t → t < length marks
+set-below [] t e = absurd (false≢true (sym e))
+set-below (x ∷ xs) zero e = omega arith
+set-below (x ∷ xs) (suc t) e = let h = set-below xs t e in omega arith
 
 -- ---- what a store does
 
@@ -92,7 +98,7 @@ unfolding mark
 mark-grows slot m = marked-grows (eqb (getD (m .marks) slot 1) 0) slot m refl
 
 -- below the length the default does not show
-same-below : (marks : List ℕ) (slot : ℕ) → slot < length marks → getD marks slot 0 ≡ getD marks slot 1
+pub same-below : (marks : List ℕ) (slot : ℕ) → slot < length marks → getD marks slot 0 ≡ getD marks slot 1
 same-below [] slot h = absurd (not-suc-le-zero h)
 same-below (x ∷ xs) zero h = refl
 same-below (x ∷ xs) (suc slot) h = same-below xs slot (le-of-suc-le-suc h)

@@ -42,9 +42,9 @@ row-inside p n s h = omega (arith, mul-le-mul-right s h)
 -- ---- rows and tables
 
 -- the present byte is 1 exactly where there is a row
-pub shown : (rows : List (Option Row)) (k p : ℕ) (r : Row) → rowAt rows p ≡ some r → Shows (presentBytes rows ++ replicate k 0) p
+pub present-shown : (rows : List (Option Row)) (k p : ℕ) (r : Row) → rowAt rows p ≡ some r → Shows (presentBytes rows ++ replicate k 0) p
 unfolding presentByte
-shown rows k p r e = rw (padded-read (presentBytes rows) k p, present-at rows p, e)
+present-shown rows k p r e = rw (padded-read (presentBytes rows) k p, present-at rows p, e)
 
 shown-row : (o : Option Row) → presentByte o ≡ 1 → (r : Row) × (o ≡ some r)
 unfolding presentByte
@@ -109,7 +109,7 @@ module _ (a : Analysis) (rows : List (Option Row)) (f : Final a rows) (k : ℕ) 
       let h : Settled a rows p (x .0) q = f .settled p (x .0) (x .1) q m in
       let stays : joinRow (a .same) (tableRow (a .s) kinds values q) (a .transfer p (tableRow (a .s) kinds values p)) ≡ tableRow (a .s) kinds values q =
       rw (part p (x .0) (x .1), part q (h .row) (h .present)) (h .unchanged) in record {
-        shows = shown rows k q (h .row) (h .present);
+        shows = present-shown rows k q (h .row) (h .present);
         carried = rw (part p (x .0) (x .1)) (h .carried);
         unchanged = stays;
         kinds-stay = ap (map kind) (stays ∙ part q (h .row) (h .present)) ∙ kinds-part q (h .row) (h .present);
@@ -121,7 +121,7 @@ module _ (a : Analysis) (rows : List (Option Row)) (f : Final a rows) (k : ℕ) 
   final-table = record {
     zero-or-one = zero-or-one rows k;
     only-reachable = λ p e. f .only-reachable p (row-shown rows k p e);
-    all-reachable = λ p w. let x : Present rows p = f .all-reachable p w in shown rows k p (x .0) (x .1);
+    all-reachable = λ p w. let x : Present rows p = f .all-reachable p w in present-shown rows k p (x .0) (x .1);
     settled = λ p e q m. settled-table p (row-shown rows k p e) q m;
     row-length = λ p e. let x : Present rows p = row-shown rows k p e in rw (part p (x .0) (x .1)) (f .row-length p (x .0) (x .1));
   }

@@ -23,7 +23,7 @@ use Rattle.memory.specs.Front.{Holds}
 use Rattle.sheet.specs.Measured.{Accepted}
 use Rattle.sheet.specs.declared.Sizes.{Sizes}
 use Rattle.sheet.proofs.Counted.{counted}
-use Rattle.fact_row.specs.Rows.{Lies, Tracked}
+use Rattle.fact_row.specs.Rows.{Lies, ReadableRow}
 use Rattle.sheet_layouts.specs.Classes.{equalBy}
 use Rattle.sheet_layouts.proofs.Classes.{equal-by}
 use Rattle.fixpoint_visit.specs.Laid.{RowsLaid, RowLaid}
@@ -69,7 +69,7 @@ module _ {which : AnalysisKind} {sheet : List ℕ} {sizes : Sizes} {firsts class
 
   -- what the transfer asks
   pub transfer-asks : (Accepted sheet sizes × Holds (firstRange sheet) (codeCount sheet) firsts × (p < sizes .«code_count»))
-      × (Tracked slots (midOf (p * length slots) (p * length slots + length slots - p * length slots) kinds) (midOf (p * length slots) (p * length slots + length slots - p * length slots) values)
+      × (ReadableRow slots (midOf (p * length slots) (p * length slots + length slots - p * length slots) kinds) (midOf (p * length slots) (p * length slots + length slots - p * length slots) values)
       × (length rowKinds ≡ length slots) × (length rowValues ≡ length slots))
   transfer-asks =
       let k = part-kinds (length slots) p (t .rows) present kinds values (t .laid) present-below (t .row) (t .stands) in

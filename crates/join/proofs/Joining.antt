@@ -18,7 +18,7 @@ use Rattle.join.proofs.Fill.{fill-get, fill-set, fill-done}
 use Rattle.join.proofs.Changes.{kept, same-kind, other-kind}
 use Rattle.model.proofs.Facts.{length-facts}
 use Rattle.join.proofs.Joined.{factsOf-get, or-false, joined, joinAt, changedTo, length-joinRow, joined-get, changedTo-suc}
-use Rattle.model.proofs.Tests.{or-true}
+use mathlib.Core.Bool.{or-true}
 
 pub record Partly (same : ℕ → ℕ → ℕ → ℕ → Bool) (ok ov nk nv kinds values : List ℕ) (changed : Bool) (i : ℕ) : Type 0 where
   pub within : i ≤ length ok

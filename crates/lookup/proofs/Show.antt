@@ -24,9 +24,9 @@ module _ (kind value : ℕ) (seen : Seen) where
     unfolding show
     first-shown e = rw (le-leb 2 kind h, e)
 
-    pub other-kind : (k v : ℕ) → seen ≡ One k v → (kind ≡ k → ⊥) → mixedShown ≡ show (leb 2 kind) kind value (shownBy seen)
+    pub shows-other-kind : (k v : ℕ) → seen ≡ One k v → (kind ≡ k → ⊥) → mixedShown ≡ show (leb 2 kind) kind value (shownBy seen)
     unfolding show
-    other-kind k v e d = rw (le-leb 2 kind h, e, ne-eqb kind k d)
+    shows-other-kind k v e d = rw (le-leb 2 kind h, e, ne-eqb kind k d)
 
     pub other-value : (k v : ℕ) → seen ≡ One k v → kind ≡ k → (value ≡ v → ⊥) → mixedShown ≡ show (leb 2 kind) kind value (shownBy seen)
     unfolding show

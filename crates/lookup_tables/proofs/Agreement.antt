@@ -37,9 +37,9 @@ module _ (slots present kinds values : List ℕ) where
   unfolding tablesAgree
   unordered h = rw h
 
-  pub other-kinds : ascends slots ≡ true → eqb (length kinds) (length present * length slots) ≡ false → false ≡ tablesAgree slots present kinds values
+  pub other-kinds-agree : ascends slots ≡ true → eqb (length kinds) (length present * length slots) ≡ false → false ≡ tablesAgree slots present kinds values
   unfolding tablesAgree
-  other-kinds h k = rw (h, k)
+  other-kinds-agree h k = rw (h, k)
 
   pub by-values : ascends slots ≡ true → eqb (length kinds) (length present * length slots) ≡ true
       → eqb (length values) (length present * length slots) ≡ tablesAgree slots present kinds values

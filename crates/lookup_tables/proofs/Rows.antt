@@ -20,7 +20,7 @@ use Rattle.fact_row.specs.Place.{placed}
 use Rattle.lookup_tables.specs.Inside.{Inside, rowsNamed}
 use Rattle.fact_row.specs.declared.Place.{Place}
 use Rattle.fact_row.specs.declared.Place.the-variants.{At, Untracked}
-use Rattle.model.proofs.Tests.{and-false, and-true}
+use mathlib.Core.Bool.{and-false, and-true}
 
 -- a byte that is not 0 stands below n
 pub present-below : (present : List ℕ) (pc : ℕ) → 0 < getD present pc 0 → pc < length present

@@ -15,8 +15,8 @@ pub record Turned (f : ℕ → ℕ) (old out : List ℕ) (i : ℕ) : Type 0 wher
   pub is : out ≡ front f i old
   pub long : length out ≡ length old
 
-pub start : (f : ℕ → ℕ) (old : List ℕ) → Turned f old old 0
-start f old = record { within = omega arith; is = front-none f old; long = refl }
+pub turned-none : (f : ℕ → ℕ) (old : List ℕ) → Turned f old old 0
+turned-none f old = record { within = omega arith; is = front-none f old; long = refl }
 
 pub turn : {f : ℕ → ℕ} {old out : List ℕ} {i v : ℕ} → Turned f old out i → i < length out → v ≡ f i → Turned f old (set out i v) (i + 1)
 turn {f} {old} {out} {i} {v} t h e = record {
@@ -26,14 +26,14 @@ turn {f} {old} {out} {i} {v} t h e = record {
 }
 
 -- all zero
-pub cleared : {old out : List ℕ} {i : ℕ} → Turned (λ j. 0) old out i → length out ≤ i → out ≡ zeros old
+pub turned-clear : {old out : List ℕ} {i : ℕ} → Turned (λ j. 0) old out i → length out ≤ i → out ≡ zeros old
 unfolding zeros
-cleared {old} {out} {i} t h =
+turned-clear {old} {out} {i} t h =
     t .is
     ∙ front-whole (λ j. 0) i 0 old (zeros old) (omega (arith, t .long, t .within)) (length-replicate (length old) 0)
     (λ j l. getD-replicate (length old) j 0 0 (omega (arith, length-replicate {A = ℕ} (length old) 0)))
 
 -- all of another list, as long
-pub copied : {from old out : List ℕ} {i : ℕ} → length from ≡ length old → Turned (λ j. getD from j 0) old out i → length out ≤ i → out ≡ from
-copied {from} {old} {out} {i} same t h =
+pub turned-copy : {from old out : List ℕ} {i : ℕ} → length from ≡ length old → Turned (λ j. getD from j 0) old out i → length out ≤ i → out ≡ from
+turned-copy {from} {old} {out} {i} same t h =
     t .is ∙ front-whole (λ j. getD from j 0) i 0 old from (omega (arith, t .long, t .within)) same (λ j l. refl)

@@ -31,21 +31,21 @@ module _ (f : ℕ → ℕ) where
   sum-part i n h = omega (arith, sum-more i, sum-le (i + 1) n (omega arith))
 
 -- after i of n turns of a loop that adds f, at most 65,535 a turn
-pub record Added (f : ℕ → ℕ) (n total i : ℕ) : Type 0 where
+pub record SumUpto (f : ℕ → ℕ) (n total i : ℕ) : Type 0 where
   pub within : i ≤ n
   pub is : total ≡ sum f i
   pub most : total ≤ i * 65535
 
-pub added-none : (f : ℕ → ℕ) (n : ℕ) → Added f n 0 0
+pub added-none : (f : ℕ → ℕ) (n : ℕ) → SumUpto f n 0 0
 unfolding sum
 added-none f n = record { within = omega arith; is = refl; most = omega arith }
 
-pub added-more : {f : ℕ → ℕ} {n total i v : ℕ} → Added f n total i → i < n → v ≡ f i → v ≤ 65535 → Added f n (total + v) (i + 1)
+pub added-more : {f : ℕ → ℕ} {n total i v : ℕ} → SumUpto f n total i → i < n → v ≡ f i → v ≤ 65535 → SumUpto f n (total + v) (i + 1)
 added-more {f} {n} {total} {i} {v} a h e k = record {
   within = omega arith;
   is = omega (arith, sum-more f i, a .is);
   most = omega (arith, a .most);
 }
 
-pub added-all : {f : ℕ → ℕ} {n total i : ℕ} → Added f n total i → n ≤ i → {m : ℕ} → n ≡ m → total ≡ sum f m
+pub added-all : {f : ℕ → ℕ} {n total i : ℕ} → SumUpto f n total i → n ≤ i → {m : ℕ} → n ≡ m → total ≡ sum f m
 added-all {f} {n} {total} {i} a h {m} e = let p : i ≡ m = omega (arith, a .within) in rw p at (a .is)

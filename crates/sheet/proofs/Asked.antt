@@ -35,9 +35,9 @@ pub record Asked (sheet : List ℕ) : Type 0 where
   pub sums : sumsMatch sheet ≡ true
   pub kinds : kindsNamed sheet ≡ true
 
-pub asked : (sheet : List ℕ) → sheetRefusal sheet ≡ none → Asked sheet
+pub questions-asked : (sheet : List ℕ) → sheetRefusal sheet ≡ none → Asked sheet
 unfolding sheetRefusal
-asked sheet e =
+questions-asked sheet e =
     let two = after _ _ _ e in
     let three = after _ _ _ two in
     let four = after _ _ _ three in
@@ -47,18 +47,18 @@ asked sheet e =
 module _ {sheet : List ℕ} {sizes : Sizes} (a : Accepted sheet sizes) where
   pub measured : Measured sheet sizes
   measured =
-      let q = asked sheet (a .accepted) in
+      let q = questions-asked sheet (a .accepted) in
       record { are = a .are; within = q .within; long = eqb-true _ _ (q .long) }
 
   -- "the write counts other than 65,535 sum to w"
   pub ranges-all : firstRange sheet (codeCount sheet) ≡ rangeCount sheet
   unfolding sumsMatch
-  ranges-all = eqb-true _ _ (both-left _ _ (asked sheet (a .accepted) .sums))
+  ranges-all = eqb-true _ _ (both-left _ _ (questions-asked sheet (a .accepted) .sums))
 
   -- "the layout lengths to q"
   pub slot-kinds-all : layoutStart sheet (layoutCount sheet) ≡ slotKindCount sheet
   unfolding sumsMatch
-  slot-kinds-all = eqb-true _ _ (both-right (eqb (firstRange sheet (codeCount sheet)) (rangeCount sheet)) _ (asked sheet (a .accepted) .sums))
+  slot-kinds-all = eqb-true _ _ (both-right (eqb (firstRange sheet (codeCount sheet)) (rangeCount sheet)) _ (questions-asked sheet (a .accepted) .sums))
 
   -- the ranges of an instruction are among the w, and the slot kinds of a layout among the q
   pub ranges-fit : (pc : ℕ) → pc < sizes .«code_count» → firstRange sheet pc + rangesOf sheet pc ≤ sizes .«range_count»

@@ -1,8 +1,9 @@
 -- The sizes as `model` names them.
 -- Assumes nothing.
-use mathlib.Core.Path.{_≡_, refl, sym, subst}
+use mathlib.Core.Path.{_≡_, sym, subst}
 use mathlib.Core.List.{List}
 use Prim.Native.Nat.{ℕ}
+use native.Mathlib.Omega.{arith}
 use Rattle.model.specs.Sheet.{codeCount, rangeCount, constantCount, paramCount, layoutCount, slotKindCount, localSlots, paramSlots, recvSlots, isClosure}
 use Rattle.model.specs.Sheet.{slotKindsAt}
 use Rattle.sheet.specs.Sizes.{placesOf, sizesOf}
@@ -23,19 +24,7 @@ pub record Counted (sheet : List ℕ) (s : Sizes) : Type 0 where
 
 of-sheet : (sheet : List ℕ) → Counted sheet (sizesOf sheet)
 unfolding sizesOf placesOf
-of-sheet sheet = record {
-  code-count = refl;
-  range-count = refl;
-  constant-count = refl;
-  param-count = refl;
-  layout-count = refl;
-  slot-kind-count = refl;
-  local-slots = refl;
-  param-slots = refl;
-  recv-slots = refl;
-  is-closure = refl;
-  slot-kinds-at = refl;
-}
+of-sheet sheet = omega arith
 
 pub counted : {sheet : List ℕ} {sizes : Sizes} → sizes ≡ sizesOf sheet → Counted sheet sizes
 counted {sheet} e = subst (λ (s : Sizes). Counted sheet s) (sym e) (of-sheet sheet)

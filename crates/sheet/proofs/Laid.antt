@@ -1,6 +1,6 @@
 -- Question 3: "arrays without gaps", and the whole sheet.
 -- Assumes nothing.
-use mathlib.Core.Path.{_≡_, refl, sym, subst}
+use mathlib.Core.Path.{_≡_, sym, subst}
 use mathlib.Core.List.{List}
 use Prim.Native.Nat.{ℕ, _+_, _*_, _<_}
 use native.Mathlib.Omega.{arith}
@@ -34,23 +34,7 @@ pub record Laid (whole : ℕ) (s : Sizes) : Type 0 where
 of-sheet : (sheet : List ℕ) → Laid (sheetLength sheet) (sizesOf sheet)
 unfolding sizesOf placesOf codeAt noteKindsAt noteAsAt noteBsAt writeCountsAt rangeStartsAt rangeLengthsAt constantKindsAt constantValuesAt
     paramWidthsAt paramKindsAt paramAsAt paramBsAt layoutLengthsAt slotKindsAt sheetLength
-of-sheet sheet = record {
-  note-kinds = refl;
-  note-as = refl;
-  note-bs = refl;
-  write-counts = refl;
-  range-starts = refl;
-  range-lengths = refl;
-  constant-kinds = refl;
-  constant-values = refl;
-  param-widths = refl;
-  param-kinds = refl;
-  param-as = refl;
-  param-bs = refl;
-  layout-lengths = refl;
-  slot-kinds = refl;
-  ends = refl;
-}
+of-sheet sheet = omega arith
 
 pub laid-by : (sheet : List ℕ) {sizes : Sizes} → sizes ≡ sizesOf sheet → Laid (sheetLength sheet) sizes
 laid-by sheet e = subst (λ (s : Sizes). Laid (sheetLength sheet) s) (sym e) (of-sheet sheet)

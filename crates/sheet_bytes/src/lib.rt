@@ -13,10 +13,31 @@ pub fn byte_at(bytes: &[u8], at: usize) -> u8
 }
 
 // A byte at 16 bits, with its bound, so that no proof has to look for the element that it came from.
-fn wide(x: u8) -> u16
+fn wide_byte(x: u8) -> u16
     ensures { λ r. ⌜ (r ≡ x) × (r < 256) ⌝ }
 {
     x as u16
+}
+
+// 16 bits from two bytes.
+pub fn u16_of(low: u8, high: u8) -> u16
+    ensures { λ r. ⌜ r ≡ low + 256 * high ⌝ }
+{
+    wide_byte(low) + 256 * wide_byte(high)
+}
+
+// 32 bits from two halves.
+pub fn u32_of(low: u16, high: u16) -> u32
+    ensures { λ r. ⌜ r ≡ low + 65536 * high ⌝ }
+{
+    low as u32 + 65536 * high as u32
+}
+
+// 64 bits from two halves.
+pub fn u64_of(low: u32, high: u32) -> u64
+    ensures { λ r. ⌜ r ≡ low + 4294967296 * high ⌝ }
+{
+    low as u64 + 4294967296 * high as u64
 }
 
 // The 16 bits at a place.
@@ -24,9 +45,7 @@ pub fn u16_at(bytes: &[u8], at: usize) -> u16
     requires { ⌜ at + 2 ≤ length (now bytes) ⌝ }
     ensures { λ r. ⌜ r ≡ u16 (now (bytes .entry)) at ⌝ }
 {
-    let low = wide(byte_at(bytes, at));
-    let high = wide(byte_at(bytes, at + 1));
-    low + 256 * high
+    u16_of(byte_at(bytes, at), byte_at(bytes, at + 1))
 }
 
 // The 32 bits at a place.
@@ -34,9 +53,7 @@ pub fn u32_at(bytes: &[u8], at: usize) -> u32
     requires { ⌜ at + 4 ≤ length (now bytes) ⌝ }
     ensures { λ r. ⌜ r ≡ u32 (now (bytes .entry)) at ⌝ }
 {
-    let low = u16_at(bytes, at) as u32;
-    let high = u16_at(bytes, at + 2) as u32;
-    low + 65536 * high
+    u32_of(u16_at(bytes, at), u16_at(bytes, at + 2))
 }
 
 // The 64 bits at a place.
@@ -44,9 +61,7 @@ pub fn u64_at(bytes: &[u8], at: usize) -> u64
     requires { ⌜ at + 8 ≤ length (now bytes) ⌝ }
     ensures { λ r. ⌜ r ≡ u64 (now (bytes .entry)) at ⌝ }
 {
-    let low = u32_at(bytes, at) as u64;
-    let high = u32_at(bytes, at + 4) as u64;
-    low + 4294967296 * high
+    u64_of(u32_at(bytes, at), u32_at(bytes, at + 4))
 }
 
 // Element i of an array of bytes.

@@ -7,7 +7,7 @@ use native.Mathlib.Omega.{arith}
 use lib.ListN.{length, set}
 use Rattle.model.specs.Count.{sum}
 use Rattle.memory.specs.Front.{front}
-use Rattle.memory.proofs.Turned.{Turned, start, turn}
+use Rattle.memory.proofs.Turned.{Turned, turned-none, turn}
 use Rattle.sheet.proofs.Adding.{sum-none, sum-more}
 
 -- after i turns
@@ -19,7 +19,7 @@ pub record Summed (f : ℕ → ℕ) (n : ℕ) (old out : List ℕ) (total i : �
   pub is : total ≡ sum f i
 
 pub summed-none : (f : ℕ → ℕ) (n : ℕ) (old : List ℕ) → n ≤ length old → Summed f n old old 0 0
-summed-none f n old h = record { within = omega arith; room = h; long = refl; turned = start (sum f) old; is = sym (sum-none f) }
+summed-none f n old h = record { within = omega arith; room = h; long = refl; turned = turned-none (sum f) old; is = sym (sum-none f) }
 
 pub summed-more : {f : ℕ → ℕ} {n : ℕ} {old out : List ℕ} {total i v : ℕ} → Summed f n old out total i → i < n → v ≡ f i → Summed f n old (set out i total) (total + v) (i + 1)
 summed-more {f} {n} {old} {out} {total} {i} {v} s h e =

@@ -1,35 +1,18 @@
 // What the layouts of container facts cost.
 ghost use mathlib.Core.Path.{_≡_};
-ghost use Prim.Native.Nat.{_<_};
-ghost use Rattle.model.specs.Tables.{factIn, cellOf};
-ghost use Rattle.model.specs.Transfer.{orUnknown, instructionFact};
+ghost use Rattle.model.specs.Tables.{factIn};
 ghost use Rattle.model.specs.Parameters.{chargeLayout, chargeLayouts, chargeInstructionFacts};
 ghost use Rattle.budget.specs.Metering.{asSpent};
 ghost use Rattle.sheet.specs.Measured.{Measured};
 use budget::Metering;
 use budget::charge_bytes;
 use budget::metered;
-use fact_row::map_cell;
-use fact_row::queue_cell;
-use fact_row::unknown_cell;
+use fact_row::instruction_fact;
 use model::FactCell;
 use model::VerifierResources;
 use sheet::Sizes;
 use sheet_fields::instruction_at;
 use sheet_fields::layout_length_at;
-use sheet_fields::note_a_at;
-use sheet_fields::note_b_at;
-use sheet_fields::note_kind_at;
-
-// "Opcodes (decimal)"
-const MAP_NEW: u8 = 89;
-
-const QUEUE_NEW: u8 = 96;
-
-// "1 MapNew, 2 QueueLayout": kinds of notes
-const MAP_NEW_NOTE: u8 = 1;
-
-const QUEUE_LAYOUT_NOTE: u8 = 2;
 
 // "slot kind 1": a byte for each slot of the layout.
 fn charge_layout(
@@ -70,28 +53,6 @@ pub fn charge_layouts(
     charge_layout(sheet, sizes, b, left)
 }
 
-// The note's fact: MapNew under a MapNew note, QueueNew under a QueueLayout note; Unknown where there is none.
-fn instruction_fact(sheet: &[u8], sizes: Sizes, pc: usize) -> FactCell
-    requires { ⌜ Measured (now sheet) sizes × (pc < sizes .«code_count») ⌝ }
-    ensures { λ r. ⌜ r ≡ cellOf (orUnknown (instructionFact (now (sheet .entry)) pc)) ⌝ }
-{
-    let op = instruction_at(sheet, pc).op;
-    let kind = note_kind_at(sheet, sizes, pc);
-    if op == MAP_NEW {
-        if kind == MAP_NEW_NOTE {
-            return map_cell(note_a_at(sheet, sizes, pc), note_b_at(sheet, sizes, pc));
-        }
-        return unknown_cell();
-    }
-    if op == QUEUE_NEW {
-        if kind == QUEUE_LAYOUT_NOTE {
-            return queue_cell(note_a_at(sheet, sizes, pc));
-        }
-        return unknown_cell();
-    }
-    unknown_cell()
-}
-
 // The layout bytes of all notes' facts, in code order, also where the instruction is not reachable or its target not tracked.
 pub fn charge_instruction_facts(
     sheet: &[u8],
@@ -105,7 +66,8 @@ pub fn charge_instruction_facts(
     let mut left = resources;
     let mut pc = 0;
     while pc < n {
-        let charged = charge_layouts(sheet, sizes, instruction_fact(sheet, sizes, pc), left);
+        let op = instruction_at(sheet, pc).op;
+        let charged = charge_layouts(sheet, sizes, instruction_fact(sheet, sizes, pc, op), left);
         let Metering::Covered { left: rest } = charged else {
             return charged;
         };

@@ -12,7 +12,7 @@ use lib.ListN.{length, replicate}
 use Rattle.model.specs.Call.{zeros}
 use Rattle.model.specs.Charges.{Refusal, overBudget, Spent, ok, stop, give, continue, _>>=_, _>>_}
 use Rattle.model.specs.Count.{sum}
-use Rattle.model.specs.Fact.{Fact, kind, value, Row}
+use Rattle.model.specs.Fact.{Fact, Row}
 use Rattle.model.specs.Lookup.{place}
 use Rattle.model.specs.Sheet.{paramCount, paramWidth}
 use Rattle.model.specs.Tables.{factIn, cellOf}
@@ -23,11 +23,13 @@ use Rattle.model.specs.declared.VerifierResources.{VerifierResources}
 use Rattle.budget.specs.Metering.{asSpent}
 use Rattle.budget.specs.declared.Metering.{Metering}
 use Rattle.budget.specs.declared.Metering.the-variants.{Covered, Refused}
-use Rattle.sheet.proofs.Adding.{Added, added-none, added-more}
-use Rattle.fact_row.specs.Rows.{Lies}
-use Rattle.stage_entry.specs.First.{Rowed, setAt, first, firstOf}
-use Rattle.fact_row.proofs.Facts.{read, kind-of, value-of}
-use Rattle.stage_entry.proofs.Made.{put-lies, made, unmade, made-of, unmade-of}
+use Rattle.sheet.proofs.Adding.{SumUpto, added-none, added-more}
+use Rattle.fact_row.specs.Place.{setAt}
+use Rattle.fact_row.specs.Rows.{Lies, WritableRow}
+use Rattle.fact_row.proofs.Facts.{read}
+use Rattle.fact_row.proofs.Setting.{put-lies}
+use Rattle.stage_entry.specs.First.{first, firstOf}
+use Rattle.stage_entry.proofs.Made.{made, unmade, made-of, unmade-of}
 use Rattle.budget.proofs.Spending.{covered, refused, then-covered, then-refused}
 
 -- a row that is cleared is s zeros
@@ -47,13 +49,13 @@ module _ (sheet slots : List ℕ) (slot : ℕ) (resources : VerifierResources) {
     came-by : asSpent 5 whole ≡ chargeLayouts sheet fact resources
     came-by = came ∙ ap (λ (f : Fact). chargeLayouts sheet f resources) (read fact is)
 
-    pub seed-covered : {left : VerifierResources} {k v : List ℕ} → whole ≡ Covered left → Rowed slots kinds values
+    pub seed-covered : {left : VerifierResources} {k v : List ℕ} → whole ≡ Covered left → WritableRow slots kinds values
         → k ≡ setAt (place slots slot) kinds (cell .kind) → v ≡ setAt (place slots slot) values (cell .value)
         → first (asSpent 5 whole) k v ≡ firstOf (length slots) (seedParam sheet slots slot (some fact) row resources)
     unfolding seedParam give
     seed-covered {left} e r p q =
         rw (came-by, then-covered (chargeLayouts sheet fact) (give (put slots row slot fact)) resources (covered 5 came-by e), covered 5 came-by e)
-        (made (length slots) left (put-lies lies r slot fact (p ∙ ap (setAt (place slots slot) kinds) (kind-of fact is)) (q ∙ ap (setAt (place slots slot) values) (value-of fact is))))
+        (made (length slots) left (put-lies lies r slot fact is p q))
 
     pub seed-refused : {requested remaining : ℕ} {left : VerifierResources} {k v : List ℕ} → whole ≡ Refused requested remaining left → k ≡ replicate (length slots) 0 → v ≡ replicate (length slots) 0
         → first (asSpent 5 whole) k v ≡ firstOf (length slots) (seedParam sheet slots slot (some fact) row resources)
@@ -87,12 +89,12 @@ module _ (sheet slots : List ℕ) (start : ℕ) (budget : VerifierResources) whe
   module _ (k₀ v₀ : List ℕ) (count : ℕ) where
     -- after i of the parameters, all charges covered
     pub record Seeded (k v : List ℕ) (left : VerifierResources) (passed i : ℕ) : Type 0 where
-      pub added : Added (λ j. paramWidth sheet j) count passed i
+      pub added : SumUpto (λ j. paramWidth sheet j) count passed i
       pub kinds-long : length k ≡ length slots
       pub values-long : length v ≡ length slots
       pub is : (row : Row) → Lies row k₀ v₀ → (out : Row) × (seeded i row ≡ ok out left) × Lies out k v
 
-    pub seeded-none : Rowed slots k₀ v₀ → Seeded k₀ v₀ budget 0 0
+    pub seeded-none : WritableRow slots k₀ v₀ → Seeded k₀ v₀ budget 0 0
     unfolding seedParams give
     seeded-none r = record {
       added = added-none (λ j. paramWidth sheet j) count;

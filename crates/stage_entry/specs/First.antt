@@ -3,29 +3,17 @@
 use mathlib.Core.Path.{_≡_}
 use mathlib.Core.Bool.{true}
 use mathlib.Core.List.{List, map}
-use mathlib.Core.Option.{Option, none, some}
 use Prim.Native.Nat.{ℕ}
-use lib.ListN.{length, set, replicate}
+use lib.ListN.{length, replicate}
 use Rattle.model.specs.Charges.{Spent, ok, stop, unfinished}
 use Rattle.model.specs.Fact.{kind, value, Row}
 use Rattle.model.specs.Lookup.{ascends}
 
--- the slots ascend, and kinds and values have a place for each
-pub record Rowed (slots kinds values : List ℕ) : Type 0 where
-  pub ascending : ascends slots ≡ true
-  pub kinds-long : length kinds ≡ length slots
-  pub values-long : length values ≡ length slots
-
--- the same, and all is zero
+-- the slots ascend, and kinds and values have a zero for each
 pub record Blank (slots kinds values : List ℕ) : Type 0 where
   pub ascending : ascends slots ≡ true
   pub kinds-zero : kinds ≡ replicate (length slots) 0
   pub values-zero : values ≡ replicate (length slots) 0
-
--- with another number at a place, if there is one
-unfoldable pub setAt : Option ℕ → List ℕ → ℕ → List ℕ
-setAt none xs x = xs
-setAt (some j) xs x = set xs j x
 
 -- What the making of a first row comes to, and the kinds and values that it leaves.
 pub record First : Type 0 where

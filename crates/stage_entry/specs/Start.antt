@@ -6,6 +6,6 @@ use Rattle.stage_entry.specs.declared.params.ParamStart.{ParamStart}
 use Rattle.stage_entry.specs.declared.params.ParamStart.the-variants.{At, Nowhere}
 
 -- the start that is answered
-abbrev pub startOf : ParamStart → Option ℕ
-startOf (At slot) = some slot
-startOf Nowhere = none
+abbrev pub paramStartOf : ParamStart → Option ℕ
+paramStartOf (At slot) = some slot
+paramStartOf Nowhere = none

@@ -5,7 +5,7 @@ ghost use Rattle.model.specs.Tables.{cellOf};
 ghost use Rattle.model.specs.Transfer.{orUnknown};
 ghost use Rattle.model.specs.Parameters.{transferSlots, paramStart, paramFact};
 ghost use Rattle.sheet.specs.Measured.{Measured};
-ghost use Rattle.stage_entry.specs.Start.{startOf};
+ghost use Rattle.stage_entry.specs.Start.{paramStartOf};
 use fact_row::map_cell;
 use fact_row::queue_cell;
 use fact_row::unknown_cell;
@@ -41,7 +41,7 @@ fn transfer_slots(sheet: &[u8], sizes: Sizes) -> usize
 // and closure and parameters fill them; else nowhere. Sums past 16 bits leave it out.
 pub fn param_start(sheet: &[u8], sizes: Sizes) -> ParamStart
     requires { ⌜ Measured (now sheet) sizes ⌝ }
-    ensures { λ r. ⌜ startOf r ≡ paramStart (now (sheet .entry)) ⌝ }
+    ensures { λ r. ⌜ paramStartOf r ≡ paramStart (now (sheet .entry)) ⌝ }
 {
     if sizes.param_count == 0 {
         return ParamStart::Nowhere;

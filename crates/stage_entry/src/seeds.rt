@@ -4,21 +4,19 @@ ghost use mathlib.Core.Option.{some};
 ghost use Prim.Native.Nat.{_<_};
 ghost use lib.ListN.{length};
 ghost use Rattle.model.specs.Fact.{Fact, Row};
-ghost use Rattle.model.specs.Lookup.{place};
 ghost use Rattle.model.specs.Sheet.{paramCount};
 ghost use Rattle.model.specs.Tables.{cellOf};
 ghost use Rattle.model.specs.Parameters.{paramStart, paramFact, seedParam, seedParams, paramRow};
 ghost use Rattle.model.specs.Analyses.{unknownRow};
 ghost use Rattle.budget.specs.Metering.{asSpent};
 ghost use Rattle.sheet.specs.Measured.{Measured};
-ghost use Rattle.fact_row.specs.Rows.{Lies};
-ghost use Rattle.stage_entry.specs.First.{Rowed, Blank, setAt, first, firstOf};
+ghost use Rattle.fact_row.specs.Rows.{Lies, WritableRow};
+ghost use Rattle.stage_entry.specs.First.{Blank, first, firstOf};
 use crate::params::ParamStart;
 use crate::params::param_fact;
 use crate::params::param_start;
 use budget::Metering;
-use fact_row::Place;
-use fact_row::find;
+use fact_row::set_fact;
 use fact_row::wide;
 use memory::clear_u8;
 use memory::clear_u64;
@@ -27,18 +25,6 @@ use model::VerifierResources;
 use sheet::Sizes;
 use sheet_fields::param_width_at;
 use stage_charges::charge_layouts;
-
-// The fact of a slot is set, if the slot is tracked.
-fn put(slots: &[u16], slot: usize, cell: FactCell, row_kinds: &mut [u8], row_values: &mut [u64])
-    requires { ⌜ Rowed (now slots) (now «row_kinds») (now «row_values») ⌝ }
-    ensures { λ r. ⌜ (now («row_kinds» .exit) ≡ setAt (place (now (slots .entry)) slot) (now («row_kinds» .entry)) (cell .kind)) × (now («row_values» .exit) ≡ setAt (place (now (slots .entry)) slot) (now («row_values» .entry)) (cell .value)) ⌝ }
-{
-    let Place::At(j) = find(slots, slot) else {
-        return;
-    };
-    row_kinds[j] = cell.kind;
-    row_values[j] = cell.value;
-}
 
 // "layout bytes are charged even for an untracked slot, and of two at one slot the later stays"
 fn seed_fact(
@@ -51,7 +37,7 @@ fn seed_fact(
     row_kinds: &mut [u8],
     row_values: &mut [u64],
 ) -> Metering
-    requires { ⌜ Measured (now sheet) sizes × Rowed (now slots) (now «row_kinds») (now «row_values») ⌝ }
+    requires { ⌜ Measured (now sheet) sizes × WritableRow (now slots) (now «row_kinds») (now «row_values») ⌝ }
     ensures { λ r. ⌜ ((row : Row) (fact : Fact) → Lies row (now («row_kinds» .entry)) (now («row_values» .entry)) → cell ≡ cellOf fact → first (asSpent 5 r) (now («row_kinds» .exit)) (now («row_values» .exit)) ≡ firstOf (length (now (slots .entry))) (seedParam (now (sheet .entry)) (now (slots .entry)) slot (some fact) row resources)) ⌝ }
 {
     let charged = charge_layouts(sheet, sizes, cell, resources);
@@ -60,7 +46,7 @@ fn seed_fact(
         clear_u64(row_values);
         return charged;
     };
-    put(slots, slot, cell, row_kinds, row_values);
+    set_fact(slots, slot, cell, row_kinds, row_values);
     charged
 }
 
@@ -75,7 +61,7 @@ fn seed_param(
     row_kinds: &mut [u8],
     row_values: &mut [u64],
 ) -> Metering
-    requires { ⌜ Measured (now sheet) sizes × (i < sizes .«param_count») × Rowed (now slots) (now «row_kinds») (now «row_values») ⌝ }
+    requires { ⌜ Measured (now sheet) sizes × (i < sizes .«param_count») × WritableRow (now slots) (now «row_kinds») (now «row_values») ⌝ }
     ensures { λ r. ⌜ ((row : Row) → Lies row (now («row_kinds» .entry)) (now («row_values» .entry)) → first (asSpent 5 r) (now («row_kinds» .exit)) (now («row_values» .exit)) ≡ firstOf (length (now (slots .entry))) (seedParam (now (sheet .entry)) (now (slots .entry)) slot (paramFact (now (sheet .entry)) i) row resources)) ⌝ }
 {
     let cell = param_fact(sheet, sizes, i);
@@ -104,7 +90,7 @@ fn seed_params(
     row_kinds: &mut [u8],
     row_values: &mut [u64],
 ) -> Metering
-    requires { ⌜ Measured (now sheet) sizes × Rowed (now slots) (now «row_kinds») (now «row_values») ⌝ }
+    requires { ⌜ Measured (now sheet) sizes × WritableRow (now slots) (now «row_kinds») (now «row_values») ⌝ }
     ensures { λ r. ⌜ ((row : Row) → Lies row (now («row_kinds» .entry)) (now («row_values» .entry)) → first (asSpent 5 r) (now («row_kinds» .exit)) (now («row_values» .exit)) ≡ firstOf (length (now (slots .entry))) (seedParams (now (sheet .entry)) (now (slots .entry)) start (paramCount (now (sheet .entry))) row resources)) ⌝ }
 {
     let count = sizes.param_count;

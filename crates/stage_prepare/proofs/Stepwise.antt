@@ -22,7 +22,7 @@ use Rattle.model.specs.declared.AnalysisKind.{AnalysisKind}
 use Rattle.model.specs.declared.AnalysisKind.the-variants.{Constant, IndexCheck, Container}
 use Rattle.finality.proofs.Lawful.{demand, unknown-length}
 use Rattle.stage_prepare.specs.Begin.{entering, enterIf, Begun, begin}
-use Rattle.model.proofs.Tests.{or-true}
+use mathlib.Core.Bool.{or-true}
 
 -- the run of what was begun
 abbrev pub goOn : AnalysisKind → List ℕ → (ℕ → Fact) → Spent Begun → Spent Analysed

@@ -14,8 +14,8 @@ use Rattle.model.specs.Tables.{factOf, factsOf}
 use Rattle.model.specs.Listing.{decimal, space, newline, rowLines, presentLines}
 use Rattle.model.proofs.Facts.{length-facts}
 use Rattle.text_words.specs.Text.{Added}
-use Rattle.text_listing.specs.Rows.{cellLine, rowIf, tableRowOf}
-use Rattle.text_words.proofs.Writing.{then, reword, nothing}
+use Rattle.text_listing.specs.Rows.{cellLine, presentRow, tableRowOf}
+use Rattle.text_words.proofs.Writing.{then, reword, no-text}
 
 -- ---- the facts of a row's kinds and values
 
@@ -30,35 +30,35 @@ fact-at (k ∷ ks) (v ∷ vs) (suc j) h l = fact-at ks vs j (le-of-suc-le-suc h)
 
 module _ (text : Fact → List ℕ) (pc : ℕ) where
   -- those of the first j cells
-  abbrev pub first : List ℕ → Row → ℕ → List ℕ
-  first slots row j = rowLines text pc (take j slots) (take j row)
+  abbrev pub firstLines : List ℕ → Row → ℕ → List ℕ
+  firstLines slots row j = rowLines text pc (take j slots) (take j row)
 
   one-more : (slots : List ℕ) (row : Row) (j : ℕ) → j < length slots → j < length row
-      → first slots row j ++ cellLine text pc (getD slots j 0) (getD row j unknown) ≡ first slots row (suc j)
+      → firstLines slots row j ++ cellLine text pc (getD slots j 0) (getD row j unknown) ≡ firstLines slots row (suc j)
   unfolding rowLines cellLine
   one-more [] row j h l = absurd (not-suc-le-zero h)
   one-more (s ∷ ss) [] j h l = absurd (not-suc-le-zero l)
   one-more (s ∷ ss) (f ∷ fs) zero h l = sym (append-nil (decimal pc ++ space ++ decimal s ++ space ++ text f ++ newline))
   one-more (s ∷ ss) (f ∷ fs) (suc j) h l =
-      append-assoc (decimal pc ++ space ++ decimal s ++ space ++ text f ++ newline) (first ss fs j) (cellLine text pc (getD ss j 0) (getD fs j unknown))
+      append-assoc (decimal pc ++ space ++ decimal s ++ space ++ text f ++ newline) (firstLines ss fs j) (cellLine text pc (getD ss j 0) (getD fs j unknown))
       ∙ ap (λ (rest : List ℕ). decimal pc ++ space ++ decimal s ++ space ++ text f ++ newline ++ rest) (one-more ss fs j (le-of-suc-le-suc h) (le-of-suc-le-suc l))
 
   -- after j cells
   module _ (slots kinds values : List ℕ) where
     abbrev pub Listed : ℕ → List ℕ → ℕ → ℕ → List ℕ → Type 0
-    Listed start old j at new = Added (89 * j) (first slots (factsOf kinds values) j) start old at new
+    Listed start old j at new = Added (89 * j) (firstLines slots (factsOf kinds values) j) start old at new
 
     pub listed-none : (start : ℕ) (old : List ℕ) → start ≤ length old → Listed start old 0 start old
     unfolding rowLines
-    listed-none start old h = nothing old start h
+    listed-none start old h = no-text old start h
 
     pub listed-more : (start : ℕ) (old mid new : List ℕ) (j at next : ℕ) → length kinds ≡ length slots → length values ≡ length slots → j < length slots → Listed start old j at mid
         → Added 89 (cellLine text pc (getD slots j 0) (factOf (getD kinds j 0) (getD values j 0))) at mid next new → Listed start old (j + 1) next new
     listed-more start old mid new j at next hk hv l w v =
         reword (omega arith)
-        (ap (λ (f : Fact). first slots (factsOf kinds values) j ++ cellLine text pc (getD slots j 0) f) (sym (fact-at kinds values j (omega arith) (omega arith)))
+        (ap (λ (f : Fact). firstLines slots (factsOf kinds values) j ++ cellLine text pc (getD slots j 0) f) (sym (fact-at kinds values j (omega arith) (omega arith)))
         ∙ one-more slots (factsOf kinds values) j l (omega (arith, length-facts kinds values (omega arith)))
-        ∙ ap (first slots (factsOf kinds values)) (sym (add-one j)))
+        ∙ ap (firstLines slots (factsOf kinds values)) (sym (add-one j)))
         (then w v)
 
     abbrev pub Row-written : ℕ → ℕ → List ℕ → ℕ → List ℕ → Type 0
@@ -67,12 +67,12 @@ module _ (text : Fact → List ℕ) (pc : ℕ) where
     -- a present row
     pub listed-all : (start : ℕ) (old new : List ℕ) (byte j at : ℕ) → length kinds ≡ length slots → length values ≡ length slots → byte ≡ 1 → j ≡ length slots → Listed start old j at new
         → Row-written byte start old at new
-    unfolding presentLines tableRowOf rowIf
+    unfolding presentLines tableRowOf presentRow
     listed-all start old new byte j at hk hv b e w =
         rw (eq-eqb byte 1 b)
         (reword (omega arith) (ap₂ (rowLines text pc) (take-all j slots (omega arith)) (take-all j (factsOf kinds values) (omega (arith, length-facts kinds values (omega arith))))) w)
 
     -- an absent one
     pub listed-nothing : (start : ℕ) (old : List ℕ) (byte : ℕ) → start ≤ length old → (byte ≡ 1 → ⊥) → Row-written byte start old start old
-    unfolding presentLines tableRowOf rowIf
-    listed-nothing start old byte l h = rw (ne-eqb byte 1 h) (reword (omega arith) refl (nothing old start l))
+    unfolding presentLines tableRowOf presentRow
+    listed-nothing start old byte l h = rw (ne-eqb byte 1 h) (reword (omega arith) refl (no-text old start l))

@@ -19,8 +19,8 @@ use Rattle.model.specs.Listing.{factText, presentLines, rowsLines, headLine, an
 use Rattle.model.specs.declared.AnalysisKind.{AnalysisKind}
 use Rattle.finality.proofs.Invariant.{none-some}
 use Rattle.finality.proofs.Cells.{Sized, length-present, length-cells}
-use Rattle.finality.proofs.Memory.{shown, row-shown, row-part}
-use Rattle.text_listing.specs.Rows.{rowIf, tableRowOf, rowOf, rowIn, printedAnalysis}
+use Rattle.finality.proofs.Memory.{present-shown, row-shown, row-part}
+use Rattle.text_listing.specs.Rows.{presentRow, tableRowOf, rowOf, rowIn, printedAnalysis}
 use Rattle.text_listing.specs.Answer.{Listable}
 
 -- ---- what is collected in order
@@ -48,11 +48,11 @@ rows-collected text slots pc (o ∷ os) =
 
 module _ (a : Analysed) (sized : Sized (length (a .slots)) (a .rows)) (old : Table) where
   row-is : (pc : ℕ) (o : Option Row) → rowAt (a .rows) pc ≡ o → rowIn (length (a .slots)) (filledTable (tables a) old) pc ≡ o
-  unfolding rowOf tableRowOf rowIf filledTable filled tables tableRow
+  unfolding rowOf tableRowOf presentRow filledTable filled tables tableRow
   row-is pc none e =
       rw (ne-eqb _ 1 (λ k. let p = row-shown (a .rows) (length (old .present) - length (presentBytes (a .rows))) pc k in none-some (p .0) (sym e ∙ p .1)))
   row-is pc (some r) e =
-      rw (eq-eqb _ 1 (shown (a .rows) (length (old .present) - length (presentBytes (a .rows))) pc r e))
+      rw (eq-eqb _ 1 (present-shown (a .rows) (length (old .present) - length (presentBytes (a .rows))) pc r e))
       (ap some (row-part (length (a .slots)) (a .rows) sized
       (replicate (length (old .kinds) - length (cells kind (length (a .slots)) (a .rows))) 0) (replicate (length (old .values) - length (cells value (length (a .slots)) (a .rows))) 0) pc r e))
 

@@ -15,7 +15,7 @@ use Rattle.model.specs.Sheet.{codeCount}
 use Rattle.model.specs.declared.Counts.{Counts}
 use Rattle.model.specs.declared.AnalysisKind.{AnalysisKind}
 use Rattle.text_words.specs.Text.{Added}
-use Rattle.text_words.proofs.Writing.{then, reword, nothing}
+use Rattle.text_words.proofs.Writing.{then, reword, no-text}
 use Rattle.text_listing.specs.Rows.{tableRowOf, rowOf, printedAnalysis}
 use Rattle.model.specs.Call.{table}
 
@@ -34,7 +34,7 @@ module _ (text : Fact → List ℕ) (s : ℕ) (slots present kinds values : List
 
   pub walked-none : (start : ℕ) (old : List ℕ) → start ≤ length old → Walked start old 0 start old
   unfolding collect
-  walked-none start old h = reword (omega arith) refl (nothing old start h)
+  walked-none start old h = reword (omega arith) refl (no-text old start h)
 
   pub walked-more : (start : ℕ) (old mid new : List ℕ) (pc from at next : ℕ) → s ≤ length slots → from ≡ pc * s → Walked start old pc at mid
       → Added (89 * length (take s slots)) (presentLines text pc (take s slots) (tableRowOf (getD present pc 0) (take (from + s - from) (drop from kinds)) (take (from + s - from) (drop from values)))) at mid next new

@@ -20,13 +20,13 @@ unfoldable pub cellLine : (Fact → List ℕ) → ℕ → ℕ → Fact → List 
 cellLine text pc slot f = decimal pc ++ space ++ decimal slot ++ space ++ text f ++ newline
 
 -- a row that is there or not
-unfoldable pub rowIf : Bool → Row → Option Row
-rowIf true row = some row
-rowIf false row = none
+unfoldable pub presentRow : Bool → Row → Option Row
+presentRow true row = some row
+presentRow false row = none
 
 -- the row of a present byte and its parts of kinds and values; none unless the byte is 1
 unfoldable pub tableRowOf : ℕ → List ℕ → List ℕ → Option Row
-tableRowOf byte kinds values = rowIf (eqb byte 1) (factsOf kinds values)
+tableRowOf byte kinds values = presentRow (eqb byte 1) (factsOf kinds values)
 
 -- ---- an analysis
 

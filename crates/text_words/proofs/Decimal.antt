@@ -10,13 +10,13 @@ use lib.Seq.{drop-length, set-split, drop-at, length-take-le}
 use Rattle.model.specs.Listing.{ascii, digits, decimal}
 
 -- i digits are left to find, those of `left`; the others stand from i on
-pub record Found (x : ℕ) (buffer : List ℕ) (i left : ℕ) : Type 0 where
+pub record DigitsFound (x : ℕ) (buffer : List ℕ) (i left : ℕ) : Type 0 where
   pub within : i ≤ 20
   pub long : length buffer ≡ 20
   pub small : left < 10 ^ i
   pub same : digits 20 x [] ≡ digits i left (drop i buffer)
 
-pub found-start : (x : ℕ) (buffer : List ℕ) → x < 2 ^ 64 → length buffer ≡ 20 → Found x buffer 20 x
+pub found-start : (x : ℕ) (buffer : List ℕ) → x < 2 ^ 64 → length buffer ≡ 20 → DigitsFound x buffer 20 x
 found-start x buffer h e = record {
   within = omega arith;
   long = e;
@@ -25,7 +25,7 @@ found-start x buffer h e = record {
 }
 
 -- while something is left there is a place for it
-pub found-above : (x : ℕ) (buffer : List ℕ) (i left : ℕ) → Found x buffer i left → 0 < left → 1 ≤ i
+pub found-above : (x : ℕ) (buffer : List ℕ) (i left : ℕ) → DigitsFound x buffer i left → 0 < left → 1 ≤ i
 found-above x buffer zero left f h = omega (arith, f .small)
 found-above x buffer (suc i) left f h = omega arith
 
@@ -42,7 +42,7 @@ one-digit i (suc left) rest h = refl
 less : (i left : ℕ) → left < 10 ^ suc i → left / 10 < 10 ^ i
 less i left h = div-lt-iff-lt-mul {k = 10} {x = left} {y = 10 ^ i} (omega arith) .1 (rw pow-suc at h)
 
-pub found-turn : (x : ℕ) (buffer : List ℕ) (i left : ℕ) → Found x buffer i left → 0 < left → Found x (set buffer (i - 1) (48 + left % 10)) (i - 1) (left / 10)
+pub found-turn : (x : ℕ) (buffer : List ℕ) (i left : ℕ) → DigitsFound x buffer i left → 0 < left → DigitsFound x (set buffer (i - 1) (48 + left % 10)) (i - 1) (left / 10)
 found-turn x buffer zero left f h = absurd (omega (arith, f .small))
 found-turn x buffer (suc i) left f h =
     let e : suc i - 1 ≡ i = omega arith in
@@ -63,7 +63,7 @@ unfolding decimal
 above-zero zero h = absurd (not-suc-le-zero h)
 above-zero (suc x) h = refl
 
-pub found-all : (x : ℕ) (buffer : List ℕ) (i left : ℕ) → Found x buffer i left → left ≤ 0 → 0 < x → drop i buffer ≡ decimal x
+pub found-all : (x : ℕ) (buffer : List ℕ) (i left : ℕ) → DigitsFound x buffer i left → left ≤ 0 → 0 < x → drop i buffer ≡ decimal x
 found-all x buffer i left f h k =
     let z : left ≡ 0 = omega arith in
     sym (above-zero x k ∙ f .same ∙ ap (λ (n : ℕ). digits i n (drop i buffer)) z ∙ no-digit i (drop i buffer))

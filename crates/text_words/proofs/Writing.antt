@@ -8,7 +8,7 @@ use native.Mathlib.Numerals.{add-one}
 use native.Mathlib.Omega.{arith}
 use lib.ListN.{length, getD, take, drop, set, length-append, take-append-drop}
 use lib.Seq.{paste, paste-suc, length-paste, drop-append-add, drop-drop, length-take-le, take-all, take-at, drop-at}
-use Rattle.text_words.specs.Text.{Added, Shows}
+use Rattle.text_words.specs.Text.{Added, ShowsText}
 
 -- ---- a loop that writes a text
 
@@ -18,9 +18,9 @@ pub byte-more : (text old new : List ℕ) (at i v : ℕ) → at + i < length old
 byte-more text old new at i v h k e w = rw (w, e, add-one i) (paste-suc old at text i 0 h k)
 
 -- all of it is written
-pub written : (most : ℕ) (text old new : List ℕ) (at i : ℕ) → at + length text ≤ length old → i ≡ length text → i ≤ most → new ≡ paste old at text i
+pub text-written : (most : ℕ) (text old new : List ℕ) (at i : ℕ) → at + length text ≤ length old → i ≡ length text → i ≤ most → new ≡ paste old at text i
     → Added most text at old (at + i) new
-written most text old new at i h e k w = record {
+text-written most text old new at i h e k w = record {
   counts = omega arith;
   short = omega arith;
   within = omega arith;
@@ -69,8 +69,8 @@ pub then-two : {m k : ℕ} {first old mid new : List ℕ} {at a next : ℕ} (sec
 then-two {first} second third w v = rw (append-assoc first second third) (then w v)
 
 -- no text
-pub nothing : (old : List ℕ) (at : ℕ) → at ≤ length old → Added 0 [] at old at old
-nothing old at h = record {
+pub no-text : (old : List ℕ) (at : ℕ) → at ≤ length old → Added 0 [] at old at old
+no-text old at h = record {
   counts = omega arith;
   short = omega arith;
   within = h;
@@ -79,7 +79,7 @@ nothing old at h = record {
 }
 
 -- from the front on
-pub shows : {m : ℕ} {text old new : List ℕ} {next : ℕ} → Added m text 0 old next new → Shows (some text) old next new
+pub shows : {m : ℕ} {text old new : List ℕ} {next : ℕ} → Added m text 0 old next new → ShowsText (some text) old next new
 shows {text} {old} {new} {next} w = record {
   within = omega (arith, w .within, w .long);
   front = ap some (sym (ap (take next) (w .bytes) ∙ take-at text (drop next old) next (omega (arith, w .counts))));

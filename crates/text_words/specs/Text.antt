@@ -15,7 +15,7 @@ pub record Added (most : ℕ) (text : List ℕ) (at : ℕ) (old : List ℕ) (nex
   pub long : length new ≡ length old
 
 -- The first `count` bytes of the buffer are the text, if there is one, and behind them stands what stood there.
-pub record Shows (text : Option (List ℕ)) (old : List ℕ) (count : ℕ) (new : List ℕ) : Type 0 where
+pub record ShowsText (text : Option (List ℕ)) (old : List ℕ) (count : ℕ) (new : List ℕ) : Type 0 where
   pub within : count ≤ length new
   pub front : text ≡ some (take count new)
   pub rest : drop count new ≡ drop count old

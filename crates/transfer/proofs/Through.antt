@@ -4,36 +4,38 @@ use mathlib.Core.Path.{_≡_, refl, subst}
 use mathlib.Core.Bool.{Bool, true, false}
 use mathlib.Core.List.{List}
 use Prim.Native.Nat.{ℕ, _<_}
-use lib.Dec.{eqb}
 use lib.ListN.{length, getD}
 use Rattle.model.specs.Fact.{Fact, Row}
+use Rattle.model.specs.Lookup.{place}
 use Rattle.model.specs.Sheet.{instruction}
 use Rattle.model.specs.Tables.{cellOf}
-use Rattle.model.specs.Transfer.{eachCell, replaced, put, constantCell, constantTransfer, indexCell, indexTransfer, containerCell, containerTransfer, checkedFrom, indexChecked, transferRow}
+use Rattle.model.specs.Transfer.{eachCell, replaced, constantCell, constantTransfer, indexCell, indexTransfer, containerCell, containerTransfer, checkedFrom, indexChecked, transferRow}
 use Rattle.model.specs.declared.FactCell.{FactCell}
 use Rattle.model.specs.declared.Instruction.{Instruction}
 use Rattle.model.specs.declared.AnalysisKind.{AnalysisKind}
 use Rattle.model.specs.declared.AnalysisKind.the-variants.{Constant, IndexCheck, Container}
 use Rattle.sheet.specs.declared.Sizes.{Sizes}
-use Rattle.fact_row.specs.Rows.{Lies}
+use Rattle.fact_row.specs.Place.{setAt}
+use Rattle.fact_row.specs.Rows.{Lies, WritableRow}
+use Rattle.fact_row.proofs.Setting.{put-lies}
 use Rattle.transfer_facts.specs.Effect.{effectCell, factWritten, effectOf}
 use Rattle.transfer_facts.specs.declared.Effect.{Effect}
 use Rattle.transfer_facts.proofs.EffectRules.{effect-cells}
-use Rattle.transfer_rows.specs.Slots.{names, Names}
+use Rattle.transfer_written.specs.Ranges.{holdsSlot, SlotsAre}
+use Rattle.transfer_written.specs.Spans.{slotWritten}
+use Rattle.transfer_written.specs.declared.Written.{Written}
 use Rattle.transfer_rows.specs.Wrote.{Wrote}
-use Rattle.transfer_rows.specs.declared.Written.{Written}
 use Rattle.transfer_rows.proofs.Writing.{wrote-row}
-use Rattle.transfer.specs.Analysis.{slotWritten, checksIndex}
+use Rattle.transfer.specs.Analysis.{checksIndex}
 
 -- ---- IndexCheck
 
 module _ (inst : Instruction) (slots : List ℕ) (fact : Fact) {test : Bool} {kinds values : List ℕ} (row : Row) (l : Lies row kinds values) where
-  pub index-checked : {t : Bool} → t ≡ test → t ≡ true → {slot : ℕ} → slot ≡ inst .a → {cell : FactCell} → cell ≡ cellOf fact → {kinds′ values′ : List ℕ}
-      → length kinds ≡ length slots → length values ≡ length slots → ((k : ℕ) → k < length slots → getD slots k 0 < 65536)
-      → Wrote slots (λ t. eqb t slot) (λ t. cell) kinds values kinds′ values′ → Lies (indexChecked test inst slots fact row) kinds′ values′
-  unfolding indexChecked put
-  index-checked p q s e nk nv below w =
-      rw (← p, q) (wrote-row slots _ _ kinds values nk nv w below row (λ t. eqb t (inst .a)) (λ t. fact) l (λ t h. rw s) (λ t. e))
+  pub index-checked : {t : Bool} → t ≡ test → t ≡ true → WritableRow slots kinds values → {slot : ℕ} → slot ≡ inst .a → {cell : FactCell} → cell ≡ cellOf fact
+      → {kinds′ values′ : List ℕ} → kinds′ ≡ setAt (place slots slot) kinds (cell .kind) → values′ ≡ setAt (place slots slot) values (cell .value)
+      → Lies (indexChecked test inst slots fact row) kinds′ values′
+  unfolding indexChecked
+  index-checked p q r s e k v = rw (← p, q, ← s) (put-lies l r _ fact e k v)
 
   pub not-checked : {t : Bool} → t ≡ test → t ≡ false → Lies (indexChecked test inst slots fact row) kinds values
   unfolding indexChecked
@@ -54,9 +56,9 @@ module _ (sheet : List ℕ) (pc : ℕ) (slots : List ℕ) (row : Row) where
 
   pub transferred : (which : AnalysisKind) (fact : Fact) (inst : Instruction) → inst ≡ instruction sheet pc → {kinds values copied-kinds copied-values : List ℕ} → Lies row kinds values
       → copied-kinds ≡ kinds → copied-values ≡ values → length kinds ≡ length slots → length values ≡ length slots → ((k : ℕ) → k < length slots → getD slots k 0 < 65536)
-      → (w : Written) (sizes : Sizes) → Names w sheet sizes (slotWritten which sheet pc slots row)
+      → (w : Written) (sizes : Sizes) → SlotsAre w sheet sizes (slotWritten which sheet pc slots row)
       → (effect : Effect) → effect ≡ effectOf which sheet pc slots row
-      → {kinds′ values′ kinds″ values″ : List ℕ} → Wrote slots (names w sheet) (effectCell effect slots row) copied-kinds copied-values kinds′ values′
+      → {kinds′ values′ kinds″ values″ : List ℕ} → Wrote slots (holdsSlot w sheet) (effectCell effect slots row) copied-kinds copied-values kinds′ values′
       → ((r : Row) → Lies r kinds′ values′ → Lies (indexChecked (checksIndex which (inst .op)) inst slots (checkedFrom fact) r) kinds″ values″)
       → Lies (transferRow which sheet slots (λ p. fact) pc row) kinds″ values″
   unfolding written-row

@@ -1,3 +1,2 @@
 -- What the functions of this crate ask and answer, by the definitions of `model`.
 pub mod Analysis
-pub mod Spans

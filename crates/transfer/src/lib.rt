@@ -1,5 +1,4 @@
 // "Transfers": a row of facts through an instruction.
 mod row;
-mod spans;
 
 pub use row::transfer_row;

@@ -1,27 +1,25 @@
 // A row through an instruction, once for the three analyses.
 ghost use mathlib.Core.Path.{_≡_};
-ghost use mathlib.Core.Bool.{true};
 ghost use Prim.Native.Nat.{_<_};
 ghost use lib.ListN.{length};
 ghost use Rattle.model.specs.Fact.{Row};
-ghost use Rattle.model.specs.Lookup.{ascends};
 ghost use Rattle.model.specs.Sheet.{codeCount, firstRange};
 ghost use Rattle.model.specs.Tables.{factIn, factsOf};
 ghost use Rattle.model.specs.Transfer.{checkedFrom, indexChecked, transferRow};
 ghost use Rattle.memory.specs.Front.{Holds};
 ghost use Rattle.sheet.specs.Measured.{Accepted};
-ghost use Rattle.fact_row.specs.Rows.{Tracked, Lies};
+ghost use Rattle.fact_row.specs.Rows.{ReadableRow, WritableRow, Lies};
 ghost use Rattle.transfer.specs.Analysis.{checksIndex};
-use crate::spans::slots_written;
 use fact_row::checked_cell;
+use fact_row::set_fact;
 use fact_row::wide;
 use model::AnalysisKind;
 use model::FactCell;
 use model::Instruction;
 use sheet::Sizes;
 use transfer_facts::effect_of;
-use transfer_rows::put_fact;
 use transfer_rows::write_slots;
+use transfer_written::slots_written;
 
 // "Opcodes (decimal)"
 const INDEX_CHECK: u8 = 121;
@@ -46,11 +44,11 @@ fn set_checked(
     kinds: &mut [u8],
     values: &mut [u64],
 )
-    requires { ⌜ (ascends (now slots) ≡ true) × (length (now kinds) ≡ length (now slots)) × (length (now values) ≡ length (now slots)) ⌝ }
+    requires { ⌜ WritableRow (now slots) (now kinds) (now values) ⌝ }
     ensures { λ r. ⌜ ((row : Row) → Lies row (now (kinds .entry)) (now (values .entry)) → Lies (indexChecked (checksIndex which (inst .op)) inst (now (slots .entry)) (checkedFrom (factIn «length_fact»)) row) (now (kinds .exit)) (now (values .exit))) ⌝ }
 {
     if checks_index(which, inst.op) {
-        put_fact(
+        set_fact(
             slots,
             wide(inst.a),
             checked_cell(length_fact),
@@ -76,7 +74,7 @@ pub fn transfer_row(
     out_values: &mut [u64],
 )
     requires { ⌜ Accepted (now sheet) sizes × Holds (firstRange (now sheet)) (codeCount (now sheet)) (now firsts) × (pc < sizes .«code_count») ⌝ }
-    requires { ⌜ Tracked (now slots) (now kinds) (now values) × (length (now «out_kinds») ≡ length (now slots)) × (length (now «out_values») ≡ length (now slots)) ⌝ }
+    requires { ⌜ ReadableRow (now slots) (now kinds) (now values) × (length (now «out_kinds») ≡ length (now slots)) × (length (now «out_values») ≡ length (now slots)) ⌝ }
     ensures { λ r. ⌜ Lies (transferRow which (now (sheet .entry)) (now (slots .entry)) (λ p. factIn «length_fact») pc (factsOf (now (kinds .entry)) (now (values .entry)))) (now («out_kinds» .exit)) (now («out_values» .exit)) ⌝ }
 {
     let inst = sheet_fields::instruction_at(sheet, pc);

@@ -5,7 +5,7 @@ use mathlib.Core.Logic.{_≢_}
 use mathlib.Core.Bool.{true}
 use mathlib.Core.List.{List}
 use mathlib.Core.Option.{none, some}
-use Prim.Native.Nat.{ℕ, zero, suc, _+_, _*_, _-_, _%_, _^_, _≤_, _<_}
+use Prim.Native.Nat.{ℕ, zero, suc, _+_, _*_, _%_, _^_, _≤_, _<_}
 use native.Mathlib.Omega.{arith}
 use lib.IntN.{negsuc}
 use lib.Dec.{ltb}
@@ -19,17 +19,17 @@ use Rattle.model.specs.declared.FactCell.{FactCell}
 use Rattle.sheet.specs.Measured.{Measured}
 use Rattle.sheet.specs.declared.Sizes.{Sizes}
 use Rattle.sheet.proofs.Counted.{counted}
-use Rattle.fact_row.proofs.Facts.{cell}
+use Rattle.fact_row.proofs.Facts.{factCell}
 
 -- ---- signed numbers
 
-pub from-zero : (bits : ℕ) → bits < 9223372036854775808 → cell 2 bits ≡ cellOf (integer (signed 64 bits))
+pub from-zero : (bits : ℕ) → bits < 9223372036854775808 → factCell 2 bits ≡ cellOf (integer (signed 64 bits))
 unfolding cellOf kind value integer signed
 from-zero bits h = rw (lt-ltb bits 9223372036854775808 h)
 
-pub negative : (bits : ℕ) → 9223372036854775808 ≤ bits → bits < 18446744073709551616 → cell 3 bits ≡ cellOf (integer (signed 64 bits))
+pub negative : (bits : ℕ) → 9223372036854775808 ≤ bits → bits < 18446744073709551616 → factCell 3 bits ≡ cellOf (integer (signed 64 bits))
 unfolding cellOf kind value integer signed
-negative bits h l = rw (le-ltb bits 9223372036854775808 h) (ap (cell 3) (omega arith))
+negative bits h l = rw (le-ltb bits 9223372036854775808 h) (ap (factCell 3) (omega arith))
 
 -- 32 bits of the lower half, and of the upper half with ones above them, are the same number at 64
 pub lower-half : (bits : ℕ) → bits < 2147483648 → signed 64 bits ≡ signed 32 bits

@@ -6,7 +6,7 @@ ghost use Rattle.model.specs.Tables.{factIn, cellOf, factsOf};
 ghost use Rattle.model.specs.Transfer.{integer, loadConst, foldBinary, u64Fact, shl, or, constantRule, constantFact};
 ghost use Rattle.sheet.specs.Measured.{Measured};
 ghost use Rattle.fact_row.specs.Target.{targetCell};
-ghost use Rattle.fact_row.specs.Rows.{Tracked};
+ghost use Rattle.fact_row.specs.Rows.{ReadableRow};
 ghost use lib.Dec.{eqb};
 use crate::COPY;
 use crate::LOAD_CONST;
@@ -105,7 +105,7 @@ pub fn constant_fact_written_to_slot(
     values: &[u64],
     inst: Instruction,
 ) -> FactCell
-    requires { ⌜ Measured (now sheet) sizes × Tracked (now slots) (now kinds) (now values) × (inst .op ≡ 4 → ⊥) ⌝ }
+    requires { ⌜ Measured (now sheet) sizes × ReadableRow (now slots) (now kinds) (now values) × (inst .op ≡ 4 → ⊥) ⌝ }
     ensures { λ r. ⌜ ((slot : ℕ) → targetCell (eqb (inst .a) slot) r ≡ cellOf (constantFact (constantRule (inst .op)) (now (sheet .entry)) inst (now (slots .entry)) (factsOf (now (kinds .entry)) (now (values .entry))) slot)) ⌝ }
 {
     let op = inst.op;

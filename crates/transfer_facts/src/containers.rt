@@ -3,50 +3,21 @@ ghost use mathlib.Core.Path.{_≡_};
 ghost use Prim.Native.Nat.{ℕ, _<_};
 ghost use Rattle.model.specs.Sheet.{instruction};
 ghost use Rattle.model.specs.Tables.{factIn, cellOf, factsOf};
-ghost use Rattle.model.specs.Transfer.{instructionFact, orUnknown, iterInit, iterNext, containerRule, containerFact};
+ghost use Rattle.model.specs.Transfer.{iterInit, iterNext, containerRule, containerFact};
 ghost use Rattle.sheet.specs.Measured.{Measured};
 ghost use Rattle.fact_row.specs.Target.{targetCell};
-ghost use Rattle.fact_row.specs.Rows.{Tracked};
+ghost use Rattle.fact_row.specs.Rows.{ReadableRow};
 ghost use lib.Dec.{eqb};
 use crate::COPY;
 use crate::MAP_ITER_INIT;
-use crate::MAP_NEW;
-use crate::MAP_NEW_NOTE;
-use crate::QUEUE_LAYOUT_NOTE;
-use crate::QUEUE_NEW;
 use fact_row::conflict_cell;
 use fact_row::fact_for_tracked_source;
-use fact_row::map_cell;
-use fact_row::queue_cell;
+use fact_row::instruction_fact;
 use fact_row::unknown_cell;
 use fact_row::wide;
 use model::FactCell;
 use model::Instruction;
 use sheet::Sizes;
-
-// The note's fact: MapNew under a MapNew note, QueueNew under a QueueLayout note; Unknown without one.
-fn instruction_fact(sheet: &[u8], sizes: Sizes, pc: usize, op: u8) -> FactCell
-    requires { ⌜ Measured (now sheet) sizes × (pc < sizes .«code_count») × (op ≡ instruction (now sheet) pc .op) ⌝ }
-    ensures { λ r. ⌜ r ≡ cellOf (orUnknown (instructionFact (now (sheet .entry)) pc)) ⌝ }
-{
-    let kind = sheet_fields::note_kind_at(sheet, sizes, pc);
-    if op == MAP_NEW {
-        if kind == MAP_NEW_NOTE {
-            return map_cell(
-                sheet_fields::note_a_at(sheet, sizes, pc),
-                sheet_fields::note_b_at(sheet, sizes, pc),
-            );
-        }
-        return unknown_cell();
-    }
-    if op == QUEUE_NEW {
-        if kind == QUEUE_LAYOUT_NOTE {
-            return queue_cell(sheet_fields::note_a_at(sheet, sizes, pc));
-        }
-        return unknown_cell();
-    }
-    unknown_cell()
-}
 
 // MapIterInit's fact from b's: a map or an iterator gives the iterator, Conflict stays, a queue gives Unknown.
 fn iter_init_cell(cell: FactCell) -> FactCell
@@ -89,7 +60,7 @@ pub fn container_fact_written_to_slot(
     pc: usize,
     inst: Instruction,
 ) -> FactCell
-    requires { ⌜ Measured (now sheet) sizes × Tracked (now slots) (now kinds) (now values) × (pc < sizes .«code_count») × (inst ≡ instruction (now sheet) pc) ⌝ }
+    requires { ⌜ Measured (now sheet) sizes × ReadableRow (now slots) (now kinds) (now values) × (pc < sizes .«code_count») × (inst ≡ instruction (now sheet) pc) ⌝ }
     requires { ⌜ (inst .op ≡ 4 → ⊥) × (inst .op ≡ 95 → ⊥) ⌝ }
     ensures { λ r. ⌜ ((slot : ℕ) → targetCell (eqb (inst .a) slot) r ≡ cellOf (containerFact (containerRule (inst .op)) (now (sheet .entry)) pc (now (slots .entry)) (factsOf (now (kinds .entry)) (now (values .entry))) slot)) ⌝ }
 {

@@ -6,7 +6,7 @@ ghost use Rattle.model.specs.Tables.{factsOf};
 ghost use Rattle.model.specs.declared.AnalysisKind.the-variants.{Container};
 ghost use Rattle.sheet.specs.Measured.{Measured};
 ghost use Rattle.transfer_facts.specs.Effect.{effectCell, effectOf};
-ghost use Rattle.fact_row.specs.Rows.{Tracked};
+ghost use Rattle.fact_row.specs.Rows.{ReadableRow};
 use crate::Effect;
 use crate::constants::constant_fact_written_to_slot;
 use crate::containers::container_fact_written_to_slot;
@@ -35,7 +35,7 @@ fn container_effect(
     pc: usize,
     inst: Instruction,
 ) -> Effect
-    requires { ⌜ Measured (now sheet) sizes × Tracked (now slots) (now kinds) (now values) × (pc < sizes .«code_count») × (inst ≡ instruction (now sheet) pc) ⌝ }
+    requires { ⌜ Measured (now sheet) sizes × ReadableRow (now slots) (now kinds) (now values) × (pc < sizes .«code_count») × (inst ≡ instruction (now sheet) pc) ⌝ }
     requires { ⌜ (inst .op ≡ 4 → ⊥) ⌝ }
     ensures { λ r. ⌜ r ≡ effectOf Container (now (sheet .entry)) pc (now (slots .entry)) (factsOf (now (kinds .entry)) (now (values .entry))) ⌝ }
 {
@@ -65,7 +65,7 @@ pub fn effect_of(
     pc: usize,
     inst: Instruction,
 ) -> Effect
-    requires { ⌜ Measured (now sheet) sizes × Tracked (now slots) (now kinds) (now values) × (pc < sizes .«code_count») × (inst ≡ instruction (now sheet) pc) ⌝ }
+    requires { ⌜ Measured (now sheet) sizes × ReadableRow (now slots) (now kinds) (now values) × (pc < sizes .«code_count») × (inst ≡ instruction (now sheet) pc) ⌝ }
     ensures { λ r. ⌜ r ≡ effectOf which (now (sheet .entry)) pc (now (slots .entry)) (factsOf (now (kinds .entry)) (now (values .entry))) ⌝ }
 {
     if inst.op == COPY_N {
@@ -107,7 +107,7 @@ pub fn effect_on_slot(
     values: &[u64],
     slot: u16,
 ) -> FactCell
-    requires { ⌜ Tracked (now slots) (now kinds) (now values) ⌝ }
+    requires { ⌜ ReadableRow (now slots) (now kinds) (now values) ⌝ }
     ensures { λ r. ⌜ r ≡ effectCell effect (now (slots .entry)) (factsOf (now (kinds .entry)) (now (values .entry))) slot ⌝ }
 {
     match effect {

@@ -5,7 +5,7 @@ ghost use lib.Dec.{eqb};
 ghost use Rattle.model.specs.Tables.{cellOf, factsOf};
 ghost use Rattle.model.specs.Transfer.{indexRule, indexFact};
 ghost use Rattle.fact_row.specs.Target.{targetCell};
-ghost use Rattle.fact_row.specs.Rows.{Tracked};
+ghost use Rattle.fact_row.specs.Rows.{ReadableRow};
 use fact_row::fact_for_tracked_source;
 use fact_row::unknown_cell;
 use fact_row::wide;
@@ -22,7 +22,7 @@ pub fn index_check_fact_written_to_slot(
     values: &[u64],
     inst: Instruction,
 ) -> FactCell
-    requires { ⌜ Tracked (now slots) (now kinds) (now values) × (inst .op ≡ 4 → ⊥) ⌝ }
+    requires { ⌜ ReadableRow (now slots) (now kinds) (now values) × (inst .op ≡ 4 → ⊥) ⌝ }
     ensures { λ r. ⌜ ((slot : ℕ) → targetCell (eqb (inst .a) slot) r ≡ cellOf (indexFact (indexRule (inst .op)) inst (now (slots .entry)) (factsOf (now (kinds .entry)) (now (values .entry))) slot)) ⌝ }
 {
     if inst.op == COPY {

@@ -24,16 +24,7 @@ const OR: u8 = 49;
 
 const SHL: u8 = 53;
 
-const MAP_NEW: u8 = 89;
-
 const MAP_ITER_INIT: u8 = 94;
-
-const QUEUE_NEW: u8 = 96;
-
-// "1 MapNew, 2 QueueLayout": kinds of notes
-const MAP_NEW_NOTE: u8 = 1;
-
-const QUEUE_LAYOUT_NOTE: u8 = 2;
 
 // What the slots that an instruction writes become, as far as it can be found before any slot is asked: the slots of a range become one
 // fact, or the facts of as many slots from another on; "any other written slot becomes Unknown".

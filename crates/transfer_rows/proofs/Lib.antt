@@ -1,5 +1,3 @@
 -- The laws of this crate.
 pub mod Writing
 pub mod Ranging
-pub mod Named
-pub mod Putting

@@ -1,28 +1,27 @@
 -- A range of ascending slots, written from its first tracked slot on, and several ranges one after the other.
 -- Assumes nothing.
 use mathlib.Core.Path.{_≡_, refl, sym, ap, _∙_}
-use mathlib.Core.Bool.{Bool, true, false, _||_}
+use mathlib.Core.Bool.{Bool, true, false}
 use mathlib.Core.List.{List}
 use mathlib.Core.Logic.{_⊎_, inl, inr}
-use Prim.Native.Nat.{ℕ, zero, suc, _+_, _-_, _≤_, _<_}
+use Prim.Native.Nat.{ℕ, _+_, _-_, _≤_, _<_}
 use native.Mathlib.Nat.{eq-or-lt-of-le}
 use native.Mathlib.Numerals.{add-one}
 use native.Mathlib.Omega.{arith}
 use lib.ListN.{length, getD, set}
 use borrow.Author.Tests.{lt-ltb, le-ltb}
 use Rattle.model.specs.Lookup.{ascends}
-use Rattle.model.specs.Sheet.{rangeStart, rangeLength}
-use Rattle.model.specs.Written.{inRange, inRanges}
+use Rattle.model.specs.Written.{inRange}
 use Rattle.model.specs.declared.FactCell.{FactCell}
+use Rattle.transfer_written.specs.Ranges.{holdsSlot, slotRangeCount, slotRange}
+use Rattle.transfer_written.specs.declared.SlotRange.{SlotRange}
+use Rattle.transfer_written.specs.declared.Written.{Written}
 use Rattle.transfer_written.proofs.InRange.{before, from-start}
+use Rattle.transfer_written.proofs.InRanges.{among, among-all}
 use Rattle.fact_row.specs.Rows.{Bound}
 use Rattle.fact_row.proofs.Ascending.{ascends-lt}
-use Rattle.transfer_rows.specs.Slots.{rangeCount, rangeOf, names}
-use Rattle.transfer_rows.specs.declared.SlotRange.{SlotRange}
-use Rattle.transfer_rows.specs.declared.Written.{Written}
-use Rattle.transfer_rows.specs.declared.Written.the-variants.{Span, Ranges}
 use Rattle.transfer_rows.specs.Wrote.{Wrote}
-use Rattle.transfer_rows.proofs.Writing.{Partly, partly-start, partly-more, partly-all, wrote, wrote-none, wrote-both, wrote-as}
+use Rattle.transfer_rows.proofs.Writing.{FrontWritten, front-written-none, front-written-more, front-written-all, wrote, wrote-none, wrote-both, wrote-as}
 
 -- ---- one range
 
@@ -34,8 +33,8 @@ module _ (slots : List ℕ) (start count : ℕ) (cell : ℕ → FactCell) (kinds
     pub kinds-long : length kinds′ ≡ length slots
     pub values-long : length values′ ≡ length slots
     pub from : (k : ℕ) → j ≤ k → k < length slots → start ≤ getD slots k 0
-    pub kinds-partly : Partly (λ k. inRange (getD slots k 0) start count) (λ k. cell (getD slots k 0) .kind) kinds kinds′ j
-    pub values-partly : Partly (λ k. inRange (getD slots k 0) start count) (λ k. cell (getD slots k 0) .value) values values′ j
+    pub kinds-partly : FrontWritten (λ k. inRange (getD slots k 0) start count) (λ k. cell (getD slots k 0) .kind) kinds kinds′ j
+    pub values-partly : FrontWritten (λ k. inRange (getD slots k 0) start count) (λ k. cell (getD slots k 0) .value) values values′ j
 
   pub writing-start : (j : ℕ) → length kinds ≡ length slots → length values ≡ length slots → Bound slots start j → Writing kinds values j
   writing-start j nk nv b = record {
@@ -44,8 +43,8 @@ module _ (slots : List ℕ) (start count : ℕ) (cell : ℕ → FactCell) (kinds
     kinds-long = nk;
     values-long = nv;
     from = b .above;
-    kinds-partly = partly-start _ _ kinds j (λ k l. sym (before (getD slots k 0) start count (b .below k l)));
-    values-partly = partly-start _ _ values j (λ k l. sym (before (getD slots k 0) start count (b .below k l)));
+    kinds-partly = front-written-none _ _ kinds j (λ k l. sym (before (getD slots k 0) start count (b .below k l)));
+    values-partly = front-written-none _ _ values j (λ k l. sym (before (getD slots k 0) start count (b .below k l)));
   }
 
   module _ {kinds′ values′ : List ℕ} {j : ℕ} (w : Writing kinds′ values′ j) where
@@ -53,8 +52,8 @@ module _ (slots : List ℕ) (start count : ℕ) (cell : ℕ → FactCell) (kinds
         → Writing (set kinds′ j (r .kind)) (set values′ j (r .value)) (j + 1)
     writing-more {r} h l e =
         let t : inRange (getD slots j 0) start count ≡ true = sym (from-start (getD slots j 0) start count (w .from j (omega arith) h)) ∙ lt-ltb _ _ l in
-        let pk = partly-more _ _ kinds (w .kinds-partly) (omega (arith, w .long)) t (ap (λ (c : FactCell). c .kind) e) in
-        let pv = partly-more _ _ values (w .values-partly) (omega (arith, w .long)) t (ap (λ (c : FactCell). c .value) e) in
+        let pk = front-written-more _ _ kinds (w .kinds-partly) (omega (arith, w .long)) t (ap (λ (c : FactCell). c .kind) e) in
+        let pv = front-written-more _ _ values (w .values-partly) (omega (arith, w .long)) t (ap (λ (c : FactCell). c .value) e) in
         record {
           within = omega arith;
           long = w .long;
@@ -70,8 +69,8 @@ module _ (slots : List ℕ) (start count : ℕ) (cell : ℕ → FactCell) (kinds
         wrote slots (λ slot. inRange slot start count) cell kinds values (w .long .0) (w .long .1) kinds′ values′
         (w .kinds-partly .long)
         (w .values-partly .long)
-        (partly-all _ _ kinds (w .kinds-partly) (λ k m u. h k m (omega (arith, w .long))))
-        (partly-all _ _ values (w .values-partly) (λ k m u. h k m (omega (arith, w .long))))
+        (front-written-all _ _ kinds (w .kinds-partly) (λ k m u. h k m (omega (arith, w .long))))
+        (front-written-all _ _ values (w .values-partly) (λ k m u. h k m (omega (arith, w .long))))
 
     pub written-all : length slots ≤ j → Wrote slots (λ slot. inRange slot start count) cell kinds values kinds′ values′
     written-all h = done (λ k m u. absurd (omega arith))
@@ -108,49 +107,9 @@ last-below slots start asc h k l = let m : k ≤ length slots - 1 = omega arith 
 
 -- ---- several
 
-assoc : (a b c : Bool) → (a || (b || c)) ≡ ((a || b) || c)
-assoc true b c = refl
-assoc false b c = refl
-
-or-false : (a : Bool) → (a || false) ≡ a
-or-false true = refl
-or-false false = refl
-
-none-in-ranges : (sheet : List ℕ) (slot first : ℕ) → inRanges sheet slot first 0 ≡ false
-unfolding inRanges
-none-in-ranges sheet slot first = refl
-
-ranges-suc : (sheet : List ℕ) (slot first i : ℕ)
-    → inRanges sheet slot first (suc i) ≡ inRanges sheet slot first i || inRange slot (rangeStart sheet (first + i)) (rangeLength sheet (first + i))
-unfolding inRanges
-ranges-suc sheet slot first zero = let e : first + 0 ≡ first = omega arith in rw e (or-false _)
-ranges-suc sheet slot first (suc i) =
-    let e : first + suc i ≡ suc first + i = omega arith in
-    rw e
-    (ap (λ (t : Bool). inRange slot (rangeStart sheet first) (rangeLength sheet first) || t) (ranges-suc sheet slot (suc first) i)
-    ∙ assoc
-    (inRange slot (rangeStart sheet first) (rangeLength sheet first))
-    (inRanges sheet slot (suc first) i)
-    (inRange slot (rangeStart sheet (suc first + i)) (rangeLength sheet (suc first + i))))
-
--- whether a slot is in one of the first i ranges
-unfoldable pub among : Written → List ℕ → ℕ → ℕ → Bool
-among w sheet zero slot = false
-among w sheet (suc i) slot = among w sheet i slot || inRange slot (rangeOf w sheet i .start) (rangeOf w sheet i .count)
-
--- it is in one of all
-among-all : (w : Written) (sheet : List ℕ) (slot : ℕ) → among w sheet (rangeCount w) slot ≡ names w sheet slot
-unfolding among rangeCount rangeOf names
-among-all (Span start count) sheet slot = refl
-among-all (Ranges first count) sheet slot = go count
-  where
-    go : (i : ℕ) → among (Ranges first count) sheet i slot ≡ inRanges sheet slot first i
-    go zero = sym (none-in-ranges sheet slot first)
-    go (suc i) = ap (λ (t : Bool). t || inRange slot (rangeStart sheet (first + i)) (rangeLength sheet (first + i))) (go i) ∙ sym (ranges-suc sheet slot first i)
-
 -- i of the ranges are written
 pub record Ranging (w : Written) (sheet slots : List ℕ) (cell : ℕ → FactCell) (kinds values kinds′ values′ : List ℕ) (i : ℕ) : Type 0 where
-  pub within : i ≤ rangeCount w
+  pub within : i ≤ slotRangeCount w
   pub kinds-long : length kinds ≡ length slots
   pub is : Wrote slots (among w sheet i) cell kinds values kinds′ values′
 
@@ -164,7 +123,7 @@ module _ (w : Written) (sheet slots : List ℕ) (cell : ℕ → FactCell) (kinds
   }
 
   module _ {kinds′ values′ : List ℕ} {i : ℕ} (r : Ranging w sheet slots cell kinds values kinds′ values′ i) where
-    pub ranging-more : {kinds″ values″ : List ℕ} {range : SlotRange} → i < rangeCount w → range ≡ rangeOf w sheet i
+    pub ranging-more : {kinds″ values″ : List ℕ} {range : SlotRange} → i < slotRangeCount w → range ≡ slotRange w sheet i
         → Wrote slots (λ slot. inRange slot (range .start) (range .count)) cell kinds′ values′ kinds″ values″ → Ranging w sheet slots cell kinds values kinds″ values″ (i + 1)
     unfolding among
     ranging-more h e u = record {
@@ -173,5 +132,5 @@ module _ (w : Written) (sheet slots : List ℕ) (cell : ℕ → FactCell) (kinds
       is = wrote-both (among w sheet (i + 1)) (λ slot. rw (add-one i, e)) (r .is) u;
     }
 
-    pub ranging-all : rangeCount w ≤ i → Wrote slots (names w sheet) cell kinds values kinds′ values′
-    ranging-all h = let e : i ≡ rangeCount w = omega (arith, r .within) in wrote-as (λ slot. rw e (among-all w sheet slot)) (r .is)
+    pub ranging-all : slotRangeCount w ≤ i → Wrote slots (holdsSlot w sheet) cell kinds values kinds′ values′
+    ranging-all h = let e : i ≡ slotRangeCount w = omega (arith, r .within) in wrote-as (λ slot. rw e (among-all w sheet slot)) (r .is)

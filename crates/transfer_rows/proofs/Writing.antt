@@ -21,17 +21,17 @@ use Rattle.transfer_rows.specs.Wrote.{Wrote}
 -- ---- places written from the front on, where the test holds
 
 module _ (touched : ℕ → Bool) (new : ℕ → ℕ) (old : List ℕ) where
-  pub record Partly (out : List ℕ) (j : ℕ) : Type 0 where
+  pub record FrontWritten (out : List ℕ) (j : ℕ) : Type 0 where
     pub long : length out ≡ length old
     pub done : (k : ℕ) → k < j → getD out k 0 ≡ cond (touched k) (new k) (getD old k 0)
     pub rest : (k : ℕ) → j ≤ k → getD out k 0 ≡ getD old k 0
 
-  pub partly-start : (j : ℕ) → ((k : ℕ) → k < j → touched k ≡ false) → Partly old j
-  partly-start j h = record { long = refl; done = λ k l. rw (h k l); rest = λ k l. refl }
+  pub front-written-none : (j : ℕ) → ((k : ℕ) → k < j → touched k ≡ false) → FrontWritten old j
+  front-written-none j h = record { long = refl; done = λ k l. rw (h k l); rest = λ k l. refl }
 
-  module _ {out : List ℕ} {j : ℕ} (p : Partly out j) where
-    pub partly-more : {v : ℕ} → j < length old → touched j ≡ true → v ≡ new j → Partly (set out j v) (j + 1)
-    partly-more {v} h t e = record {
+  module _ {out : List ℕ} {j : ℕ} (p : FrontWritten out j) where
+    pub front-written-more : {v : ℕ} → j < length old → touched j ≡ true → v ≡ new j → FrontWritten (set out j v) (j + 1)
+    front-written-more {v} h t e = record {
       long = length-set out j v ∙ p .long;
       done = λ k l. let m : k ≤ j = omega arith in go k (eq-or-lt-of-le m);
       rest = λ k l. getD-set-other out j k v 0 (λ q. omega arith) ∙ p .rest k (omega arith);
@@ -41,8 +41,8 @@ module _ (touched : ℕ → Bool) (new : ℕ → ℕ) (old : List ℕ) where
         go k (inl q) = rw (q, t) (getD-set-same out j v 0 (omega (arith, p .long)) ∙ e)
         go k (inr q) = getD-set-other out j k v 0 (λ s. omega arith) ∙ p .done k q
 
-    pub partly-all : ((k : ℕ) → j ≤ k → k < length old → touched k ≡ false) → (k : ℕ) → k < length old → getD out k 0 ≡ cond (touched k) (new k) (getD old k 0)
-    partly-all h k l = go (ltb k j) refl
+    pub front-written-all : ((k : ℕ) → j ≤ k → k < length old → touched k ≡ false) → (k : ℕ) → k < length old → getD out k 0 ≡ cond (touched k) (new k) (getD old k 0)
+    front-written-all h k l = go (ltb k j) refl
       where
         go : (t : Bool) → ltb k j ≡ t → getD out k 0 ≡ cond (touched k) (new k) (getD old k 0)
         go true q = p .done k (ltb-true k j q)

@@ -1,59 +1,22 @@
 // Facts written into a row, slot by slot, from the row before.
 ghost use mathlib.Core.Path.{_≡_};
-ghost use Prim.Native.Nat.{_-_, _<_, _≤_};
+ghost use Prim.Native.Nat.{_-_, _≤_};
 ghost use lib.ListN.{length, getD};
 ghost use Rattle.model.specs.Tables.{factsOf};
 ghost use Rattle.model.specs.Written.{inRange};
 ghost use Rattle.sheet.specs.Measured.{Measured};
-ghost use Rattle.model.specs.Lookup.{ascends};
-ghost use mathlib.Core.Bool.{true};
-ghost use lib.Dec.{eqb};
 ghost use Rattle.transfer_facts.specs.Effect.{effectCell};
-ghost use Rattle.fact_row.specs.Rows.{Tracked};
+ghost use Rattle.fact_row.specs.Rows.{ReadableRow};
+ghost use Rattle.transfer_written.specs.Ranges.{holdsSlot, rangesEnd};
 ghost use Rattle.transfer_rows.specs.Wrote.{Wrote};
-ghost use Rattle.transfer_rows.specs.Slots.{rangeCount, rangeOf, names, lastRange};
 use fact_row::lower_bound;
 use fact_row::wide;
-use model::FactCell;
 use sheet::Sizes;
 use transfer_facts::Effect;
 use transfer_facts::effect_on_slot;
-
-// The slots that an instruction writes: those of one range, or of count ranges of the sheet from the range first on.
-pub enum Written {
-    Span { start: u16, count: u64 },
-    Ranges { first: usize, count: usize },
-}
-
-// One range of slots.
-struct SlotRange {
-    start: u16,
-    count: u64,
-}
-
-// How many ranges they are.
-fn range_count(written: Written) -> usize
-    ensures { λ r. ⌜ r ≡ rangeCount written ⌝ }
-{
-    match written {
-        Written::Span { start: _, count: _ } => 1,
-        Written::Ranges { first: _, count } => count,
-    }
-}
-
-// The i-th of them.
-fn range_of(written: Written, sheet: &[u8], sizes: Sizes, i: usize) -> SlotRange
-    requires { ⌜ Measured (now sheet) sizes × (lastRange written ≤ sizes .«range_count») × (i < rangeCount written) ⌝ }
-    ensures { λ r. ⌜ r ≡ rangeOf written (now (sheet .entry)) i ⌝ }
-{
-    match written {
-        Written::Span { start, count } => SlotRange { start, count },
-        Written::Ranges { first, count: _ } => SlotRange {
-            start: sheet_fields::range_start_at(sheet, sizes, first + i),
-            count: sheet_fields::range_length_at(sheet, sizes, first + i) as u64,
-        },
-    }
-}
+use transfer_written::Written;
+use transfer_written::range_count;
+use transfer_written::range_of;
 
 // The tracked slots from start up to but not including start + count become what the effect makes of them. last is the last of the slots.
 fn write_range(
@@ -67,7 +30,7 @@ fn write_range(
     out_kinds: &mut [u8],
     out_values: &mut [u64],
 )
-    requires { ⌜ Tracked (now slots) (now kinds) (now values) × (length (now «out_kinds») ≡ length (now slots)) × (length (now «out_values») ≡ length (now slots)) × (last ≡ getD (now slots) (length (now slots) - 1) 0) ⌝ }
+    requires { ⌜ ReadableRow (now slots) (now kinds) (now values) × (length (now «out_kinds») ≡ length (now slots)) × (length (now «out_values») ≡ length (now slots)) × (last ≡ getD (now slots) (length (now slots) - 1) 0) ⌝ }
     ensures { λ r. ⌜ Wrote (now (slots .entry)) (λ slot. inRange slot start count) (effectCell effect (now (slots .entry)) (factsOf (now (kinds .entry)) (now (values .entry)))) (now («out_kinds» .entry)) (now («out_values» .entry)) (now («out_kinds» .exit)) (now («out_values» .exit)) ⌝ }
 {
     // most ranges that a call writes lie beyond what is tracked
@@ -99,9 +62,9 @@ pub fn write_slots(
     out_kinds: &mut [u8],
     out_values: &mut [u64],
 )
-    requires { ⌜ Measured (now sheet) sizes × (lastRange written ≤ sizes .«range_count») ⌝ }
-    requires { ⌜ Tracked (now slots) (now kinds) (now values) × (length (now «out_kinds») ≡ length (now slots)) × (length (now «out_values») ≡ length (now slots)) ⌝ }
-    ensures { λ r. ⌜ Wrote (now (slots .entry)) (names written (now (sheet .entry))) (effectCell effect (now (slots .entry)) (factsOf (now (kinds .entry)) (now (values .entry)))) (now («out_kinds» .entry)) (now («out_values» .entry)) (now («out_kinds» .exit)) (now («out_values» .exit)) ⌝ }
+    requires { ⌜ Measured (now sheet) sizes × (rangesEnd written ≤ sizes .«range_count») ⌝ }
+    requires { ⌜ ReadableRow (now slots) (now kinds) (now values) × (length (now «out_kinds») ≡ length (now slots)) × (length (now «out_values») ≡ length (now slots)) ⌝ }
+    ensures { λ r. ⌜ Wrote (now (slots .entry)) (holdsSlot written (now (sheet .entry))) (effectCell effect (now (slots .entry)) (factsOf (now (kinds .entry)) (now (values .entry)))) (now («out_kinds» .entry)) (now («out_values» .entry)) (now («out_kinds» .exit)) (now («out_values» .exit)) ⌝ }
 {
     let len = slots.len();
     if len == 0 {
@@ -125,20 +88,4 @@ pub fn write_slots(
         );
         i += 1;
     }
-}
-
-// One slot's fact is set, if the slot is tracked.
-pub fn put_fact(slots: &[u16], slot: usize, cell: FactCell, kinds: &mut [u8], values: &mut [u64])
-    requires { ⌜ (ascends (now slots) ≡ true) × (length (now kinds) ≡ length (now slots)) × (length (now values) ≡ length (now slots)) ⌝ }
-    ensures { λ r. ⌜ Wrote (now (slots .entry)) (λ t. eqb t slot) (λ t. cell) (now (kinds .entry)) (now (values .entry)) (now (kinds .exit)) (now (values .exit)) ⌝ }
-{
-    let at = lower_bound(slots, slot);
-    if slots.len() <= at {
-        return;
-    }
-    if wide(slots[at]) != slot {
-        return;
-    }
-    kinds[at] = cell.kind;
-    values[at] = cell.value;
 }

@@ -33,8 +33,8 @@ enough slot start len (suc elem) h k =
     ∙ sym (lt-ltb slot (start + len * suc elem) (omega (arith, mul-le-mul-left {m = 1} {n = suc elem} len (omega arith)))))
 
 -- and so as far as all of them
-pub span-reaches : {count : ℕ} (len elem : ℕ) → count ≡ min len 65536 * elem → (slot start : ℕ) → slot < 65536 → inRange slot start count ≡ inRange slot start (len * elem)
-span-reaches len elem e slot start h = rw e (by (ltb len 65536) refl)
+pub span-reaches : (len elem slot start : ℕ) → slot < 65536 → inRange slot start (min len 65536 * elem) ≡ inRange slot start (len * elem)
+span-reaches len elem slot start h = by (ltb len 65536) refl
   where
     by : (t : Bool) → ltb len 65536 ≡ t → inRange slot start (min len 65536 * elem) ≡ inRange slot start (len * elem)
     by true q = let few : min len 65536 ≡ len = omega (arith, ltb-true len 65536 q) in rw few

@@ -1,7 +1,10 @@
--- When a slot is in a range, and in one of several
+-- When a slot is in a range
 pub mod InRange
-pub mod Several
+-- and in one of the written ones
+pub mod InRanges
 -- The elements of SlotSetN, by its note
 pub mod Notes
 -- What an instruction writes, by its opcode
-pub mod Rules
+pub mod Spans
+-- They are the slots that `model` says
+pub mod Exact

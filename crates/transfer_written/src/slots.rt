@@ -1,29 +1,50 @@
 // What an instruction writes in the constant and container analyses.
 ghost use mathlib.Core.Path.{_≡_};
 ghost use Prim.Native.Nat.{_<_};
-ghost use Rattle.model.specs.Sheet.{instruction, codeCount, firstRange, erred};
-ghost use Rattle.model.specs.Written.{rangesWrite, written};
+ghost use Rattle.model.specs.Sheet.{instruction, codeCount, firstRange};
+ghost use Rattle.model.specs.Written.{written};
 ghost use Rattle.memory.specs.Front.{Holds};
 ghost use Rattle.sheet.specs.Measured.{Accepted};
+ghost use Rattle.transfer_written.specs.Spans.{spans};
+use crate::Written;
 use crate::elements::has_elements;
-use crate::holds::in_ranges;
+use crate::ranges::holds;
+use crate::ranges::ranges_written;
 use model::Instruction;
 use sheet::Sizes;
 
-// "For all other opcodes the ranges decide .., and an erring visitor writes all."
-fn ranges_write(sheet: &[u8], sizes: Sizes, firsts: &[u16], pc: usize, slot: u16) -> bool
+// "SlotSet writes every slot from a up. SlotSetN does so with a SlotLayout note whose layout is not empty, and else writes nothing."
+pub fn instruction_writes(
+    sheet: &[u8],
+    sizes: Sizes,
+    firsts: &[u16],
+    pc: usize,
+    inst: Instruction,
+) -> Written
     requires { ⌜ Accepted (now sheet) sizes × Holds (firstRange (now sheet)) (codeCount (now sheet)) (now firsts) × (pc < sizes .«code_count») ⌝ }
-    ensures { λ r. ⌜ r ≡ rangesWrite (erred (now (sheet .entry)) pc) (now (sheet .entry)) pc slot ⌝ }
+    requires { ⌜ inst ≡ instruction (now sheet) pc ⌝ }
+    ensures { λ r. ⌜ r ≡ spans (now (sheet .entry)) pc ⌝ }
 {
-    let count = sheet_fields::write_count_at(sheet, sizes, pc);
-    if count == 65535 {
-        return true;
+    let op = inst.op;
+    if op == crate::SLOT_SET {
+        return Written::Span {
+            start: inst.a,
+            count: 65536,
+        };
     }
-    in_ranges(sheet, sizes, slot, firsts[pc] as usize, count as usize)
+    if op == crate::SLOT_SET_N {
+        if has_elements(sheet, sizes, pc) {
+            return Written::Span {
+                start: inst.a,
+                count: 65536,
+            };
+        }
+        return Written::Span { start: 0, count: 0 };
+    }
+    ranges_written(sheet, sizes, firsts, pc)
 }
 
-// "SlotSet writes every slot from a up. SlotSetN does so with a SlotLayout note whose layout is not empty, and else writes nothing."
-// `firsts` holds the number of each instruction's first range.
+// `instruction_writes_slot`: whether a slot is among those that the run finds.
 pub fn instruction_writes_slot(
     sheet: &[u8],
     sizes: Sizes,
@@ -36,15 +57,6 @@ pub fn instruction_writes_slot(
     requires { ⌜ inst ≡ instruction (now sheet) pc ⌝ }
     ensures { λ r. ⌜ r ≡ written (now (sheet .entry)) pc slot ⌝ }
 {
-    let op = inst.op;
-    if op == crate::SLOT_SET {
-        return inst.a <= slot;
-    }
-    if op == crate::SLOT_SET_N {
-        if has_elements(sheet, sizes, pc) {
-            return inst.a <= slot;
-        }
-        return false;
-    }
-    ranges_write(sheet, sizes, firsts, pc, slot)
+    let found = instruction_writes(sheet, sizes, firsts, pc, inst);
+    holds(sheet, sizes, found, slot)
 }

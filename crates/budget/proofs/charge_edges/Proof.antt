@@ -5,7 +5,7 @@ use Prim.Native.Nat.{_/_, _%_}
 use native.Mathlib.Omega.{arith}
 use borrow.Author.Needs.{needs}
 use Rattle.budget.specs.Metering.{asSpent}
-use Rattle.budget.proofs.Row.{covered, refused}
+use Rattle.budget.proofs.Row.{edges-covered, edges-refused}
 use Rattle.budget.proofs.charge_edges.Statement.{statement}
 use Rattle.budget.proofs.charge_edges.Tie as tie
 
@@ -17,13 +17,13 @@ sub-t10 c = search needs
 
 returns : tie.Need-returns
 unfolding asSpent
-returns c stage = sym (covered stage (c .before .args .resources .work) (c .before .args .count) (c .before .args .resources .bytes) (omega arith))
+returns c stage = sym (edges-covered stage (c .before .args .resources .work) (c .before .args .count) (c .before .args .resources .bytes) (omega arith))
 
 returns-2 : tie.Need-returns-2
 unfolding asSpent
 returns-2 c stage =
     sym
-    (refused
+    (edges-refused
     stage
     (c .before .args .resources .work)
     (c .before .args .count)

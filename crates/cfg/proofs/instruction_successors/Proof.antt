@@ -5,7 +5,7 @@ use mathlib.Core.List.{[]}
 use borrow.Author.Needs.{needs}
 use mir.Syntax.{w16, w32}
 use Rattle.model.specs.Successors.{pushFallthrough, asRecord}
-use Rattle.cfg.proofs.Going.{room, falls, leaves, jumps, branches, loops}
+use Rattle.cfg.proofs.Going.{second-fits, falls, leaves-none, jumps, branches, loops}
 use Rattle.cfg.proofs.instruction_successors.Statement.{statement}
 use Rattle.cfg.proofs.instruction_successors.Tie as tie
 
@@ -41,7 +41,7 @@ jump-target-i64-requires-2 c κs = search needs
 
 push-valid-successor-requires-2 : tie.Need-push-valid-successor-requires-2
 unfolding asRecord
-push-valid-successor-requires-2 c κs = room (c .before .before .before .before .before .before .args .n) (c .before .before .before .before .before .before .args .pc) (c .before .before .before .before .before .push-fallthrough-successor .result) (c .before .before .before .before .before .push-fallthrough-successor .ensures [] refl)
+push-valid-successor-requires-2 c κs = second-fits (c .before .before .before .before .before .before .args .n) (c .before .before .before .before .before .before .args .pc) (c .before .before .before .before .before .push-fallthrough-successor .result) (c .before .before .before .before .before .push-fallthrough-successor .ensures [] refl)
 
 enum-told-4 : tie.Need-enum-told-4
 enum-told-4 c = search needs
@@ -54,7 +54,7 @@ forloop-target-i64-requires c κs = search needs
 
 push-valid-successor-requires-3 : tie.Need-push-valid-successor-requires-3
 unfolding asRecord
-push-valid-successor-requires-3 c κs = room (c .before .before .before .before .before .before .args .n) (c .before .before .before .before .before .before .args .pc) (c .before .before .before .before .before .push-fallthrough-successor .result) (c .before .before .before .before .before .push-fallthrough-successor .ensures [] refl)
+push-valid-successor-requires-3 c κs = second-fits (c .before .before .before .before .before .before .args .n) (c .before .before .before .before .before .before .args .pc) (c .before .before .before .before .before .push-fallthrough-successor .result) (c .before .before .before .before .before .push-fallthrough-successor .ensures [] refl)
 
 enum-told-5 : tie.Need-enum-told-5
 enum-told-5 c = search needs
@@ -77,7 +77,7 @@ returns-4 c = loops (c .before .before .before .before .before .before .before .
 
 returns-5 : tie.Need-returns-5
 unfolding asRecord
-returns-5 c = leaves (c .before .before .before .before .args .n) (c .before .before .before .before .args .pc) (c .before .before .before .before .args .inst) (c .before .before .flow-of .result) (c .before .before .flow-of .ensures) (asRecord []) (c .enum-told5 .given .1) refl
+returns-5 c = leaves-none (c .before .before .before .before .args .n) (c .before .before .before .before .args .pc) (c .before .before .before .before .args .inst) (c .before .before .flow-of .result) (c .before .before .flow-of .ensures) (asRecord []) (c .enum-told5 .given .1) refl
 
 pub instruction-successors-spec : {M : Type 1} → statement M
 instruction-successors-spec =

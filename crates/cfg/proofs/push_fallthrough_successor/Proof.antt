@@ -7,7 +7,7 @@ use borrow.Author.Tests.{le-ltb}
 use Prim.Native.Nat.{_+_}
 use native.Mathlib.Omega.{arith}
 use Rattle.model.specs.Successors.{pushFallthrough, asRecord}
-use Rattle.cfg.proofs.Pushes.{past-end, inside}
+use Rattle.cfg.proofs.Pushes.{past-end, valid-inside}
 use Rattle.cfg.proofs.push_fallthrough_successor.Statement.{statement}
 use Rattle.cfg.proofs.push_fallthrough_successor.Tie as tie
 
@@ -25,7 +25,7 @@ returns-2 : tie.Need-returns-2
 unfolding pushFallthrough
 returns-2 c targets e =
     c .push .ensures targets e
-    ∙ sym (ap asRecord (inside (c .before .before .args .n) targets (pos (c .before .before .args .pc + 1)) (le-ltb (c .before .before .args .pc + 1) 0 (omega arith)) (c .before .if1 .left)))
+    ∙ sym (ap asRecord (valid-inside (c .before .before .args .n) targets (pos (c .before .before .args .pc + 1)) (le-ltb (c .before .before .args .pc + 1) 0 (omega arith)) (c .before .if1 .left)))
 
 pub push-fallthrough-successor-spec : {M : Type 1} → statement M
 push-fallthrough-successor-spec = tie.close (tie.spec add-next returns push-requires returns-2)

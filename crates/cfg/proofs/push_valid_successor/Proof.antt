@@ -6,7 +6,8 @@ use mir.Syntax.{w64}
 use mir.Val.{toZ, ofZ}
 use mir.ValLaws.{toZ-ofZ}
 use Rattle.model.specs.Successors.{asRecord}
-use Rattle.cfg.proofs.Pushes.{below-zero, past-end, inside, natural}
+use Rattle.model.proofs.Signed.{natural}
+use Rattle.cfg.proofs.Pushes.{below-zero, past-end, valid-inside}
 use Rattle.cfg.proofs.push_valid_successor.Statement.{statement}
 use Rattle.cfg.proofs.push_valid_successor.Tie as tie
 
@@ -40,7 +41,7 @@ returns-3 c targets e =
     rw back at (c .push .ensures targets e)
     ∙ sym
     (ap asRecord
-    (inside (c .before .before .before .args .n) targets (c .before .before .before .args .target)
+    (valid-inside (c .before .before .before .args .n) targets (c .before .before .before .args .target)
     (rw back at (c .before .before .if1 .left)) (rw back at (c .before .if2 .left))))
 
 pub push-valid-successor-spec : {M : Type 1} → statement M

@@ -28,8 +28,8 @@ put-spaced-requires-3 c κs = search needs
 put-spaced-requires-4 : tie.Need-put-spaced-requires-4
 put-spaced-requires-4 c κs = search needs
 
-put-answer-requires : tie.Need-put-answer-requires
-put-answer-requires c κs = search needs
+put-yes-or-no-requires : tie.Need-put-yes-or-no-requires
+put-yes-or-no-requires c κs = search needs
 
 same-length : tie.Need-same-length
 same-length c = search needs
@@ -37,13 +37,13 @@ same-length c = search needs
 returns : tie.Need-returns
 unfolding ascii indexWritesLine
 returns c =
-    let put-answer = c .before .before in
-    let put-spaced4 = put-answer .before .before .before .before in
+    let put-yes-or-no = c .before .before in
+    let put-spaced4 = put-yes-or-no .before .before .before .before in
     let put-spaced3 = put-spaced4 .before .before .before .before in
     let put-spaced2 = put-spaced3 .before .before .before .before in
     let put-spaced = put-spaced2 .before .before .before .before .before in
     let put = put-spaced .before .before .before .before in
-    then (then (then (then (then (put .put .ensures) (put-spaced .put-spaced .ensures)) (put-spaced2 .put-spaced2 .ensures)) (put-spaced3 .put-spaced3 .ensures)) (put-spaced4 .put-spaced4 .ensures)) (put-answer .put-answer .ensures)
+    then (then (then (then (then (put .put .ensures) (put-spaced .put-spaced .ensures)) (put-spaced2 .put-spaced2 .ensures)) (put-spaced3 .put-spaced3 .ensures)) (put-spaced4 .put-spaced4 .ensures)) (put-yes-or-no .put-yes-or-no .ensures)
 
 pub index-writes-line-spec : {M : Type 1} → statement M
 index-writes-line-spec =
@@ -56,6 +56,6 @@ index-writes-line-spec =
     put-spaced-requires-2
     put-spaced-requires-3
     put-spaced-requires-4
-    put-answer-requires
+    put-yes-or-no-requires
     same-length
     returns)

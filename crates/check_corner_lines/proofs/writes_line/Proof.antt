@@ -19,8 +19,8 @@ put-spaced-requires c κs = search needs
 put-spaced-requires-2 : tie.Need-put-spaced-requires-2
 put-spaced-requires-2 c κs = search needs
 
-put-answer-requires : tie.Need-put-answer-requires
-put-answer-requires c κs = search needs
+put-yes-or-no-requires : tie.Need-put-yes-or-no-requires
+put-yes-or-no-requires c κs = search needs
 
 same-length : tie.Need-same-length
 same-length c = search needs
@@ -28,11 +28,11 @@ same-length c = search needs
 returns : tie.Need-returns
 unfolding ascii writesLine
 returns c =
-    let put-answer = c .before .before in
-    let put-spaced2 = put-answer .before .before .before .before in
+    let put-yes-or-no = c .before .before in
+    let put-spaced2 = put-yes-or-no .before .before .before .before in
     let put-spaced = put-spaced2 .before .before .before .before in
     let put = put-spaced .before .before .before .before in
-    then (then (then (put .put .ensures) (put-spaced .put-spaced .ensures)) (put-spaced2 .put-spaced2 .ensures)) (put-answer .put-answer .ensures)
+    then (then (then (put .put .ensures) (put-spaced .put-spaced .ensures)) (put-spaced2 .put-spaced2 .ensures)) (put-yes-or-no .put-yes-or-no .ensures)
 
 pub writes-line-spec : {M : Type 1} → statement M
 writes-line-spec =
@@ -42,6 +42,6 @@ writes-line-spec =
     put-requires
     put-spaced-requires
     put-spaced-requires-2
-    put-answer-requires
+    put-yes-or-no-requires
     same-length
     returns)

@@ -6,7 +6,7 @@ use Prim.Native.Nat.{_≤_, _-_}
 use native.Mathlib.Omega.{arith}
 use lib.ListN.{length, drop}
 use Rattle.check_input.specs.declared.Input.{Input}
-use Rattle.check_input.proofs.Filled.{still-behind, counted}
+use Rattle.check_input.proofs.Filled.{still-behind, counts-first}
 use Rattle.check_input.proofs.read_input.Statement.{statement}
 use Rattle.check_input.proofs.read_input.Tie as tie
 
@@ -39,7 +39,7 @@ returns c =
     let l = c .before .before .before .before .before .before .before .before .before .before .before .loop in
     let r = c .before .before .before .before .before .before .before .read-to in
     let e = ap (λ (x : Input). x .count) (c .before .before .so-far .ensures) in (
-      counted _ _ (omega (arith, e, r .ensures .0, r .kept .0)),
+      counts-first _ _ (omega (arith, e, r .ensures .0, r .kept .0)),
       rw e (still-behind _ (l .buffer) _ (l .done) (r .result .count) (l .inv .2) (r .ensures .2)),
       λ f. omega (arith, c .before .if1 .taken, c .before .before .before .before .before .before .before .before .before .before .loop-test .taken, r .kept .0),
     )
@@ -62,7 +62,7 @@ same-length-2 c = c .before .before .loop .inv .1
 returns-2 : tie.Need-returns-2 Inv-loop μ-loop
 returns-2 c =
     let l = c .before .before .loop in
-    (counted _ _ (l .inv .0), l .inv .2, λ f. absurd (false≢true f))
+    (counts-first _ _ (l .inv .0), l .inv .2, λ f. absurd (false≢true f))
 
 pub read-input-spec : {M : Type 1} → statement M
 read-input-spec =

@@ -23,17 +23,17 @@ slice-aggregate-read c = sym (length-take-le _ _ (c .before .least .ensures .1))
 read-requires : tie.Need-read-requires
 read-requires c κs = search needs
 
-answered-requires : tie.Need-answered-requires
-answered-requires c κs = search needs
+input-from-requires : tie.Need-input-from-requires
+input-from-requires c κs = search needs
 
 slice-reshare-prefix-put : tie.Need-slice-reshare-prefix-put
 slice-reshare-prefix-put c = search needs
 
 slice-aggregate-put : tie.Need-slice-aggregate-put
-slice-aggregate-put c = sym (taken-long (c .before .before .before .before .read .last .1 .0) (now (c .before .before .before .before .before .before .before .before .before .args .chunk)) (c .before .before .before .before .before .before .least .result) (c .before .answered .result .count) (c .before .answered .ensures .1) (c .before .before .before .before .before .before .least .ensures .1) (c .before .before .before .before .read .kept .1 .0))
+slice-aggregate-put c = sym (taken-long (c .before .before .before .before .read .last .1 .0) (now (c .before .before .before .before .before .before .before .before .before .args .chunk)) (c .before .before .before .before .before .before .least .result) (c .before .input-from .result .count) (c .before .input-from .ensures .1) (c .before .before .before .before .before .before .least .ensures .1) (c .before .before .before .before .read .kept .1 .0))
 
 put-requires : tie.Need-put-requires
-put-requires c κs = omega (arith, taken-long (c .before .before .before .before .before .read .last .1 .0) (now (c .before .before .before .before .before .before .before .before .before .before .args .chunk)) (c .before .before .before .before .before .before .before .least .result) (c .before .before .answered .result .count) (c .before .before .answered .ensures .1) (c .before .before .before .before .before .before .before .least .ensures .1) (c .before .before .before .before .before .read .kept .1 .0), c .before .before .before .before .before .before .before .least .ensures .0, c .before .before .answered .ensures .1)
+put-requires c κs = omega (arith, taken-long (c .before .before .before .before .before .read .last .1 .0) (now (c .before .before .before .before .before .before .before .before .before .before .args .chunk)) (c .before .before .before .before .before .before .before .least .result) (c .before .before .input-from .result .count) (c .before .before .input-from .ensures .1) (c .before .before .before .before .before .before .before .least .ensures .1) (c .before .before .before .before .before .read .kept .1 .0), c .before .before .before .before .before .before .before .least .ensures .0, c .before .before .input-from .ensures .1)
 
 same-length : tie.Need-same-length
 same-length c = search needs
@@ -44,8 +44,8 @@ same-length-2 c = search needs
 returns : tie.Need-returns
 returns c =
     let a = c .before .before .before .before .before .before .before .before .before .before .before .before .before .args in
-    let w = piece-written _ (now (a .buffer)) _ (a .to) (c .before .before .before .before .before .answered .result .count) _ _ (c .before .before .before .before .before .before .before .before .before .before .before .before .before .pre) (taken-long (c .before .before .before .before .before .before .before .before .read .last .1 .0) (now (c .before .before .before .before .before .before .before .before .before .before .before .before .before .args .chunk)) (c .before .before .before .before .before .before .before .before .before .before .least .result) (c .before .before .before .before .before .answered .result .count) (c .before .before .before .before .before .answered .ensures .1) (c .before .before .before .before .before .before .before .before .before .before .least .ensures .1) (c .before .before .before .before .before .before .before .before .read .kept .1 .0)) (c .before .before .put .ensures) in
-    let r = c .before .before .before .before .before .answered in
+    let w = piece-written _ (now (a .buffer)) _ (a .to) (c .before .before .before .before .before .input-from .result .count) _ _ (c .before .before .before .before .before .before .before .before .before .before .before .before .before .pre) (taken-long (c .before .before .before .before .before .before .before .before .read .last .1 .0) (now (c .before .before .before .before .before .before .before .before .before .before .before .before .before .args .chunk)) (c .before .before .before .before .before .before .before .before .before .before .least .result) (c .before .before .before .before .before .input-from .result .count) (c .before .before .before .before .before .input-from .ensures .1) (c .before .before .before .before .before .before .before .before .before .before .least .ensures .1) (c .before .before .before .before .before .before .before .before .read .kept .1 .0)) (c .before .before .put .ensures) in
+    let r = c .before .before .before .before .before .input-from in
     (w .0, w .1, w .2, failed-none _ _ (r .result) (r .ensures .0))
 
 pub read-to-spec : {M : Type 1} → statement M
@@ -57,7 +57,7 @@ read-to-spec =
     slice-relend-prefix-read
     slice-aggregate-read
     read-requires
-    answered-requires
+    input-from-requires
     slice-reshare-prefix-put
     slice-aggregate-put
     put-requires

@@ -4,7 +4,7 @@ use mathlib.Core.Path.{refl}
 use mathlib.Core.Logic.{inl, inr}
 use Prim.Native.Nat.{_-_}
 use native.Mathlib.Omega.{arith}
-use Rattle.closure_edges.proofs.Rows.{rows-are}
+use Rattle.closure_edges.proofs.Rows.{edge-rows-are}
 use Rattle.closure_follow.proofs.Following.{met-none, met-some}
 use Rattle.closure_marks.proofs.Marking.{none-held}
 use borrow.Author.Needs.{needs}
@@ -23,7 +23,7 @@ none-requires c κs = search needs
 returns : tie.Need-returns
 returns c =
     met-none _ _ (c .before .before .before .before .args .inst) (c .before .before .before .dependence-of .result)
-    (rows-are _ (c .before .before .before .dependence-of .ensures) _) _ refl (inl (c .before .if1 .taken)) (none-held (c .none .ensures))
+    (edge-rows-are _ (c .before .before .before .dependence-of .ensures) _) _ refl (inl (c .before .if1 .taken)) (none-held (c .none .ensures))
 
 cast-if2 : tie.Need-cast-if2
 cast-if2 c = search needs
@@ -36,7 +36,7 @@ returns-2 c =
     let else1 = c .before .before .before in
     let dependence-of = else1 .before .before in
     let start = dependence-of .before in
-    met-none _ _ (start .args .inst) (dependence-of .dependence-of .result) (rows-are _ (dependence-of .dependence-of .ensures) _) _ refl
+    met-none _ _ (start .args .inst) (dependence-of .dependence-of .result) (edge-rows-are _ (dependence-of .dependence-of .ensures) _) _ refl
     (inr (omega (arith, c .before .if2 .taken, else1 .if1 .left))) (none-held (c .none2 .ensures))
 
 cast-sources-below : tie.Need-cast-sources-below
@@ -60,7 +60,7 @@ returns-3 c =
     let else1 = else2 .before .before in
     let dependence-of = else1 .before .before in
     let start = dependence-of .before in
-    met-some _ _ (start .args .inst) (dependence-of .dependence-of .result) (rows-are _ (dependence-of .dependence-of .ensures) _) _ refl (start .args .d - start .args .inst .a)
+    met-some _ _ (start .args .inst) (dependence-of .dependence-of .result) (edge-rows-are _ (dependence-of .dependence-of .ensures) _) _ refl (start .args .d - start .args .inst .a)
     (omega (arith, else1 .if1 .left)) (else2 .if2 .left) (start .pre .0) (c .sources-below .ensures)
 
 pub edges-to-spec : {M : Type 1} → statement M

@@ -8,12 +8,12 @@ use Rattle.sheet.proofs.Counted.{counted}
 use Rattle.sheet.proofs.Limited.{limited}
 use Rattle.sheet.proofs.Inside.{code-inside}
 use Rattle.closure_marks.proofs.Marking.{lain-on, goes-wide, goes-long}
-use Rattle.closure_follow.proofs.Following.{follows-all, Walked, walked-none, walked-next, walked-more, walked-done, chain-of}
+use Rattle.closure_follow.proofs.Following.{follows-all, ChainWalked, chain-walked-none, walked-next, chain-walked-more, walked-done, chain-of}
 use Rattle.closure_follow.proofs.follow_edges.Statement.{statement}
 use Rattle.closure_follow.proofs.follow_edges.Tie as tie
 
 abbrev Inv-loop : tie.InvT-loop
-Inv-loop sheet from heads nexts pcs d marks₀ stack₀ top l bit followed₀ k link₀ marks stack followed link = Walked sheet d nexts pcs from bit marks₀ stack₀ followed₀ marks stack followed link
+Inv-loop sheet from heads nexts pcs d marks₀ stack₀ top l bit followed₀ k link₀ marks stack followed link = ChainWalked sheet d nexts pcs from bit marks₀ stack₀ followed₀ marks stack followed link
 
 abbrev μ-loop : tie.MeasureT-loop
 μ-loop sheet from heads nexts pcs d marks₀ stack₀ top l bit followed₀ k link₀ marks stack followed link = link
@@ -62,7 +62,7 @@ loop-holds c =
     let follow-code = c .before .before .before .before .before .before .before .before in
     let start = follow-code .before .before .before .before .before .before .before .before .before .before in
     let asked = start .pre in
-    walked-none _ _ (asked .1 .inside) (chain-of (asked .1) _ (counted (asked .0 .are) .local-slots) (asked .2) (c .before .bucket-of .ensures .0))
+    chain-walked-none _ _ (asked .1 .inside) (chain-of (asked .1) _ (counted (asked .0 .are) .local-slots) (asked .2) (c .before .bucket-of .ensures .0))
     (follow-code .follow-code .ensures .0)
 
 sub-i : tie.Need-sub-i Inv-loop μ-loop
@@ -133,7 +133,7 @@ loop-again c =
     let at-loop = in-loop .before in
     let start = at-loop .before .before .before .before .before .before .before .before .before .before .before .before .before .before .before .before .before .before .before in
     let followed = follow-instruction .follow-instruction .ensures in
-    walked-more _ _ (at-loop .loop .inv) (in-loop .loop-test .taken) (instruction-at .instruction-at .ensures) (counted (start .pre .0 .are) .local-slots)
+    chain-walked-more _ _ (at-loop .loop .inv) (in-loop .loop-test .taken) (instruction-at .instruction-at .ensures) (counted (start .pre .0 .are) .local-slots)
     (followed .0) (followed .1)
 
 same-length-3 : tie.Need-same-length-3 Inv-loop μ-loop

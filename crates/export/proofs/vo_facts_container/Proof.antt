@@ -7,15 +7,15 @@ use Rattle.export.proofs.vo_facts_container.Tie as tie
 container-fact-for-slot-requires : tie.Need-container-fact-for-slot-requires
 container-fact-for-slot-requires c κs = search needs
 
-put-fact-requires : tie.Need-put-fact-requires
-put-fact-requires c κs = search needs
+put-slot-fact-requires : tie.Need-put-slot-fact-requires
+put-slot-fact-requires c κs = search needs
 
 same-length : tie.Need-same-length
 same-length c = search needs
 
 returns : tie.Need-returns
-returns c = told (c .before .before .before .before .before .before .before .before .before .before .args .out .now) (c .before .before .put-fact .ensures) (c .before .before .before .before .container-fact-for-slot .ensures)
+returns c = told (c .before .before .before .before .before .before .before .before .before .before .args .out .now) (c .before .before .put-slot-fact .ensures) (c .before .before .before .before .container-fact-for-slot .ensures)
 
 pub vo-facts-container-spec : {M : Type 1} → statement M
 vo-facts-container-spec =
-    tie.close (tie.spec container-fact-for-slot-requires put-fact-requires same-length returns)
+    tie.close (tie.spec container-fact-for-slot-requires put-slot-fact-requires same-length returns)

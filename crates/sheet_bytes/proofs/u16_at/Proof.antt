@@ -8,23 +8,14 @@ use Rattle.sheet_bytes.proofs.u16_at.Tie as tie
 byte-at-requires : tie.Need-byte-at-requires
 byte-at-requires c κs = search needs
 
-wide-requires : tie.Need-wide-requires
-wide-requires c κs = search needs
-
 add-byte-at : tie.Need-add-byte-at
 add-byte-at c = search needs
 
 byte-at-requires-2 : tie.Need-byte-at-requires-2
 byte-at-requires-2 c κs = search needs
 
-wide-requires-2 : tie.Need-wide-requires-2
-wide-requires-2 c κs = search needs
-
-mul-result : tie.Need-mul-result
-mul-result c = search needs
-
-add-result : tie.Need-add-result
-add-result c = search needs
+u16-of-requires : tie.Need-u16-of-requires
+u16-of-requires c κs = search needs
 
 returns : tie.Need-returns
 unfolding u16
@@ -32,13 +23,4 @@ returns c = omega arith
 
 pub u16-at-spec : {M : Type 1} → statement M
 u16-at-spec =
-    tie.close
-    (tie.spec
-    byte-at-requires
-    wide-requires
-    add-byte-at
-    byte-at-requires-2
-    wide-requires-2
-    mul-result
-    add-result
-    returns)
+    tie.close (tie.spec byte-at-requires add-byte-at byte-at-requires-2 u16-of-requires returns)

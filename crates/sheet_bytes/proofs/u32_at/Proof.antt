@@ -8,23 +8,14 @@ use Rattle.sheet_bytes.proofs.u32_at.Tie as tie
 u16-at-requires : tie.Need-u16-at-requires
 u16-at-requires c κs = search needs
 
-cast-low : tie.Need-cast-low
-cast-low c = search needs
-
 add-u16-at : tie.Need-add-u16-at
 add-u16-at c = search needs
 
 u16-at-requires-2 : tie.Need-u16-at-requires-2
 u16-at-requires-2 c κs = search needs
 
-cast-high : tie.Need-cast-high
-cast-high c = search needs
-
-mul-result : tie.Need-mul-result
-mul-result c = search needs
-
-add-result : tie.Need-add-result
-add-result c = search needs
+u32-of-requires : tie.Need-u32-of-requires
+u32-of-requires c κs = search needs
 
 returns : tie.Need-returns
 unfolding u32
@@ -32,13 +23,4 @@ returns c = omega arith
 
 pub u32-at-spec : {M : Type 1} → statement M
 u32-at-spec =
-    tie.close
-    (tie.spec
-    u16-at-requires
-    cast-low
-    add-u16-at
-    u16-at-requires-2
-    cast-high
-    mul-result
-    add-result
-    returns)
+    tie.close (tie.spec u16-at-requires add-u16-at u16-at-requires-2 u32-of-requires returns)

@@ -8,23 +8,14 @@ use Rattle.sheet_bytes.proofs.u64_at.Tie as tie
 u32-at-requires : tie.Need-u32-at-requires
 u32-at-requires c κs = search needs
 
-cast-low : tie.Need-cast-low
-cast-low c = search needs
-
 add-u32-at : tie.Need-add-u32-at
 add-u32-at c = search needs
 
 u32-at-requires-2 : tie.Need-u32-at-requires-2
 u32-at-requires-2 c κs = search needs
 
-cast-high : tie.Need-cast-high
-cast-high c = search needs
-
-mul-result : tie.Need-mul-result
-mul-result c = search needs
-
-add-result : tie.Need-add-result
-add-result c = search needs
+u64-of-requires : tie.Need-u64-of-requires
+u64-of-requires c κs = search needs
 
 returns : tie.Need-returns
 unfolding u64
@@ -32,13 +23,4 @@ returns c = omega arith
 
 pub u64-at-spec : {M : Type 1} → statement M
 u64-at-spec =
-    tie.close
-    (tie.spec
-    u32-at-requires
-    cast-low
-    add-u32-at
-    u32-at-requires-2
-    cast-high
-    mul-result
-    add-result
-    returns)
+    tie.close (tie.spec u32-at-requires add-u32-at u32-at-requires-2 u64-of-requires returns)

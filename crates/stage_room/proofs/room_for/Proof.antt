@@ -8,8 +8,6 @@ use Rattle.stage_room.proofs.Fits.{cells-fit}
 use borrow.Author.Needs.{needs}
 use Rattle.stage_room.proofs.room_for.Statement.{statement}
 use Rattle.stage_room.proofs.room_for.Tie as tie
-use Rattle.stage_room.proofs.room_for.Reads as reads
-use Rattle.stage_room.proofs.room_for.Lts as lts
 use Rattle.stage_room.proofs.work_list_room.Reads as work-list-room-reads
 
 returns : tie.Need-returns

@@ -5,8 +5,6 @@ use Rattle.stage_room.proofs.Fits.{cells-fit, no-code, no-slots, some-r
 use borrow.Author.Needs.{needs}
 use Rattle.stage_room.proofs.work_list_room.Statement.{statement}
 use Rattle.stage_room.proofs.work_list_room.Tie as tie
-use Rattle.stage_room.proofs.work_list_room.Reads as reads
-use Rattle.stage_room.proofs.work_list_room.Lts as lts
 
 returns : tie.Need-returns
 returns c = no-code _ _ _ (c .if1 .taken)

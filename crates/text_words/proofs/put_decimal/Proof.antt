@@ -2,13 +2,13 @@
 use mathlib.Core.Path.{refl}
 use Rattle.model.specs.Listing.{ascii}
 use Rattle.text_words.proofs.Writing.{reword}
-use Rattle.text_words.proofs.Decimal.{Found, found-start, found-above, found-turn, found-all, zero-digit}
+use Rattle.text_words.proofs.Decimal.{DigitsFound, found-start, found-above, found-turn, found-all, zero-digit}
 use native.Mathlib.Omega.{arith}
 use Rattle.text_words.proofs.put_decimal.Statement.{statement}
 use Rattle.text_words.proofs.put_decimal.Tie as tie
 
 abbrev Inv-loop : tie.InvT-loop
-Inv-loop x at out buffer₀ i₀ left₀ buffer i left = Found x buffer i left
+Inv-loop x at out buffer₀ i₀ left₀ buffer i left = DigitsFound x buffer i left
 
 abbrev μ-loop : tie.MeasureT-loop
 μ-loop x at out buffer₀ i₀ left₀ buffer i left = left

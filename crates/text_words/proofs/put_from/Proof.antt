@@ -3,7 +3,7 @@ use mathlib.Core.Path.{_≡_, refl, sym, _∙_}
 use Prim.Native.Nat.{_+_, _-_, _≤_}
 use lib.ListN.{length, drop, length-drop, length-set}
 use lib.Seq.{getD-drop, paste, paste-zero}
-use Rattle.text_words.proofs.Writing.{byte-more, written}
+use Rattle.text_words.proofs.Writing.{byte-more, text-written}
 use native.Mathlib.Omega.{arith}
 use denote.Ref.{now}
 use Rattle.text_words.proofs.put_from.Statement.{statement}
@@ -63,7 +63,7 @@ returns c =
     let a = c .before .before .args in
     let l = c .before .loop in
     let e : l .i ≡ length (now (a .word)) - a .from = omega arith in
-    rw e at (written (length (now (a .word))) (drop (a .from) (now (a .word))) (now (a .out)) (l .out) (a .at) (l .i) (omega (arith, length-drop (a .from) (now (a .word)))) (omega (arith, length-drop (a .from) (now (a .word)))) (omega arith) (l .inv .3))
+    rw e at (text-written (length (now (a .word))) (drop (a .from) (now (a .word))) (now (a .out)) (l .out) (a .at) (l .i) (omega (arith, length-drop (a .from) (now (a .word)))) (omega (arith, length-drop (a .from) (now (a .word)))) (omega arith) (l .inv .3))
 
 pub put-from-spec : {M : Type 1} → statement M
 put-from-spec =

@@ -4,8 +4,6 @@ use Rattle.call_admission.proofs.Asking.{refused-before, asked-last}
 use borrow.Author.Needs.{needs}
 use Rattle.call_admission.proofs.admitting.admit.Statement.{statement}
 use Rattle.call_admission.proofs.admitting.admit.Tie as tie
-use Rattle.call_admission.proofs.admitting.admit.Reads as reads
-use Rattle.call_admission.proofs.admitting.admit.Lts as lts
 use Rattle.call_admission.proofs.admitting.closure_room.Reads as closure-room-reads
 use Rattle.sheet_questions.proofs.check_sheet.Reads as check-sheet-reads
 

@@ -3,8 +3,6 @@
 use Rattle.call_admission.proofs.Asking.{too-few-marks, too-short, wide-enough}
 use Rattle.call_admission.proofs.admitting.closure_room.Statement.{statement}
 use Rattle.call_admission.proofs.admitting.closure_room.Tie as tie
-use Rattle.call_admission.proofs.admitting.closure_room.Reads as reads
-use Rattle.call_admission.proofs.admitting.closure_room.Lts as lts
 
 returns : tie.Need-returns
 returns c = too-few-marks _ _ _ _ (c .if1 .taken)

@@ -4,8 +4,6 @@ use Rattle.call_admission.specs.Begun.{begunBy}
 use borrow.Author.Needs.{needs}
 use Rattle.call_admission.proofs.graph.begun.Statement.{statement}
 use Rattle.call_admission.proofs.graph.begun.Tie as tie
-use Rattle.call_admission.proofs.graph.begun.Reads as reads
-use Rattle.call_admission.proofs.graph.begun.Lts as lts
 
 enum-known-charged : tie.Need-enum-known-charged
 enum-known-charged c = search needs

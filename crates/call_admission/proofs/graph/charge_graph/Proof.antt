@@ -6,8 +6,6 @@ use Rattle.call_admission.proofs.Asking.{flow-refused, then-dependencie
 use borrow.Author.Needs.{needs}
 use Rattle.call_admission.proofs.graph.charge_graph.Statement.{statement}
 use Rattle.call_admission.proofs.graph.charge_graph.Tie as tie
-use Rattle.call_admission.proofs.graph.charge_graph.Reads as reads
-use Rattle.call_admission.proofs.graph.charge_graph.Lts as lts
 use Rattle.call_admission.proofs.graph.begun.Reads as begun-reads
 use Rattle.closure_edges.proofs.charge_dependencies.Reads as charge-dependencies-reads
 use Rattle.closure_edges.proofs.charge_flow.Reads as charge-flow-reads

@@ -2,14 +2,14 @@
 use Prim.Native.Nat.{_-_}
 use native.Mathlib.Omega.{arith}
 use Rattle.sheet.proofs.Counted.{counted}
-use Rattle.call_lengths.proofs.Stored.{small-fact, Stored, stored-none, stored-more, stored-all, lengths-read}
+use Rattle.call_lengths.proofs.Stored.{small-fact, StoredUpto, stored-none, stored-more, stored-all, lengths-read}
 use Rattle.fact_row.proofs.Facts.{value-of}
 use Rattle.call_lengths.proofs.found.length_facts.Statement.{statement}
 use Rattle.call_lengths.proofs.found.length_facts.Tie as tie
 
 abbrev Inv-loop : tie.InvT-loop
 Inv-loop sheet sizes slots present kinds values out-kinds₀ out-values₀ n pc₀ out-kinds out-values pc =
-    Stored sheet slots present kinds values n out-kinds₀ out-values₀ out-kinds out-values pc
+    StoredUpto sheet slots present kinds values n out-kinds₀ out-values₀ out-kinds out-values pc
 
 abbrev μ-loop : tie.MeasureT-loop
 μ-loop sheet sizes slots present kinds values out-kinds₀ out-values₀ n pc₀ out-kinds out-values pc =

@@ -2,7 +2,7 @@
 use mathlib.Core.Path.{sym, ap, _∙_}
 use native.Mathlib.Omega.{arith}
 use Rattle.fact_row.specs.Place.{placed}
-use Rattle.call_lengths.proofs.Tables.{inside, absent-fact, untracked-fact, tracked-fact}
+use Rattle.call_lengths.proofs.Tables.{table-inside, absent-fact, untracked-fact, tracked-fact}
 use borrow.Author.Needs.{needs}
 use Rattle.call_lengths.proofs.found.row_fact.Statement.{statement}
 use Rattle.call_lengths.proofs.found.row_fact.Tie as tie
@@ -39,34 +39,34 @@ mul-at : tie.Need-mul-at
 mul-at c =
     let start = c .before .before .before .before .before .before .before .before .before .before in
     let after-find = c .before .before .before in
-    omega (arith, inside (start .pre .0 .1) (start .args .pc) (start .args .slot) (start .pre .1) (sym (after-find .find .ensures) ∙ ap placed (c .before .j .given .1)))
+    omega (arith, table-inside (start .pre .0 .1) (start .args .pc) (start .args .slot) (start .pre .1) (sym (after-find .find .ensures) ∙ ap placed (c .before .j .given .1)))
 
 add-at : tie.Need-add-at
 add-at c =
     let start = c .before .before .before .before .before .before .before .before .before .before in
     let after-find = c .before .before .before in
-    omega (arith, inside (start .pre .0 .1) (start .args .pc) (start .args .slot) (start .pre .1) (sym (after-find .find .ensures) ∙ ap placed (c .before .j .given .1)))
+    omega (arith, table-inside (start .pre .0 .1) (start .args .pc) (start .args .slot) (start .pre .1) (sym (after-find .find .ensures) ∙ ap placed (c .before .j .given .1)))
 
 shared-slice-read-t10 : tie.Need-shared-slice-read-t10
 shared-slice-read-t10 c =
     let start = c .before .before .before .before .before .before .before .before .before .before .before in
     let after-find = c .before .before .before .before in
     let after-j = c .before .before in
-    inside (start .pre .0 .1) (start .args .pc) (start .args .slot) (start .pre .1) (sym (after-find .find .ensures) ∙ ap placed (after-j .j .given .1)) .0
+    table-inside (start .pre .0 .1) (start .args .pc) (start .args .slot) (start .pre .1) (sym (after-find .find .ensures) ∙ ap placed (after-j .j .given .1)) .0
 
 mul-t14 : tie.Need-mul-t14
 mul-t14 c =
     let start = c .before .before .before .before .before .before .before .before .before .before .before in
     let after-find = c .before .before .before .before in
     let after-j = c .before .before in
-    omega (arith, inside (start .pre .0 .1) (start .args .pc) (start .args .slot) (start .pre .1) (sym (after-find .find .ensures) ∙ ap placed (after-j .j .given .1)))
+    omega (arith, table-inside (start .pre .0 .1) (start .args .pc) (start .args .slot) (start .pre .1) (sym (after-find .find .ensures) ∙ ap placed (after-j .j .given .1)))
 
 shared-slice-read-t17 : tie.Need-shared-slice-read-t17
 shared-slice-read-t17 c =
     let start = c .before .before .before .before .before .before .before .before .before .before .before .before in
     let after-find = c .before .before .before .before .before in
     let after-j = c .before .before .before in
-    inside (start .pre .0 .1) (start .args .pc) (start .args .slot) (start .pre .1) (sym (after-find .find .ensures) ∙ ap placed (after-j .j .given .1)) .1
+    table-inside (start .pre .0 .1) (start .args .pc) (start .args .slot) (start .pre .1) (sym (after-find .find .ensures) ∙ ap placed (after-j .j .given .1)) .1
 
 returns-3 : tie.Need-returns-3
 returns-3 c rows e =

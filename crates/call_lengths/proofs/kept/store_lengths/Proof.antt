@@ -5,19 +5,17 @@ use native.Mathlib.Omega.{arith}
 use lib.Seq.{length-take-le}
 use Rattle.sheet.proofs.Counted.{counted}
 use Rattle.sheet.proofs.Limited.{limited}
-use Rattle.call_lengths.proofs.Storing.{stored-few, slots-fit, present-fits, kinds-fit, values-fit, stored-ended, lengthened, cells-fit, tracked-same, not-refusing, not-analyzed-1, not-analyzed-2, not-analyzed-3}
+use Rattle.call_lengths.proofs.Storing.{stored-few, slots-fit, present-fits, kinds-fit, values-fit, stored-ended, lengthened, stored-cells-fit, tracked-same, not-refusing, not-analyzed-1, not-analyzed-2, not-analyzed-3}
 use borrow.Author.Needs.{needs}
 use Rattle.call_lengths.proofs.kept.store_lengths.Statement.{statement}
 use Rattle.call_lengths.proofs.kept.store_lengths.Tie as tie
-use Rattle.call_lengths.proofs.kept.store_lengths.Reads as reads
-use Rattle.call_lengths.proofs.kept.store_lengths.Lts as lts
 use Rattle.call_lengths.proofs.found.length_facts.Reads as length-facts-reads
 
 enum-known-before : tie.Need-enum-known-before
 enum-known-before c = search needs
 
 mul-cells : tie.Need-mul-cells
-mul-cells c = let start = c .before .before .before .before .before .before .before .before .before .before in omega (arith, cells-fit _ _ (limited (start .pre .0 .0) .code-count) (stored-few (start .pre .1 _ _ _ _ (c .before .before2 .given .1) .1) (counted (start .pre .0 .0 .are) .code-count) refl))
+mul-cells c = let start = c .before .before .before .before .before .before .before .before .before .before in omega (arith, stored-cells-fit _ _ (limited (start .pre .0 .0) .code-count) (stored-few (start .pre .1 _ _ _ _ (c .before .before2 .given .1) .1) (counted (start .pre .0 .0 .are) .code-count) refl))
 
 slice-aggregate-length-facts : tie.Need-slice-aggregate-length-facts
 slice-aggregate-length-facts c = let start = c .before .before .before .before .before .before .before .before .before .before .before in sym (length-take-le _ (start .args .slots .now) (slots-fit (start .pre .1 _ _ _ _ (c .before .before .before2 .given .1) .1) (counted (start .pre .0 .0 .are) .code-count) refl))

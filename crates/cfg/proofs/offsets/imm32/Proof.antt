@@ -7,7 +7,7 @@ use borrow.Author.Needs.{needs}
 use borrow.Author.Tests.{le-ltb}
 use mir.Syntax.{w32}
 use Rattle.model.specs.Successors.{signed, imm32}
-use Rattle.cfg.proofs.Signed.{read, difference-fits, narrow-fits, narrow-is}
+use Rattle.cfg.proofs.Signed.{signed-read, difference-fits, narrow-fits, narrow-is}
 use Rattle.cfg.proofs.offsets.imm32.Statement.{statement}
 use Rattle.cfg.proofs.offsets.imm32.Tie as tie
 
@@ -28,7 +28,7 @@ cast-result c = search needs
 
 returns : tie.Need-returns
 unfolding signed imm32
-returns c = read w32 (c .before .before .before .args .inst .b + 65536 * c .before .before .before .args .inst .c)
+returns c = signed-read w32 (c .before .before .before .args .inst .b + 65536 * c .before .before .before .args .inst .c)
 
 cast-result-2 : tie.Need-cast-result-2
 cast-result-2 c = search needs

@@ -6,7 +6,7 @@ use borrow.Author.Needs.{needs}
 use borrow.Author.Tests.{le-ltb}
 use mir.Syntax.{w16}
 use Rattle.model.specs.Successors.{signed}
-use Rattle.cfg.proofs.Signed.{read, difference-fits, narrow-fits, narrow-is}
+use Rattle.cfg.proofs.Signed.{signed-read, difference-fits, narrow-fits, narrow-is}
 use Rattle.cfg.proofs.offsets.signed_c.Statement.{statement}
 use Rattle.cfg.proofs.offsets.signed_c.Tie as tie
 
@@ -15,7 +15,7 @@ cast-result c = search needs
 
 returns : tie.Need-returns
 unfolding signed
-returns c = read w16 (c .before .args .inst .c)
+returns c = signed-read w16 (c .before .args .inst .c)
 
 cast-result-2 : tie.Need-cast-result-2
 cast-result-2 c = search needs

@@ -10,7 +10,7 @@ use Rattle.model.specs.Closure.{seeded}
 use Rattle.finality.proofs.Marks.{free}
 use Rattle.finality.proofs.Lengths.{zeros-length, zeros-same}
 use Rattle.closure_marks.proofs.Marking.{some-lain, goes-long}
-use Rattle.closure.proofs.Expanding.{Expanding, blank-lies, lies-room, expanding-begun, expanding-standing, expanding-less, expanding-on, expanding-refused, expanding-done, expanding-empty, refused-end, done-end}
+use Rattle.closure.proofs.Expanding.{Expanding, zero-lies, lies-room, expanding-begun, expanding-standing, expanding-less, expanding-on, expanding-refused, expanding-done, expanding-empty, refused-end, done-end}
 use Rattle.closure.proofs.expansion.expand_along.Statement.{statement}
 use Rattle.closure.proofs.expansion.expand_along.Tie as tie
 
@@ -23,14 +23,14 @@ abbrev μ-loop : tie.MeasureT-loop
 seed-slots-requires : tie.Need-seed-slots-requires Inv-loop μ-loop
 seed-slots-requires c κs =
     let start = c .before .before .before .before .before .before .before .before in
-    (start .pre .0, some-lain (blank-lies (start .pre .0) (start .pre .1)))
+    (start .pre .0, some-lain (zero-lies (start .pre .0) (start .pre .1)))
 
 loop-holds : tie.Need-loop-holds Inv-loop μ-loop
 unfolding seeded
 loop-holds c =
     let seed-slots = c .before .before .before .before in
     let start = seed-slots .before .before .before .before .before .before .before .before .before in
-    expanding-begun _ _ (lies-room (seed-slots .seed-slots .ensures .on (blank-lies (start .pre .0) (start .pre .1))))
+    expanding-begun _ _ (lies-room (seed-slots .seed-slots .ensures .on (zero-lies (start .pre .0) (start .pre .1))))
 
 take-slot-requires : tie.Need-take-slot-requires Inv-loop μ-loop
 take-slot-requires c κs =
@@ -85,7 +85,7 @@ returns c =
       refused-end (c .metered .result) _ _ stopped (c .metered .ensures 0) is-refused (clear-u8 .clear-u8 .ensures)
           (omega (arith, after .wide, start .pre .1 .wide)),
       clear-u16 .clear-u16 .ensures
-          ∙ zeros-same _ _ (after .long ∙ goes-long (seed-slots .seed-slots .ensures) (some-lain (blank-lies (start .pre .0) (start .pre .1)))),
+          ∙ zeros-same _ _ (after .long ∙ goes-long (seed-slots .seed-slots .ensures) (some-lain (zero-lies (start .pre .0) (start .pre .1)))),
     )
 
 loop-less : tie.Need-loop-less Inv-loop μ-loop
@@ -113,7 +113,7 @@ same-length-4 : tie.Need-same-length-4 Inv-loop μ-loop
 same-length-4 c =
     let seed-slots = c .before .before .before .before .before .before in
     let start = seed-slots .before .before .before .before .before .before .before .before .before in
-    c .before .loop .inv .lies .long ∙ goes-long (seed-slots .seed-slots .ensures) (some-lain (blank-lies (start .pre .0) (start .pre .1)))
+    c .before .loop .inv .lies .long ∙ goes-long (seed-slots .seed-slots .ensures) (some-lain (zero-lies (start .pre .0) (start .pre .1)))
 
 returns-2 : tie.Need-returns-2 Inv-loop μ-loop
 unfolding zeros
@@ -123,7 +123,7 @@ returns-2 c =
     let ended = c .before .loop .inv in (
       done-end _ (expanding-done _ _ ended (c .loop-test .left)) (ended .lies .marks-are),
       expanding-empty _ _ ended (c .loop-test .left)
-          ∙ ap (λ (k : ℕ). replicate k 0) (goes-long (seed-slots .seed-slots .ensures) (some-lain (blank-lies (start .pre .0) (start .pre .1)))),
+          ∙ ap (λ (k : ℕ). replicate k 0) (goes-long (seed-slots .seed-slots .ensures) (some-lain (zero-lies (start .pre .0) (start .pre .1)))),
     )
 
 pub expand-along-spec : {M : Type 1} → statement M

@@ -12,11 +12,11 @@ cast-a c = search needs
 dependence-of-requires : tie.Need-dependence-of-requires
 dependence-of-requires c κs = search needs
 
-cast-end-of : tie.Need-cast-end-of
-cast-end-of c = search needs
+cast-reached-end : tie.Need-cast-reached-end
+cast-reached-end c = search needs
 
-end-of-requires : tie.Need-end-of-requires
-end-of-requires c κs = search needs
+reached-end-requires : tie.Need-reached-end-requires
+reached-end-requires c κs = search needs
 
 bucket-of-requires : tie.Need-bucket-of-requires
 bucket-of-requires c κs = search needs
@@ -32,22 +32,22 @@ add-t10 c = search needs
 
 sub-t11 : tie.Need-sub-t11
 sub-t11 c =
-    let end-of = c .before .before .before in
-    let dependence-of = end-of .before .before in
-    in-order _ _ (dependence-of .dependence-of .ensures) (end-of .end-of .ensures) (c .before .before .if1 .taken) (c .before .bucket-of .ensures .0) (c .bucket-of2 .ensures .0)
+    let reached-end = c .before .before .before in
+    let dependence-of = reached-end .before .before in
+    in-order _ _ (dependence-of .dependence-of .ensures) (reached-end .reached-end .ensures) (c .before .before .if1 .taken) (c .before .bucket-of .ensures .0) (c .bucket-of2 .ensures .0)
 
 returns : tie.Need-returns
 returns c =
-    let end-of = c .before .before .before in
-    let dependence-of = end-of .before .before in
+    let reached-end = c .before .before .before in
+    let dependence-of = reached-end .before .before in
     let rule = dependence-of .dependence-of .ensures in
-    let end = end-of .end-of .ensures in
+    let end = reached-end .reached-end .ensures in
     let first = c .before .bucket-of .ensures .0 in
     let up = in-order _ _ rule end (c .before .before .if1 .taken) first (c .bucket-of2 .ensures .0) in
     (some-buckets _ _ rule end (c .before .before .if1 .taken) first (c .bucket-of2 .ensures .0), omega (arith, up, c .bucket-of2 .ensures .1))
 
 returns-2 : tie.Need-returns-2
-returns-2 c = (no-buckets _ _ (c .before .before .before .dependence-of .ensures) (c .before .end-of .ensures) (c .if1 .left), omega arith)
+returns-2 c = (no-buckets _ _ (c .before .before .before .dependence-of .ensures) (c .before .reached-end .ensures) (c .if1 .left), omega arith)
 
 pub buckets-of-spec : {M : Type 1} → statement M
 buckets-of-spec =
@@ -55,8 +55,8 @@ buckets-of-spec =
     (tie.spec
     cast-a
     dependence-of-requires
-    cast-end-of
-    end-of-requires
+    cast-reached-end
+    reached-end-requires
     bucket-of-requires
     sub-bucket-of
     bucket-of-requires-2

@@ -3,7 +3,7 @@
 use Rattle.model.specs.Dependencies.{field}
 use Rattle.closure_marks.specs.Fields.{fieldsIn}
 use Rattle.closure_marks.specs.declared.Fields.the-variants.{None, A, B, C, BAndNext, AAndB}
-use Rattle.closure_marks.proofs.Seeding.{held}
+use Rattle.closure_marks.proofs.Seeding.{fields-held}
 use Rattle.closure_marks.proofs.Marking.{none-held, one-held, two-held}
 use borrow.Author.Needs.{needs}
 use Rattle.closure_marks.proofs.seeds.seed_fields.Statement.{statement}
@@ -65,42 +65,42 @@ unfolding fieldsIn field
 returns c =
     let fields-of = c .before .before .before in
     let start = fields-of .before .before .before .before in
-    held (start .args .inst) _ (fields-of .fields-of .result) None (fields-of .fields-of .ensures) (c .before .enum-told .given .1) (none-held (c .none .ensures))
+    fields-held (start .args .inst) _ (fields-of .fields-of .result) None (fields-of .fields-of .ensures) (c .before .enum-told .given .1) (none-held (c .none .ensures))
 
 returns-2 : tie.Need-returns-2
 unfolding fieldsIn field
 returns-2 c =
     let fields-of = c .before .before .before in
     let start = fields-of .before .before .before .before in
-    held (start .args .inst) _ (fields-of .fields-of .result) A (fields-of .fields-of .ensures) (c .before .enum-told2 .given .1) (one-held (c .one .ensures))
+    fields-held (start .args .inst) _ (fields-of .fields-of .result) A (fields-of .fields-of .ensures) (c .before .enum-told2 .given .1) (one-held (c .one .ensures))
 
 returns-3 : tie.Need-returns-3
 unfolding fieldsIn field
 returns-3 c =
     let fields-of = c .before .before .before in
     let start = fields-of .before .before .before .before in
-    held (start .args .inst) _ (fields-of .fields-of .result) B (fields-of .fields-of .ensures) (c .before .enum-told3 .given .1) (one-held (c .one2 .ensures))
+    fields-held (start .args .inst) _ (fields-of .fields-of .result) B (fields-of .fields-of .ensures) (c .before .enum-told3 .given .1) (one-held (c .one2 .ensures))
 
 returns-4 : tie.Need-returns-4
 unfolding fieldsIn field
 returns-4 c =
     let fields-of = c .before .before .before in
     let start = fields-of .before .before .before .before in
-    held (start .args .inst) _ (fields-of .fields-of .result) C (fields-of .fields-of .ensures) (c .before .enum-told4 .given .1) (one-held (c .one3 .ensures))
+    fields-held (start .args .inst) _ (fields-of .fields-of .result) C (fields-of .fields-of .ensures) (c .before .enum-told4 .given .1) (one-held (c .one3 .ensures))
 
 returns-5 : tie.Need-returns-5
 unfolding fieldsIn field
 returns-5 c =
     let fields-of = c .before .before .before in
     let start = fields-of .before .before .before .before in
-    held (start .args .inst) _ (fields-of .fields-of .result) BAndNext (fields-of .fields-of .ensures) (c .before .enum-told5 .given .1) (two-held (c .two .ensures))
+    fields-held (start .args .inst) _ (fields-of .fields-of .result) BAndNext (fields-of .fields-of .ensures) (c .before .enum-told5 .given .1) (two-held (c .two .ensures))
 
 returns-6 : tie.Need-returns-6
 unfolding fieldsIn field
 returns-6 c =
     let fields-of = c .before .before .before in
     let start = fields-of .before .before .before .before in
-    held (start .args .inst) _ (fields-of .fields-of .result) AAndB (fields-of .fields-of .ensures) (c .before .enum-told6 .given .1) (two-held (c .two2 .ensures))
+    fields-held (start .args .inst) _ (fields-of .fields-of .result) AAndB (fields-of .fields-of .ensures) (c .before .enum-told6 .given .1) (two-held (c .two2 .ensures))
 
 pub seed-fields-spec : {M : Type 1} → statement M
 seed-fields-spec =

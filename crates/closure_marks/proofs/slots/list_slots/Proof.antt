@@ -2,7 +2,7 @@
 -- Assumes nothing.
 use mathlib.Core.Path.{_∙_}
 use native.Mathlib.Omega.{arith}
-use Rattle.closure_marks.proofs.Listing.{fits, fits-not}
+use Rattle.closure_marks.proofs.Listing.{marks-fit, fits-not}
 use borrow.Author.Needs.{needs}
 use Rattle.closure_marks.proofs.slots.list_slots.Statement.{statement}
 use Rattle.closure_marks.proofs.slots.list_slots.Tie as tie
@@ -13,8 +13,8 @@ count-marks-requires c κs = search needs
 returns : tie.Need-returns
 returns c = (c .before .count-marks .ensures, fits-not _ _ (omega (arith, c .before .count-marks .ensures, c .if1 .taken)))
 
-write-slots-requires : tie.Need-write-slots-requires
-write-slots-requires c κs =
+write-marked-slots-requires : tie.Need-write-marked-slots-requires
+write-marked-slots-requires c κs =
     let many = c .before .before .count-marks .ensures in (c .before .before .before .before .before .pre, omega (arith, many, c .before .if1 .left), many)
 
 same-length : tie.Need-same-length
@@ -22,11 +22,11 @@ same-length c = search needs
 
 returns-2 : tie.Need-returns-2
 returns-2 c =
-    let write-slots = c .before .before in
-    let else1 = write-slots .before .before in
+    let write-marked-slots = c .before .before in
+    let else1 = write-marked-slots .before .before in
     let count-marks = else1 .before in
-    (count-marks .count-marks .ensures, write-slots .write-slots .ensures ∙ fits _ _ (omega (arith, count-marks .count-marks .ensures, else1 .if1 .left)))
+    (count-marks .count-marks .ensures, write-marked-slots .write-marked-slots .ensures ∙ marks-fit _ _ (omega (arith, count-marks .count-marks .ensures, else1 .if1 .left)))
 
 pub list-slots-spec : {M : Type 1} → statement M
 list-slots-spec =
-    tie.close (tie.spec count-marks-requires returns write-slots-requires same-length returns-2)
+    tie.close (tie.spec count-marks-requires returns write-marked-slots-requires same-length returns-2)

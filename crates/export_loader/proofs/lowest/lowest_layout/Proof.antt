@@ -1,7 +1,9 @@
 -- `lowest_layout` meets its contract: each way out is one of the questions'.
 -- Assumes nothing.
-use Rattle.export_loader.proofs.Telling.{no-entry, sheet-refused, accepted, searched}
+use Rattle.export_loader.proofs.Telling.{no-entry, sheet-refused, searched}
+use mathlib.Core.Path.{sym, _∙_}
 use borrow.Author.Needs.{needs}
+use Rattle.sheet_questions.proofs.Refused.{accepted}
 use Rattle.export_loader.proofs.lowest.lowest_layout.Statement.{statement}
 use Rattle.export_loader.proofs.lowest.lowest_layout.Tie as tie
 
@@ -18,7 +20,7 @@ enum-known-checked-2 : tie.Need-enum-known-checked-2
 enum-known-checked-2 c = search needs
 
 put-lowest-requires : tie.Need-put-lowest-requires
-put-lowest-requires c κs = let start = c .before .before .before .before .before .before .before .before in (accepted _ (start .args .layout) (start .args .out .now) (c .before .before .before .before .before .if1 .left) (c .before .before .before .before .check-sheet .ensures) (c .before .before .checked2 .given .1), c .before .before .before .before .before .if1 .left)
+put-lowest-requires c κs = (accepted _ (sym (c .before .before .checked2 .given .1) ∙ c .before .before .before .before .check-sheet .ensures), c .before .before .before .before .before .if1 .left)
 
 returns-2 : tie.Need-returns-2
 returns-2 c = sheet-refused _ _ _ (c .before .before .before .before .if1 .left) (c .before .before .before .check-sheet .ensures) (c .before .checked .given .1)

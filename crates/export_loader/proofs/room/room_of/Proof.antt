@@ -3,7 +3,8 @@
 use native.Mathlib.Omega.{arith}
 use Rattle.sheet.proofs.Asked.{measured}
 use Rattle.sheet.proofs.Counted.{counted}
-use Rattle.export_loader.proofs.Telling.{out-too-short, turned-away, taken-in, told}
+use Rattle.call_admission.proofs.Asking.{admitted-lengths}
+use Rattle.export_loader.proofs.Telling.{out-too-short, room-refused, room-told}
 use borrow.Author.Needs.{needs}
 use Rattle.export_loader.proofs.room.room_of.Statement.{statement}
 use Rattle.export_loader.proofs.room.room_of.Tie as tie
@@ -21,10 +22,10 @@ enum-known-admission-2 : tie.Need-enum-known-admission-2
 enum-known-admission-2 c = search needs
 
 put-room-requires : tie.Need-put-room-requires
-put-room-requires c κs = let start = c .before .before .before .before .before .before .before .before .before .before .before .before in let t = taken-in (start .args .sheet .now) (start .args .marks .now) (start .args .stack .now) (start .args .out .now) (c .before .before .before .before .before .before .before .if1 .left) (c .before .before .before .before .before .before .admit .ensures) (c .before .before .before .before .admission2 .given .1) in let n = counted (t .0 .are) .local-slots in (measured (t .0), omega (arith, n, t .1), omega (arith, n, t .2), c .before .before .before .before .before .before .before .if1 .left)
+put-room-requires c κs = let t = admitted-lengths _ _ _ (c .before .before .before .before .before .before .admit .ensures) (c .before .before .before .before .admission2 .given .1) in let n = counted (t .0 .are) .local-slots in (measured (t .0), omega (arith, n, t .1), omega (arith, n, t .2), c .before .before .before .before .before .before .before .if1 .left)
 
 returns-2 : tie.Need-returns-2
-returns-2 c = let start = c .before .before .before .before .before .before .before .before .before in turned-away (start .args .sheet .now) (start .args .marks .now) (start .args .stack .now) (start .args .out .now) (c .before .before .before .before .if1 .left) (c .before .before .before .admit .ensures) (c .before .admission .given .1)
+returns-2 c = let start = c .before .before .before .before .before .before .before .before .before in room-refused (start .args .sheet .now) (start .args .marks .now) (start .args .stack .now) (start .args .out .now) (c .before .before .before .before .if1 .left) (c .before .before .before .admit .ensures) (c .before .admission .given .1)
 
 same-length : tie.Need-same-length
 same-length c = search needs
@@ -36,7 +37,7 @@ same-length-3 : tie.Need-same-length-3
 same-length-3 c = search needs
 
 returns-3 : tie.Need-returns-3
-returns-3 c = let start = c .before .before .before .before .before .before .before .before .before .before .before .before .before .before .before .before .before .before .before in let e = c .before .before .before .before .before .before .put-room .ensures in told (start .args .sheet .now) (start .args .marks .now) (start .args .stack .now) (start .args .out .now) (c .before .before .before .before .before .before .before .before .before .before .before .before .before .before .if1 .left) (c .before .before .before .before .before .before .before .before .before .before .before .before .before .admit .ensures) (c .before .before .before .before .before .before .before .before .before .before .before .admission2 .given .1) (e .0) (e .1) (e .2)
+returns-3 c = let start = c .before .before .before .before .before .before .before .before .before .before .before .before .before .before .before .before .before .before .before in let e = c .before .before .before .before .before .before .put-room .ensures in room-told (start .args .sheet .now) (start .args .marks .now) (start .args .stack .now) (start .args .out .now) (c .before .before .before .before .before .before .before .before .before .before .before .before .before .before .if1 .left) (c .before .before .before .before .before .before .before .before .before .before .before .before .before .admit .ensures) (c .before .before .before .before .before .before .before .before .before .before .before .admission2 .given .1) (e .0) (e .1) (e .2)
 
 pub room-of-spec : {M : Type 1} → statement M
 room-of-spec =

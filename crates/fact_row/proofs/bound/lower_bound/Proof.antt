@@ -1,8 +1,7 @@
 -- `fact_row::bound::lower_bound` meets its contract: each turn halves the part in which the bound lies. Assumes nothing.
-use Prim.Native.Nat.{_-_}
 use native.Mathlib.Omega.{arith}
 use borrow.Author.Needs.{needs}
-use Rattle.fact_row.proofs.Ascending.{Halved, whole, halved, bound-above, bound-at, bound-none}
+use Rattle.fact_row.proofs.Ascending.{Halved, halved-none, halved, bound-above, bound-at, bound-none}
 use Rattle.fact_row.proofs.bound.lower_bound.Statement.{statement}
 use Rattle.fact_row.proofs.bound.lower_bound.Tie as tie
 
@@ -16,7 +15,7 @@ returns : tie.Need-returns Inv-loop μ-loop
 returns c = bound-none _ _ (c .if1 .taken)
 
 loop-holds : tie.Need-loop-holds Inv-loop μ-loop
-loop-holds c = whole _ _ (omega arith)
+loop-holds c = halved-none _ _ (omega arith)
 
 add-mid : tie.Need-add-mid Inv-loop μ-loop
 add-mid c = omega arith

@@ -1,5 +1,5 @@
 -- `lookup::shown::show` meets its contract. Assumes nothing.
-use Rattle.lookup.proofs.Show.{not-known, first-shown, other-kind, other-value, same-shown, still-mixed}
+use Rattle.lookup.proofs.Show.{not-known, first-shown, shows-other-kind, other-value, same-shown, still-mixed}
 use borrow.Author.Needs.{needs}
 use Rattle.lookup.proofs.shown.show.Statement.{statement}
 use Rattle.lookup.proofs.shown.show.Tie as tie
@@ -19,7 +19,7 @@ returns-2 : tie.Need-returns-2
 returns-2 c =
     let a = c .before .before .before .before .before .args in
     let one = c .before .before .seen .given in
-    other-kind (a .kind) (a .value) (a .seen) (c .before .before .before .before .if1 .left) (one .0 .0) (one .0 .1 .0) (one .1) (c .if2 .taken)
+    shows-other-kind (a .kind) (a .value) (a .seen) (c .before .before .before .before .if1 .left) (one .0 .0) (one .0 .1 .0) (one .1) (c .if2 .taken)
 
 returns-3 : tie.Need-returns-3
 returns-3 c =

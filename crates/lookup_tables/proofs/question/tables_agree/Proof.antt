@@ -1,7 +1,7 @@
 -- `lookup_tables::question::tables_agree` meets its contract. Assumes nothing.
 use mathlib.Core.Path.{sym, _∙_}
 use borrow.Author.Tests.{not-true, not-false}
-use Rattle.lookup_tables.proofs.Agreement.{unordered, other-kinds, by-values}
+use Rattle.lookup_tables.proofs.Agreement.{unordered, other-kinds-agree, by-values}
 use borrow.Author.Needs.{needs}
 use denote.Ref.{now}
 use Rattle.lookup_tables.proofs.question.tables_agree.Statement.{statement}
@@ -21,7 +21,7 @@ is-product-requires c κs = search needs
 returns-2 : tie.Need-returns-2
 returns-2 c =
     let a = c .before .before .before .before .before .before .before .before .args in
-    other-kinds (now (a .slots)) (now (a .present)) (now (a .kinds)) (now (a .values)) (sym (c .before .before .before .ascending .ensures) ∙ not-false _ (c .before .before .if1 .left)) (sym (c .before .is-product .ensures) ∙ not-true _ (c .if2 .taken))
+    other-kinds-agree (now (a .slots)) (now (a .present)) (now (a .kinds)) (now (a .values)) (sym (c .before .before .before .ascending .ensures) ∙ not-false _ (c .before .before .if1 .left)) (sym (c .before .is-product .ensures) ∙ not-true _ (c .if2 .taken))
 
 is-product-requires-2 : tie.Need-is-product-requires-2
 is-product-requires-2 c κs = search needs

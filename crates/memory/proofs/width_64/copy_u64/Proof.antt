@@ -2,7 +2,7 @@
 use Prim.Native.Nat.{_-_}
 use lib.ListN.{length, getD}
 use mathlib.Core.Path.{refl}
-use Rattle.memory.proofs.Turned.{Turned, start, turn, copied}
+use Rattle.memory.proofs.Turned.{Turned, turned-none, turn, turned-copy}
 use native.Mathlib.Omega.{arith}
 use Rattle.memory.proofs.width_64.copy_u64.Statement.{statement}
 use Rattle.memory.proofs.width_64.copy_u64.Tie as tie
@@ -14,7 +14,7 @@ abbrev μ-loop : tie.MeasureT-loop
 μ-loop from to₀ i₀ to i = length to₀ - i
 
 loop-holds : tie.Need-loop-holds Inv-loop μ-loop
-loop-holds c = start _ _
+loop-holds c = turned-none _ _
 
 mul-to : tie.Need-mul-to Inv-loop μ-loop
 mul-to c = omega arith
@@ -41,7 +41,7 @@ same-length : tie.Need-same-length Inv-loop μ-loop
 same-length c = c .before .loop .inv .long
 
 returns : tie.Need-returns Inv-loop μ-loop
-returns c = copied (c .before .before .pre) (c .before .loop .inv) (c .loop-test .left)
+returns c = turned-copy (c .before .before .pre) (c .before .loop .inv) (c .loop-test .left)
 
 pub copy-u64-spec : {M : Type 1} → statement M
 copy-u64-spec =

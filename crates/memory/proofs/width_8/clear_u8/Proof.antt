@@ -2,7 +2,7 @@
 use Prim.Native.Nat.{_-_}
 use lib.ListN.{length}
 use mathlib.Core.Path.{refl}
-use Rattle.memory.proofs.Turned.{Turned, start, turn, cleared}
+use Rattle.memory.proofs.Turned.{Turned, turned-none, turn, turned-clear}
 use native.Mathlib.Omega.{arith}
 use Rattle.memory.proofs.width_8.clear_u8.Statement.{statement}
 use Rattle.memory.proofs.width_8.clear_u8.Tie as tie
@@ -14,7 +14,7 @@ abbrev μ-loop : tie.MeasureT-loop
 μ-loop out₀ i₀ out i = length out₀ - i
 
 loop-holds : tie.Need-loop-holds Inv-loop μ-loop
-loop-holds c = start _ _
+loop-holds c = turned-none _ _
 
 slice-write-out : tie.Need-slice-write-out Inv-loop μ-loop
 slice-write-out c = omega arith
@@ -32,7 +32,7 @@ same-length : tie.Need-same-length Inv-loop μ-loop
 same-length c = c .before .loop .inv .long
 
 returns : tie.Need-returns Inv-loop μ-loop
-returns c = cleared (c .before .loop .inv) (c .loop-test .left)
+returns c = turned-clear (c .before .loop .inv) (c .loop-test .left)
 
 pub clear-u8-spec : {M : Type 1} → statement M
 clear-u8-spec =

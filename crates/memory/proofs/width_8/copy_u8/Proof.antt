@@ -2,7 +2,7 @@
 use Prim.Native.Nat.{_-_}
 use lib.ListN.{length, getD}
 use mathlib.Core.Path.{refl}
-use Rattle.memory.proofs.Turned.{Turned, start, turn, copied}
+use Rattle.memory.proofs.Turned.{Turned, turned-none, turn, turned-copy}
 use native.Mathlib.Omega.{arith}
 use Rattle.memory.proofs.width_8.copy_u8.Statement.{statement}
 use Rattle.memory.proofs.width_8.copy_u8.Tie as tie
@@ -14,7 +14,7 @@ abbrev μ-loop : tie.MeasureT-loop
 μ-loop from to₀ i₀ to i = length to₀ - i
 
 loop-holds : tie.Need-loop-holds Inv-loop μ-loop
-loop-holds c = start _ _
+loop-holds c = turned-none _ _
 
 shared-slice-read-to : tie.Need-shared-slice-read-to Inv-loop μ-loop
 shared-slice-read-to c = omega arith
@@ -35,7 +35,7 @@ same-length : tie.Need-same-length Inv-loop μ-loop
 same-length c = c .before .loop .inv .long
 
 returns : tie.Need-returns Inv-loop μ-loop
-returns c = copied (c .before .before .pre) (c .before .loop .inv) (c .loop-test .left)
+returns c = turned-copy (c .before .before .pre) (c .before .loop .inv) (c .loop-test .left)
 
 pub copy-u8-spec : {M : Type 1} → statement M
 copy-u8-spec =

@@ -1,14 +1,17 @@
--- `sheet_fields::note_a_at` meets its contract. Assumes nothing.
-use mathlib.Core.Path.{_∙_}
-use Rattle.sheet.proofs.Inside.{note-a-inside, note-a-is}
+-- `sheet_fields::instructions::note_a_at` meets its contract. Assumes nothing.
+use native.Mathlib.Omega.{arith}
+use Rattle.model.specs.Sheet.{noteA}
+use Rattle.sheet.specs.Sizes.{placesOf, sizesOf}
+use Rattle.sheet.proofs.Inside.{arrays-inside}
 use Rattle.sheet_fields.proofs.instructions.note_a_at.Statement.{statement}
 use Rattle.sheet_fields.proofs.instructions.note_a_at.Tie as tie
 
 u16-in-requires : tie.Need-u16-in-requires
-u16-in-requires c κs = note-a-inside (c .before .pre .0) _ (c .before .pre .1)
+u16-in-requires c κs = omega (arith, arrays-inside (c .before .pre .0) .note-as)
 
 returns : tie.Need-returns
-returns c = c .u16-in .ensures ∙ note-a-is (c .before .before .pre .0) (c .before .before .args .pc)
+unfolding sizesOf placesOf noteA
+returns c = rw (c .u16-in .ensures, c .before .before .pre .0 .are)
 
 pub note-a-at-spec : {M : Type 1} → statement M
 note-a-at-spec = tie.close (tie.spec u16-in-requires returns)

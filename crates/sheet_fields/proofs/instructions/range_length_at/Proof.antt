@@ -1,14 +1,17 @@
--- `sheet_fields::range_length_at` meets its contract. Assumes nothing.
-use mathlib.Core.Path.{_∙_}
-use Rattle.sheet.proofs.Inside.{range-length-inside, range-length-is}
+-- `sheet_fields::instructions::range_length_at` meets its contract. Assumes nothing.
+use native.Mathlib.Omega.{arith}
+use Rattle.model.specs.Sheet.{rangeLength}
+use Rattle.sheet.specs.Sizes.{placesOf, sizesOf}
+use Rattle.sheet.proofs.Inside.{arrays-inside}
 use Rattle.sheet_fields.proofs.instructions.range_length_at.Statement.{statement}
 use Rattle.sheet_fields.proofs.instructions.range_length_at.Tie as tie
 
 u32-in-requires : tie.Need-u32-in-requires
-u32-in-requires c κs = range-length-inside (c .before .pre .0) _ (c .before .pre .1)
+u32-in-requires c κs = omega (arith, arrays-inside (c .before .pre .0) .range-lengths)
 
 returns : tie.Need-returns
-returns c = c .u32-in .ensures ∙ range-length-is (c .before .before .pre .0) (c .before .before .args .i)
+unfolding sizesOf placesOf rangeLength
+returns c = rw (c .u32-in .ensures, c .before .before .pre .0 .are)
 
 pub range-length-at-spec : {M : Type 1} → statement M
 range-length-at-spec = tie.close (tie.spec u32-in-requires returns)

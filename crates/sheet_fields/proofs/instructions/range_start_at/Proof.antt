@@ -1,14 +1,17 @@
--- `sheet_fields::range_start_at` meets its contract. Assumes nothing.
-use mathlib.Core.Path.{_∙_}
-use Rattle.sheet.proofs.Inside.{range-start-inside, range-start-is}
+-- `sheet_fields::instructions::range_start_at` meets its contract. Assumes nothing.
+use native.Mathlib.Omega.{arith}
+use Rattle.model.specs.Sheet.{rangeStart}
+use Rattle.sheet.specs.Sizes.{placesOf, sizesOf}
+use Rattle.sheet.proofs.Inside.{arrays-inside}
 use Rattle.sheet_fields.proofs.instructions.range_start_at.Statement.{statement}
 use Rattle.sheet_fields.proofs.instructions.range_start_at.Tie as tie
 
 u16-in-requires : tie.Need-u16-in-requires
-u16-in-requires c κs = range-start-inside (c .before .pre .0) _ (c .before .pre .1)
+u16-in-requires c κs = omega (arith, arrays-inside (c .before .pre .0) .range-starts)
 
 returns : tie.Need-returns
-returns c = c .u16-in .ensures ∙ range-start-is (c .before .before .pre .0) (c .before .before .args .i)
+unfolding sizesOf placesOf rangeStart
+returns c = rw (c .u16-in .ensures, c .before .before .pre .0 .are)
 
 pub range-start-at-spec : {M : Type 1} → statement M
 range-start-at-spec = tie.close (tie.spec u16-in-requires returns)

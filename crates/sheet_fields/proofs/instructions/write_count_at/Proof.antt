@@ -1,14 +1,17 @@
--- `sheet_fields::write_count_at` meets its contract. Assumes nothing.
-use mathlib.Core.Path.{_∙_}
-use Rattle.sheet.proofs.Inside.{write-count-inside, write-count-is}
+-- `sheet_fields::instructions::write_count_at` meets its contract. Assumes nothing.
+use native.Mathlib.Omega.{arith}
+use Rattle.model.specs.Sheet.{writeCount}
+use Rattle.sheet.specs.Sizes.{placesOf, sizesOf}
+use Rattle.sheet.proofs.Inside.{arrays-inside}
 use Rattle.sheet_fields.proofs.instructions.write_count_at.Statement.{statement}
 use Rattle.sheet_fields.proofs.instructions.write_count_at.Tie as tie
 
 u16-in-requires : tie.Need-u16-in-requires
-u16-in-requires c κs = write-count-inside (c .before .pre .0) _ (c .before .pre .1)
+u16-in-requires c κs = omega (arith, arrays-inside (c .before .pre .0) .write-counts)
 
 returns : tie.Need-returns
-returns c = c .u16-in .ensures ∙ write-count-is (c .before .before .pre .0) (c .before .before .args .pc)
+unfolding sizesOf placesOf writeCount
+returns c = rw (c .u16-in .ensures, c .before .before .pre .0 .are)
 
 pub write-count-at-spec : {M : Type 1} → statement M
 write-count-at-spec = tie.close (tie.spec u16-in-requires returns)

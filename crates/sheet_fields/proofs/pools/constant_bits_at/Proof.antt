@@ -1,14 +1,17 @@
--- `sheet_fields::constant_bits_at` meets its contract. Assumes nothing.
-use mathlib.Core.Path.{_∙_}
-use Rattle.sheet.proofs.Inside.{constant-bits-inside, constant-bits-is}
+-- `sheet_fields::pools::constant_bits_at` meets its contract. Assumes nothing.
+use native.Mathlib.Omega.{arith}
+use Rattle.model.specs.Sheet.{constantBits}
+use Rattle.sheet.specs.Sizes.{placesOf, sizesOf}
+use Rattle.sheet.proofs.Inside.{arrays-inside}
 use Rattle.sheet_fields.proofs.pools.constant_bits_at.Statement.{statement}
 use Rattle.sheet_fields.proofs.pools.constant_bits_at.Tie as tie
 
 u64-in-requires : tie.Need-u64-in-requires
-u64-in-requires c κs = constant-bits-inside (c .before .pre .0) _ (c .before .pre .1)
+u64-in-requires c κs = omega (arith, arrays-inside (c .before .pre .0) .constant-values)
 
 returns : tie.Need-returns
-returns c = c .u64-in .ensures ∙ constant-bits-is (c .before .before .pre .0) (c .before .before .args .i)
+unfolding sizesOf placesOf constantBits
+returns c = rw (c .u64-in .ensures, c .before .before .pre .0 .are)
 
 pub constant-bits-at-spec : {M : Type 1} → statement M
 constant-bits-at-spec = tie.close (tie.spec u64-in-requires returns)

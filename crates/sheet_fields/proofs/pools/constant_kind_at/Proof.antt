@@ -1,14 +1,17 @@
--- `sheet_fields::constant_kind_at` meets its contract. Assumes nothing.
-use mathlib.Core.Path.{_∙_}
-use Rattle.sheet.proofs.Inside.{constant-kind-inside, constant-kind-is}
+-- `sheet_fields::pools::constant_kind_at` meets its contract. Assumes nothing.
+use native.Mathlib.Omega.{arith}
+use Rattle.model.specs.Sheet.{constantKind}
+use Rattle.sheet.specs.Sizes.{placesOf, sizesOf}
+use Rattle.sheet.proofs.Inside.{arrays-inside}
 use Rattle.sheet_fields.proofs.pools.constant_kind_at.Statement.{statement}
 use Rattle.sheet_fields.proofs.pools.constant_kind_at.Tie as tie
 
 byte-in-requires : tie.Need-byte-in-requires
-byte-in-requires c κs = constant-kind-inside (c .before .pre .0) _ (c .before .pre .1)
+byte-in-requires c κs = omega (arith, arrays-inside (c .before .pre .0) .constant-kinds)
 
 returns : tie.Need-returns
-returns c = c .byte-in .ensures ∙ constant-kind-is (c .before .before .pre .0) (c .before .before .args .i)
+unfolding sizesOf placesOf constantKind
+returns c = rw (c .byte-in .ensures, c .before .before .pre .0 .are)
 
 pub constant-kind-at-spec : {M : Type 1} → statement M
 constant-kind-at-spec = tie.close (tie.spec byte-in-requires returns)

@@ -3,13 +3,13 @@ use Prim.Native.Nat.{_-_}
 use Rattle.model.specs.Sheet.{rangesOf, firstRange}
 use Rattle.sheet.proofs.Limited.{limited}
 use Rattle.sheet.proofs.Counted.{counted}
-use Rattle.sheet.proofs.Adding.{Added, added-none, added-more, added-all}
+use Rattle.sheet.proofs.Adding.{SumUpto, added-none, added-more, added-all}
 use native.Mathlib.Omega.{arith}
 use Rattle.sheet_questions.proofs.sums.ranges_taken.Statement.{statement}
 use Rattle.sheet_questions.proofs.sums.ranges_taken.Tie as tie
 
 abbrev Inv-loop : tie.InvT-loop
-Inv-loop sheet sizes n sum₀ pc₀ sum pc = Added (rangesOf sheet) n sum pc
+Inv-loop sheet sizes n sum₀ pc₀ sum pc = SumUpto (rangesOf sheet) n sum pc
 
 abbrev μ-loop : tie.MeasureT-loop
 μ-loop sheet sizes n sum₀ pc₀ sum pc = n - pc

@@ -3,13 +3,13 @@ use Prim.Native.Nat.{_-_}
 use Rattle.model.specs.Sheet.{layoutLength, layoutStart}
 use Rattle.sheet.proofs.Limited.{limited}
 use Rattle.sheet.proofs.Counted.{counted}
-use Rattle.sheet.proofs.Adding.{Added, added-none, added-more, added-all}
+use Rattle.sheet.proofs.Adding.{SumUpto, added-none, added-more, added-all}
 use native.Mathlib.Omega.{arith}
 use Rattle.sheet_questions.proofs.sums.slot_kinds_taken.Statement.{statement}
 use Rattle.sheet_questions.proofs.sums.slot_kinds_taken.Tie as tie
 
 abbrev Inv-loop : tie.InvT-loop
-Inv-loop sheet sizes y sum₀ i₀ sum i = Added (layoutLength sheet) y sum i
+Inv-loop sheet sizes y sum₀ i₀ sum i = SumUpto (layoutLength sheet) y sum i
 
 abbrev μ-loop : tie.MeasureT-loop
 μ-loop sheet sizes y sum₀ i₀ sum i = y - i

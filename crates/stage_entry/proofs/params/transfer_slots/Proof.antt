@@ -4,14 +4,14 @@ use Rattle.model.specs.Sheet.{paramWidth}
 use Rattle.model.specs.Parameters.{transferSlots}
 use Rattle.sheet.proofs.Limited.{limited}
 use Rattle.sheet.proofs.Counted.{counted}
-use Rattle.sheet.proofs.Adding.{Added, added-none, added-more, added-all}
+use Rattle.sheet.proofs.Adding.{SumUpto, added-none, added-more, added-all}
 use native.Mathlib.Omega.{arith}
 use borrow.Author.Needs.{needs}
 use Rattle.stage_entry.proofs.params.transfer_slots.Statement.{statement}
 use Rattle.stage_entry.proofs.params.transfer_slots.Tie as tie
 
 abbrev Inv-loop : tie.InvT-loop
-Inv-loop sheet sizes count sum₀ i₀ sum i = Added (λ j. paramWidth sheet j) count sum i
+Inv-loop sheet sizes count sum₀ i₀ sum i = SumUpto (λ j. paramWidth sheet j) count sum i
 
 abbrev μ-loop : tie.MeasureT-loop
 μ-loop sheet sizes count sum₀ i₀ sum i = count - i

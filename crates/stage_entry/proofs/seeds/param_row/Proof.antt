@@ -2,7 +2,7 @@
 use mathlib.Core.Path.{ap, _∙_}
 use lib.ListN.{length}
 use Rattle.stage_entry.specs.First.{firstOf}
-use Rattle.stage_entry.specs.Start.{startOf}
+use Rattle.stage_entry.specs.Start.{paramStartOf}
 use Rattle.model.specs.Analyses.{unknownRow}
 use Rattle.stage_entry.proofs.Made.{blank-lies, blank-rowed}
 use Rattle.stage_entry.proofs.Begun.{param-none, param-some}
@@ -24,7 +24,7 @@ returns c =
     let start = c .before .before .before .before .before .before .before in
     let after-param-start = c .before .before in
     param-none (start .args .sheet .now) (start .args .slots .now) (start .args .resources) (unknownRow (start .args .slots .now)) (after-param-start .param-start .ensures)
-    (ap startOf (c .enum-told .given .1)) (blank-lies (start .pre .1))
+    (ap paramStartOf (c .enum-told .given .1)) (blank-lies (start .pre .1))
 
 seed-params-requires : tie.Need-seed-params-requires
 seed-params-requires c κs =
@@ -44,7 +44,7 @@ returns-2 c =
     let after-start = c .before .before .before .before .before .before .before .before in
     let after-seed-params = c .before .before .before .before in
     after-seed-params .seed-params .ensures _ (blank-lies (start .pre .1))
-    ∙ ap (firstOf (length (start .args .slots .now))) (param-some (start .args .sheet .now) (start .args .slots .now) (start .args .resources) (unknownRow (start .args .slots .now)) (after-param-start .param-start .ensures) (ap startOf (after-start .start .given .1)))
+    ∙ ap (firstOf (length (start .args .slots .now))) (param-some (start .args .sheet .now) (start .args .slots .now) (start .args .resources) (unknownRow (start .args .slots .now)) (after-param-start .param-start .ensures) (ap paramStartOf (after-start .start .given .1)))
 
 pub param-row-spec : {M : Type 1} → statement M
 param-row-spec =

@@ -34,8 +34,8 @@ returns c row fact l e =
     let after-clear-u64 = c .before .before in
     seed-refused (start .args .sheet .now) (start .args .slots .now) (start .args .slot) _ l fact e _ (after-charge-layouts .charge-layouts .ensures) (after-enum-told2 .enum-told2 .given .1) (cleared _ (after-clear-u8 .clear-u8 .ensures) (start .pre .1 .kinds-long)) (cleared _ (after-clear-u64 .clear-u64 .ensures) (start .pre .1 .values-long))
 
-put-requires : tie.Need-put-requires
-put-requires c κs = search needs
+set-fact-requires : tie.Need-set-fact-requires
+set-fact-requires c κs = search needs
 
 same-length-3 : tie.Need-same-length-3
 same-length-3 c = search needs
@@ -48,8 +48,8 @@ returns-2 c row fact l e =
     let start = c .before .before .before .before .before .before .before .before .before .before .before .before .before .before in
     let after-charge-layouts = c .before .before .before .before .before .before .before .before .before in
     let after-enum-told = c .before .before .before .before .before .before .before in
-    let after-put = c .before .before .before .before in
-    seed-covered (start .args .sheet .now) (start .args .slots .now) (start .args .slot) _ l fact e _ (after-charge-layouts .charge-layouts .ensures) (after-enum-told .enum-told .given .1) (start .pre .1) (after-put .put .ensures .0) (after-put .put .ensures .1)
+    let after-set-fact = c .before .before .before .before in
+    seed-covered (start .args .sheet .now) (start .args .slots .now) (start .args .slot) _ l fact e _ (after-charge-layouts .charge-layouts .ensures) (after-enum-told .enum-told .given .1) (start .pre .1) (after-set-fact .set-fact .ensures .0) (after-set-fact .set-fact .ensures .1)
 
 pub seed-fact-spec : {M : Type 1} → statement M
 seed-fact-spec =
@@ -63,7 +63,7 @@ seed-fact-spec =
     same-length
     same-length-2
     returns
-    put-requires
+    set-fact-requires
     same-length-3
     same-length-4
     returns-2)

@@ -6,7 +6,7 @@ use Rattle.model.specs.declared.Counts.{Counts}
 use Rattle.text_listing.specs.Rows.{printedAnalysis}
 use Rattle.model.specs.Call.{table}
 use Rattle.text_listing.specs.Answer.{Listable, answerPart}
-use Rattle.text_words.proofs.Writing.{reword, nothing}
+use Rattle.text_words.proofs.Writing.{reword, no-text}
 use borrow.Author.Needs.{needs}
 use Rattle.text_listing.proofs.answer.answer_lines.Statement.{statement}
 use Rattle.text_listing.proofs.answer.answer_lines.Tie as tie
@@ -45,19 +45,19 @@ returns-2 : tie.Need-returns-2
 unfolding answerPart
 returns-2 c =
     let a = c .before .before .before .before .before .before .before .before .before .args in
-    reword (omega arith) (sym (ap (λ x. answerPart (a .which) (now (a .sheet)) x (table (now (a .slots)) (now (a .present)) (now (a .kinds)) (now (a .values)))) (c .enum-told .given .1))) (nothing (now (a .out)) (a .at) (omega arith))
+    reword (omega arith) (sym (ap (λ x. answerPart (a .which) (now (a .sheet)) x (table (now (a .slots)) (now (a .present)) (now (a .kinds)) (now (a .values)))) (c .enum-told .given .1))) (no-text (now (a .out)) (a .at) (omega arith))
 
 returns-3 : tie.Need-returns-3
 unfolding answerPart
 returns-3 c =
     let a = c .before .before .before .before .before .before .before .before .before .args in
-    reword (omega arith) (sym (ap (λ x. answerPart (a .which) (now (a .sheet)) x (table (now (a .slots)) (now (a .present)) (now (a .kinds)) (now (a .values)))) (c .enum-told2 .given .1))) (nothing (now (a .out)) (a .at) (omega arith))
+    reword (omega arith) (sym (ap (λ x. answerPart (a .which) (now (a .sheet)) x (table (now (a .slots)) (now (a .present)) (now (a .kinds)) (now (a .values)))) (c .enum-told2 .given .1))) (no-text (now (a .out)) (a .at) (omega arith))
 
 returns-4 : tie.Need-returns-4
 unfolding answerPart
 returns-4 c =
     let a = c .before .before .before .before .before .before .before .before .before .args in
-    reword (omega arith) (sym (ap (λ x. answerPart (a .which) (now (a .sheet)) x (table (now (a .slots)) (now (a .present)) (now (a .kinds)) (now (a .values)))) (c .enum-told3 .given .1))) (nothing (now (a .out)) (a .at) (omega arith))
+    reword (omega arith) (sym (ap (λ x. answerPart (a .which) (now (a .sheet)) x (table (now (a .slots)) (now (a .present)) (now (a .kinds)) (now (a .values)))) (c .enum-told3 .given .1))) (no-text (now (a .out)) (a .at) (omega arith))
 
 pub answer-lines-spec : {M : Type 1} → statement M
 answer-lines-spec =

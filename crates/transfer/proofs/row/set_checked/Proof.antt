@@ -1,5 +1,4 @@
 -- `transfer::row::set_checked` meets its contract: IndexCheck puts its fact, any other leaves the row. Assumes nothing.
-use native.Mathlib.Omega.{arith}
 use borrow.Author.Needs.{needs}
 use Rattle.transfer.proofs.Through.{index-checked, not-checked}
 use Rattle.transfer.proofs.row.set_checked.Statement.{statement}
@@ -14,8 +13,8 @@ wide-requires c κs = search needs
 checked-cell-requires : tie.Need-checked-cell-requires
 checked-cell-requires c κs = search needs
 
-put-fact-requires : tie.Need-put-fact-requires
-put-fact-requires c κs = search needs
+set-fact-requires : tie.Need-set-fact-requires
+set-fact-requires c κs = search needs
 
 same-length : tie.Need-same-length
 same-length c = search needs
@@ -26,7 +25,8 @@ same-length-2 c = search needs
 returns : tie.Need-returns
 returns c row l =
     let s = c .before .before .before .before .before .before .before .before .before .before .before .before .before .before in
-    index-checked (s .args .inst) (s .args .slots .now) _ row l (c .before .before .before .before .before .before .before .before .before .before .checks-index .ensures) (c .before .before .before .before .before .before .before .before .before .if1 .taken) (c .before .before .before .before .before .before .before .before .wide .ensures .0) (c .before .before .before .before .before .before .before .checked-cell .ensures) (s .pre .1) (s .pre .2) (λ k l. omega (arith, c .before .before .before .before .before .before .before .before .before .before .before .before .before .shared-slice-known .given k)) (c .before .before .before .before .put-fact .ensures)
+    let put = c .before .before .before .before .set-fact .ensures in
+    index-checked (s .args .inst) (s .args .slots .now) _ row l (c .before .before .before .before .before .before .before .before .before .before .checks-index .ensures) (c .before .before .before .before .before .before .before .before .before .if1 .taken) (s .pre) (c .before .before .before .before .before .before .before .before .wide .ensures .0) (c .before .before .before .before .before .before .before .checked-cell .ensures) (put .0) (put .1)
 
 returns-2 : tie.Need-returns-2
 returns-2 c row l =
@@ -40,7 +40,7 @@ set-checked-spec =
     checks-index-requires
     wide-requires
     checked-cell-requires
-    put-fact-requires
+    set-fact-requires
     same-length
     same-length-2
     returns

@@ -7,7 +7,7 @@ use Rattle.model.specs.Tables.{cellOf, factsOf}
 use Rattle.model.specs.Transfer.{factFor, iterInit}
 use Rattle.model.specs.declared.Instruction.{Instruction}
 use Rattle.fact_row.proofs.Facts.{read}
-use Rattle.transfer_facts.proofs.ContainerRules.{copies-container, iterates, by-note}
+use Rattle.transfer_facts.proofs.ContainerRules.{copies-container, iterates-container, by-note}
 use Rattle.transfer_facts.proofs.containers.container_fact_written_to_slot.Statement.{statement}
 use Rattle.transfer_facts.proofs.containers.container_fact_written_to_slot.Tie as tie
 
@@ -34,7 +34,7 @@ iter-init-cell-requires c κs = search needs
 returns-2 : tie.Need-returns-2
 returns-2 c slot =
     let s = c .before .before .before .before .before .before .before .before .before in
-    iterates (s .args .sheet .now) (s .args .pc) (s .args .inst) (s .pre .0 .3) (s .args .slots .now) (factsOf (s .args .kinds .now) (s .args .values .now)) slot (c .before .before .before .if2 .taken) (c .iter-init-cell .ensures ∙ ap (λ (x : Fact). cellOf (iterInit x)) (read _ (c .before .fact-for-tracked-source2 .ensures ∙ ap (λ (n : ℕ). cellOf (factFor (s .args .slots .now) (factsOf (s .args .kinds .now) (s .args .values .now)) n)) (c .before .before .wide2 .ensures .0))))
+    iterates-container (s .args .sheet .now) (s .args .pc) (s .args .inst) (s .pre .0 .3) (s .args .slots .now) (factsOf (s .args .kinds .now) (s .args .values .now)) slot (c .before .before .before .if2 .taken) (c .iter-init-cell .ensures ∙ ap (λ (x : Fact). cellOf (iterInit x)) (read _ (c .before .fact-for-tracked-source2 .ensures ∙ ap (λ (n : ℕ). cellOf (factFor (s .args .slots .now) (factsOf (s .args .kinds .now) (s .args .values .now)) n)) (c .before .before .wide2 .ensures .0))))
 
 instruction-fact-requires : tie.Need-instruction-fact-requires
 instruction-fact-requires c κs =
