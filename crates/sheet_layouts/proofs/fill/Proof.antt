@@ -2,7 +2,7 @@
 use Prim.Native.Nat.{_-_}
 use lib.ListN.{length}
 use mathlib.Core.Path.{refl}
-use Rattle.memory.proofs.Turned.{Turned, start, turn}
+use Rattle.memory.proofs.Turned.{Turned, turned-none, turn}
 use Rattle.sheet_layouts.proofs.Classes.{filled}
 use native.Mathlib.Omega.{arith}
 use Rattle.sheet_layouts.proofs.fill.Statement.{statement}
@@ -15,7 +15,7 @@ abbrev μ-loop : tie.MeasureT-loop
 μ-loop classes₀ class i₀ classes i = length classes₀ - i
 
 loop-holds : tie.Need-loop-holds Inv-loop μ-loop
-loop-holds c = start _ _
+loop-holds c = turned-none _ _
 
 mul-classes : tie.Need-mul-classes Inv-loop μ-loop
 mul-classes c = omega arith

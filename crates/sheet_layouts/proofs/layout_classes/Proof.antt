@@ -5,7 +5,7 @@ use denote.Ref.{now}
 use lib.ListN.{length}
 use native.Mathlib.Omega.{arith}
 use Rattle.model.specs.Listing.{lowest}
-use Rattle.memory.proofs.Turned.{Turned, start, turn}
+use Rattle.memory.proofs.Turned.{Turned, turned-none, turn}
 use Rattle.sheet_layouts.proofs.Search.{past-count}
 use Rattle.sheet_layouts.proofs.Classes.{all-classes, class-fits}
 use Rattle.sheet_layouts.proofs.layout_classes.Statement.{statement}
@@ -27,7 +27,7 @@ fill-requires : tie.Need-fill-requires Inv-loop μ-loop
 fill-requires c κs = tt
 
 loop-holds : tie.Need-loop-holds Inv-loop μ-loop
-loop-holds c = (omega arith, omega arith, start _ _)
+loop-holds c = (omega arith, omega arith, turned-none _ _)
 
 lowest-of-requires-2 : tie.Need-lowest-of-requires-2 Inv-loop μ-loop
 lowest-of-requires-2 c κs = (c .before .before .before .before .before .before .before .before .before .before .pre .0, omega arith)
