@@ -1,6 +1,6 @@
 -- `take` meets its contract.
 -- Assumes nothing.
-use Prim.Native.Nat.{_-_}
+use native.Mathlib.Nat.{lt-of-lt-of-le}
 use native.Mathlib.Omega.{arith}
 use borrow.Author.Needs.{needs}
 use Rattle.fixpoint_list.proofs.take.Statement.{statement}
@@ -22,7 +22,7 @@ slice-read-entry c = search needs
 
 -- src/lib.rt:27:17
 cast-entry : tie.Need-cast-entry
-cast-entry c = omega (arith, c .slice-known .given (c .before .args .top - 1))
+cast-entry c = record { fits = lt-of-lt-of-le (c .slice-known .given _ .fits) (omega arith) }
 
 -- src/lib.rt:28:5
 mul-work-list : tie.Need-mul-work-list
