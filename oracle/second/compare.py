@@ -3,7 +3,7 @@
   agree < BATCH             every record and listing of a batch; prints the number compared
   mutants [SHARE] < BATCH   each mistake of mutants.txt is told apart by the batch, but those marked as never, which
                             are tried on the first SHARE records
-  coverage < RECORDS        what the recorded answers cover
+  coverage < RECORDS        what these answers cover
 """
 import collections
 import os

@@ -126,6 +126,16 @@ impl Answer {
 pub const NAMES: [&str; 3] = ["constant", "index", "container"];
 
 impl Table {
+    /// Slots, present, kinds or values.
+    pub fn part(&self, which: usize) -> Vec<u64> {
+        match which {
+            0 => self.slots.iter().copied().map(u64::from).collect(),
+            1 => self.present.iter().copied().map(u64::from).collect(),
+            2 => self.kinds.iter().copied().map(u64::from).collect(),
+            _ => self.values.clone(),
+        }
+    }
+
     /// Values stand only for cells that have one: those of kind 2 and above.
     fn put(&self, out: &mut Vec<u8>) {
         out.extend((self.slots.len() as u16).to_le_bytes());

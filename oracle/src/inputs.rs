@@ -1,5 +1,5 @@
 //! Fixed inputs: the proved cases of document 01, readings of it, short sheets in full, sheets at each limit, and the
-//! list of the recorded answers.
+//! list of the recorded sheets.
 
 use crate::answer::{answer, Budget, Outcome};
 use crate::draft::{imm, line, Draft, Line};
@@ -401,7 +401,7 @@ pub fn fixed() -> Vec<Request> {
     out
 }
 
-/// The list of the recorded answers: fixed inputs of moderate length, generated ones, and a few large sheets.
+/// The list of the recorded sheets: fixed inputs of moderate length, generated ones, and a few large sheets.
 pub fn recorded() -> impl Iterator<Item = Request> {
     let generated = (0..RECORDED_GENERATED).map(|number| generated(RECORDED_SEED, number));
     let large = (0..RECORDED_LARGE).map(|number| (large(RECORDED_SEED, number), fresh()));

@@ -5,10 +5,12 @@
 mod answer;
 mod corners;
 pub mod draft;
+pub mod expect;
 pub mod generate;
 pub mod inputs;
 mod listing;
 mod outside;
+pub mod replay;
 mod sheet;
 mod verifier;
 

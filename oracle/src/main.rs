@@ -1,12 +1,13 @@
 //! The commands; README.md says what each reads and writes.
 
 use oracle::inputs::{fixed, recorded, short, worked, wrong_case, Request};
+use oracle::replay::{replay, RecordedSheet};
 use oracle::{answer, corners, generate::generated, generate::large, listing, record, request, sizes, Budget};
 use std::io::{self, BufReader, BufWriter, Read, Write};
 use std::process::ExitCode;
 
-const USAGE: &str = "oracle facts | full BYTES WORK | batch | records | corners | sizes | cases | worked
-       | inputs (recorded | fixed | short STEP | generated SEED FIRST COUNT | large SEED COUNT)";
+const USAGE: &str = "oracle facts | full BYTES WORK | batch | records | corners | lengths | replay | sizes | cases
+       | worked | inputs (recorded | fixed | short STEP | generated SEED FIRST COUNT | large SEED COUNT)";
 
 /// Successor record, dependency, constant fact, index fact, container fact, mark, work slot.
 const UNITS: [usize; 7] = [24, 4, 32, 4, 40, 1, 2];
@@ -39,6 +40,8 @@ fn run(words: &[&str]) -> io::Result<bool> {
             out
         })?,
         ["records"] => answer_all(record)?,
+        ["lengths"] => answer_all(|sheet, budget| RecordedSheet::of(sheet, budget).bytes())?,
+        ["replay"] => print!("{}", replay(&input_bytes()?).ok_or(io::Error::other("a recorded sheet is cut short"))?),
         ["worked"] => io::stdout().write_all(&worked().bytes())?,
         ["corners"] => print!("{}", corners(&input_bytes()?)),
         ["sizes"] => return Ok(sizes_agree()),

@@ -1,7 +1,7 @@
 //! The same sheets through the safe functions of bindings/rust: its buffers are exactly as long as needed, and it answers
 //! the same.
 
-use crate::expect::Sizes;
+use oracle::expect::Sizes;
 use oracle::{Answer, Budget, Outcome, Table};
 use vo_facts::{Analyzed, Buffers, Refusal, Refused};
 

@@ -1,18 +1,9 @@
 //! The 17 buffers of a call, its answer, and the call.
 
-use crate::memory::{After, Buffer};
+use crate::memory::{After, Buffer, Element, Fill};
+use oracle::expect::{Left, Lengths, MARKS, ROW_KINDS, ROW_VALUES, STACK, WORK_LIST};
 use oracle::{Budget, Table, NAMES};
 use vo_facts::raw::{vo_facts_analyze, ANSWER_LENGTH};
-
-/// The number of buffers, and their order: slots, present, kinds and values of each analysis, then the scratch.
-pub const BUFFERS: usize = 17;
-pub const MARKS: usize = 12;
-pub const STACK: usize = 13;
-pub const ROW_KINDS: usize = 14;
-pub const ROW_VALUES: usize = 15;
-pub const WORK_LIST: usize = 16;
-
-pub type Lengths = [usize; BUFFERS];
 
 pub struct Output {
     pub slots: Buffer<u16>,
@@ -32,30 +23,18 @@ pub struct Lent {
     pub sheet: Buffer<u8>,
 }
 
-/// What all that was lent must hold after a call.
-pub enum Left<'a> {
-    /// "After 1 to 6 .. nothing lent changes"
-    Kept,
-    /// "After 7 and 8 all lent output and scratch is zero"
-    Zero,
-    /// "Success leaves scratch and unused output zero"
-    Tables(&'a [Table; 3]),
+fn output<'a, T>(left: &Left<'a>, which: usize, part: fn(&Table) -> &[T]) -> After<'a, T> {
+    match left {
+        Left::Kept => After::Kept,
+        Left::Zero => After::ZERO,
+        Left::Tables(tables) => After::Front(part(&tables[which])),
+    }
 }
 
-impl<'a> Left<'a> {
-    fn output<T>(&self, which: usize, part: fn(&Table) -> &[T]) -> After<'a, T> {
-        match self {
-            Left::Kept => After::Kept,
-            Left::Zero => After::ZERO,
-            Left::Tables(tables) => After::Front(part(&tables[which])),
-        }
-    }
-
-    fn scratch<T>(&self) -> After<'static, T> {
-        match self {
-            Left::Kept => After::Kept,
-            Left::Zero | Left::Tables(_) => After::ZERO,
-        }
+fn scratch<T>(left: &Left<'_>) -> After<'static, T> {
+    match left {
+        Left::Kept => After::Kept,
+        Left::Zero | Left::Tables(_) => After::ZERO,
     }
 }
 
@@ -69,19 +48,23 @@ impl Output {
         }
     }
 
-    fn wrong(&self, left: &Left<'_>, which: usize) -> Option<String> {
-        let wrong = first([
-            ("slots", self.slots.wrong(left.output(which, |table| &table.slots))),
-            ("present", self.present.wrong(left.output(which, |table| &table.present))),
-            ("kinds", self.kinds.wrong(left.output(which, |table| &table.kinds))),
-            ("values", self.values.wrong(left.output(which, |table| &table.values))),
+    fn wrong(&self, left: &Left<'_>, which: usize) -> Vec<String> {
+        let wrong = named([
+            ("slots", self.slots.wrong(output(left, which, |table| &table.slots))),
+            ("present", self.present.wrong(output(left, which, |table| &table.present))),
+            ("kinds", self.kinds.wrong(output(left, which, |table| &table.kinds))),
+            ("values", self.values.wrong(output(left, which, |table| &table.values))),
         ]);
-        wrong.map(|wrong| format!("{} {wrong}", NAMES[which]))
+        wrong.into_iter().map(|wrong| format!("{} {wrong}", NAMES[which])).collect()
     }
 }
 
-fn first<const N: usize>(all: [(&str, Option<String>); N]) -> Option<String> {
-    all.into_iter().find_map(|(name, wrong)| wrong.map(|wrong| format!("{name} {wrong}")))
+fn named<const N: usize>(all: [(&str, Option<String>); N]) -> Vec<String> {
+    all.into_iter().filter_map(|(name, wrong)| wrong.map(|wrong| format!("{name} {wrong}"))).collect()
+}
+
+fn wide<T: Element>(buffer: &Buffer<T>) -> Vec<u64> {
+    buffer.lent().iter().map(|element| element.wide()).collect()
 }
 
 impl Lent {
@@ -99,20 +82,20 @@ impl Lent {
     }
 
     /// Fills every buffer, puts the sheet into its own, and calls.
-    pub fn call(&mut self, sheet: &[u8], budget: Budget, lengths: &Lengths, answer_length: usize, salt: u64) -> u8 {
+    pub fn call(&mut self, sheet: &[u8], budget: Budget, lengths: &Lengths, answer_length: usize, fill: Fill) -> u8 {
         for (output, lengths) in self.outputs.iter_mut().zip(lengths.chunks(4)) {
-            output.slots.fill(lengths[0], salt);
-            output.present.fill(lengths[1], salt >> 1);
-            output.kinds.fill(lengths[2], salt >> 2);
-            output.values.fill(lengths[3], salt >> 3);
+            output.slots.fill_by(lengths[0], fill);
+            output.present.fill_by(lengths[1], fill.other(1));
+            output.kinds.fill_by(lengths[2], fill.other(2));
+            output.values.fill_by(lengths[3], fill.other(3));
         }
-        self.marks.fill(lengths[MARKS], salt >> 4);
-        self.stack.fill(lengths[STACK], salt >> 5);
-        self.row_kinds.fill(lengths[ROW_KINDS], salt >> 6);
-        self.row_values.fill(lengths[ROW_VALUES], salt >> 7);
-        self.work_list.fill(lengths[WORK_LIST], salt >> 8);
-        self.answer.fill(answer_length, salt >> 9);
-        self.sheet.fill(sheet.len(), salt);
+        self.marks.fill_by(lengths[MARKS], fill.other(4));
+        self.stack.fill_by(lengths[STACK], fill.other(5));
+        self.row_kinds.fill_by(lengths[ROW_KINDS], fill.other(6));
+        self.row_values.fill_by(lengths[ROW_VALUES], fill.other(7));
+        self.work_list.fill_by(lengths[WORK_LIST], fill.other(8));
+        self.answer.fill_by(answer_length, fill.other(9));
+        self.sheet.fill_by(sheet.len(), fill);
         self.sheet.lend().copy_from_slice(sheet);
         self.lend(budget)
     }
@@ -172,19 +155,28 @@ impl Lent {
         self.answer.lent().first().copied().filter(|_| self.answer.len() >= ANSWER_LENGTH).unwrap_or(u64::MAX)
     }
 
-    /// The first buffer that does not hold what it must, and where; the sheet holds what it held.
-    pub fn wrong_after(&self, sheet: &[u8], left: Option<&Left<'_>>) -> Option<String> {
-        let left = left.unwrap_or(&Left::Kept);
-        let outputs = self.outputs.iter().enumerate().find_map(|(which, output)| output.wrong(left, which));
-        outputs.or_else(|| {
-            first([
-                ("marks", self.marks.wrong(left.scratch())),
-                ("stack", self.stack.wrong(left.scratch())),
-                ("row kinds", self.row_kinds.wrong(left.scratch())),
-                ("row values", self.row_values.wrong(left.scratch())),
-                ("work list", self.work_list.wrong(left.scratch())),
-                ("sheet", self.sheet.wrong(After::Written(sheet))),
-            ])
-        })
+    /// The buffers that do not hold what they must, and where first; the sheet holds what it held.
+    pub fn wrong_after(&self, sheet: &[u8], left: &Left<'_>) -> Vec<String> {
+        let outputs = self.outputs.iter().enumerate().flat_map(|(which, output)| output.wrong(left, which));
+        let others = named([
+            ("marks", self.marks.wrong(scratch(left))),
+            ("stack", self.stack.wrong(scratch(left))),
+            ("row kinds", self.row_kinds.wrong(scratch(left))),
+            ("row values", self.row_values.wrong(scratch(left))),
+            ("work list", self.work_list.wrong(scratch(left))),
+            ("sheet", self.sheet.wrong(After::Written(sheet))),
+        ]);
+        outputs.chain(others).collect()
+    }
+
+    /// What the buffers hold, in the order of the call's parameters.
+    pub fn held(&self) -> Vec<Vec<u64>> {
+        let outputs = self
+            .outputs
+            .iter()
+            .flat_map(|output| [wide(&output.slots), wide(&output.present), wide(&output.kinds), wide(&output.values)]);
+        let closure = [wide(&self.marks), wide(&self.stack)];
+        let run = [wide(&self.row_kinds), wide(&self.row_values), wide(&self.work_list)];
+        outputs.chain(closure).chain(run).collect()
     }
 }

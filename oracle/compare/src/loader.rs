@@ -1,7 +1,7 @@
 //! What a loader asks beside the call: room, by the Rust's closures, and the lowest layout, by a plain search.
 
-use crate::expect::Sizes;
 use crate::memory::{After, Buffer};
+use oracle::expect::Sizes;
 use oracle::generate::Rng;
 use oracle::{answer, Answer, Budget, Outcome};
 use vo_facts::raw::{vo_facts_lowest_layout, vo_facts_room, NONE, ROOM_LENGTH, TOO_SHORT};

@@ -2,49 +2,58 @@
 //!
 //!     compare GENERATED PAIRS LARGE [bare]
 //!     compare one FILE BYTES WORK
+//!     compare replay FILE LINE
 //!
 //! The first compares the fixed list, every script of one instruction and every PAIRS-th of two (0: none of these),
 //! GENERATED sheets of seed 3 and LARGE large ones; `bare` lends without guards, for a tool that watches the heap. The
-//! second compares one sheet.
+//! second compares one sheet, the third every call of one recorded sheet.
 
 mod bindings;
 mod damage;
-mod expect;
 mod lent;
 mod loader;
 mod lookups;
 mod memory;
 mod plan;
 mod question;
+mod replay;
 mod sheets;
 
 use oracle::generate::{generated, large};
 use oracle::inputs::{fixed, short, Request};
+use oracle::replay::RecordedSheet;
 use oracle::{fresh, Budget};
 use sheets::Compared;
 use std::process::ExitCode;
 
-const USAGE: &str = "compare GENERATED PAIRS LARGE [bare] | compare one FILE BYTES WORK";
+const USAGE: &str = "compare GENERATED PAIRS LARGE [bare] | compare one FILE BYTES WORK | compare replay FILE LINE";
 const SEED: u64 = 3;
 
 fn main() -> ExitCode {
     let words: Vec<String> = std::env::args().skip(1).collect();
     let words: Vec<&str> = words.iter().map(String::as_str).collect();
-    let compared = match words[..] {
-        ["one", file, bytes, work] => one(file, bytes, work),
-        [generated, pairs, large] => lists(false, generated, pairs, large),
-        [generated, pairs, large, "bare"] => lists(true, generated, pairs, large),
+    let agrees = match words[..] {
+        ["replay", file, line] => replay(file, line),
+        ["one", file, bytes, work] => one(file, bytes, work).map(|compared| compared.report()),
+        [generated, pairs, large] => lists(false, generated, pairs, large).map(|compared| compared.report()),
+        [generated, pairs, large, "bare"] => lists(true, generated, pairs, large).map(|compared| compared.report()),
         _ => None,
     };
-    let Some(compared) = compared else {
-        eprintln!("{USAGE}");
-        return ExitCode::FAILURE;
-    };
-    if compared.report() {
-        ExitCode::SUCCESS
-    } else {
-        ExitCode::FAILURE
+    match agrees {
+        Some(true) => ExitCode::SUCCESS,
+        Some(false) => ExitCode::FAILURE,
+        None => {
+            eprintln!("{USAGE}");
+            ExitCode::FAILURE
+        }
     }
+}
+
+fn replay(file: &str, line: &str) -> Option<bool> {
+    let records = std::fs::read(file).ok()?;
+    let (mut rest, before) = (&records[..], line.parse::<usize>().ok()?.checked_sub(1)?);
+    (0..before).try_for_each(|_| RecordedSheet::next(&mut rest).map(drop))?;
+    Some(replay::agrees(&RecordedSheet::next(&mut rest)?))
 }
 
 fn one(file: &str, bytes: &str, work: &str) -> Option<Compared> {

@@ -10,6 +10,11 @@ pub trait Element: Copy + PartialEq + Debug {
 
     /// Never 0, so that what was not cleared shows.
     fn pattern(at: usize, salt: u64) -> Self;
+
+    /// The same byte in all its bytes.
+    fn repeated(byte: u8) -> Self;
+
+    fn wide(self) -> u64;
 }
 
 macro_rules! element {
@@ -19,6 +24,14 @@ macro_rules! element {
 
             fn pattern(at: usize, salt: u64) -> Self {
                 (at as $of).wrapping_mul(37).wrapping_add(salt as $of) | 1
+            }
+
+            fn repeated(byte: u8) -> Self {
+                <$of>::from_ne_bytes([byte; size_of::<$of>()])
+            }
+
+            fn wide(self) -> u64 {
+                self.into()
             }
         }
     };
@@ -42,28 +55,59 @@ impl<T> After<'_, T> {
     pub const ZERO: Self = After::Front(&[]);
 }
 
+/// What lies in a buffer before a call: by a number of the call's own, or as in every call of crates/check_replay.
+#[derive(Clone, Copy)]
+pub enum Fill {
+    Salt(u64),
+    Replay,
+}
+
+impl Fill {
+    /// Another one of a call, for another buffer.
+    pub fn other(self, turn: u32) -> Fill {
+        match self {
+            Fill::Salt(salt) => Fill::Salt(salt >> turn),
+            Fill::Replay => Fill::Replay,
+        }
+    }
+}
+
 pub struct Buffer<T> {
     cells: Vec<T>,
     guard: usize,
-    salt: u64,
+    fill: Fill,
 }
 
 impl<T: Element> Buffer<T> {
     /// A bare buffer has no guards and is allocated anew for each call, exactly as long as it is lent: a tool that
     /// watches the heap then sees every step past its ends, reading ones too.
     pub fn new(bare: bool) -> Buffer<T> {
-        Buffer { cells: Vec::new(), guard: if bare { 0 } else { GUARD }, salt: 0 }
+        Buffer { cells: Vec::new(), guard: if bare { 0 } else { GUARD }, fill: Fill::Replay }
     }
 
     /// So long, and filled.
     pub fn fill(&mut self, length: usize, salt: u64) {
+        self.fill_by(length, Fill::Salt(salt));
+    }
+
+    pub fn fill_by(&mut self, length: usize, fill: Fill) {
         let all = length + 2 * self.guard;
         if self.guard == 0 {
             self.cells = Vec::with_capacity(all);
         }
-        self.salt = salt;
-        self.cells.clear();
-        self.cells.extend((0..all).map(|at| T::pattern(at, salt)));
+        self.fill = fill;
+        let mut cells = std::mem::take(&mut self.cells);
+        cells.clear();
+        cells.extend((0..all).map(|at| self.filled(at)));
+        self.cells = cells;
+    }
+
+    /// What lay there before the call.
+    fn filled(&self, at: usize) -> T {
+        match self.fill {
+            Fill::Salt(salt) => T::pattern(at, salt),
+            Fill::Replay => T::repeated((at.wrapping_sub(self.guard) % 128 + 1) as u8),
+        }
     }
 
     pub fn lent(&self) -> &[T] {
@@ -106,13 +150,13 @@ impl<T: Element> Buffer<T> {
         let must = |at: usize| match after {
             _ if at < front.len() => front[at],
             After::Front(_) => T::ZERO,
-            After::Kept | After::Written(_) => T::pattern(start + at, self.salt),
+            After::Kept | After::Written(_) => self.filled(start + at),
         };
         let at = (0..self.len()).find(|at| self.lent()[*at] != must(*at))?;
         Some(format!("[{at}] is {:?} and must be {:?}", self.lent()[at], must(at)))
     }
 
     fn patterned(&self, from: usize, to: usize) -> bool {
-        self.cells[from..to].iter().zip(from..).all(|(is, at)| *is == T::pattern(at, self.salt))
+        self.cells[from..to].iter().zip(from..).all(|(is, at)| *is == self.filled(at))
     }
 }

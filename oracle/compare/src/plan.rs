@@ -1,7 +1,6 @@
 //! How long each buffer is lent: exactly as long as needed, longer, one short.
 
-use crate::expect::{list_room, Sizes};
-use crate::lent::{Lengths, BUFFERS, MARKS, ROW_KINDS, ROW_VALUES, STACK, WORK_LIST};
+use oracle::expect::{needed, Lengths, Sizes, BUFFERS};
 use oracle::generate::Rng;
 use oracle::{Answer, Outcome};
 use vo_facts::raw::ANSWER_LENGTH;
@@ -9,21 +8,6 @@ use vo_facts::raw::ANSWER_LENGTH;
 pub struct Plan {
     pub lengths: Lengths,
     pub answer: usize,
-}
-
-/// The least lengths that no question refuses. An analysis that the Rust did not come to is asked nothing.
-fn needed(rust: &Answer, sizes: Sizes) -> Lengths {
-    let mut lengths = [0; BUFFERS];
-    for (which, closed) in rust.closed.iter().enumerate() {
-        let (n, s) = (sizes.n, closed.slots);
-        lengths[4 * which..4 * which + 4].copy_from_slice(&[s, n, n * s, n * s]);
-        lengths[ROW_KINDS] = lengths[ROW_KINDS].max(s);
-        lengths[ROW_VALUES] = lengths[ROW_VALUES].max(s);
-        lengths[WORK_LIST] = lengths[WORK_LIST].max(list_room(n, s));
-    }
-    lengths[MARKS] = sizes.locals;
-    lengths[STACK] = sizes.locals;
-    lengths
 }
 
 /// The calls of one sheet: exact, longer, one short of a buffer whose turn it is, one short of another, and a mixture.

@@ -1,14 +1,14 @@
 //! One sheet after the other: all its calls, the lookups in what they leave, and what was seen.
 
 use crate::bindings::Bindings;
-use crate::expect::{expected, Expected, Sizes};
 use crate::lent::Lent;
 use crate::loader::Loader;
 use crate::lookups::Lookups;
-use crate::memory::After;
+use crate::memory::{After, Fill};
 use crate::plan::{plans, Plan};
+use oracle::expect::{expected, Expected, Left, Sizes};
 use oracle::generate::Rng;
-use oracle::{answer_and_facts, Answer, Budget, Outcome};
+use oracle::{answer_and_facts, Answer, Budget};
 use vo_facts::raw::{ANSWER_LENGTH, TOO_SHORT};
 use vo_facts::Table;
 
@@ -63,10 +63,7 @@ impl Compared {
     fn difference(&mut self, number: u64, sheet: &[u8], budget: Budget) -> Option<String> {
         let mut rng = Rng::new(SEED, number);
         let (rust, facts) = answer_and_facts(sheet, budget);
-        let sizes = match rust.outcome {
-            Outcome::Refused(_) => Sizes { n: 0, locals: 0 },
-            _ => Sizes::of(sheet),
-        };
+        let sizes = Sizes::of(sheet, &rust);
         let mut looked = false;
         for plan in plans(&mut rng, &rust, sizes, number) {
             let must = expected(&rust, sizes, budget, &plan.lengths);
@@ -102,20 +99,20 @@ impl Compared {
         must: &Expected<'_>,
     ) -> Option<String> {
         self.calls += 1;
-        let number = self.lent.call(sheet, budget, &plan.lengths, plan.answer, rng.below(u64::MAX));
+        let number = self.lent.call(sheet, budget, &plan.lengths, plan.answer, Fill::Salt(rng.below(u64::MAX)));
         self.answered[usize::from(number)] += 1;
         let lent = &self.lent;
         if plan.answer < ANSWER_LENGTH {
             return other_number(number, TOO_SHORT)
                 .or_else(|| lent.answer.wrong(After::Kept).map(|wrong| format!("answer {wrong}")))
-                .or_else(|| lent.wrong_after(sheet, None));
+                .or_else(|| lent.wrong_after(sheet, &Left::Kept).into_iter().next());
         }
         if number == 7 {
             self.stages[must.answer[9] as usize] += 1;
         }
         other_number(number, must.number)
             .or_else(|| lent.answer.wrong(After::Written(&must.answer)).map(|wrong| format!("answer {wrong}")))
-            .or_else(|| lent.wrong_after(sheet, Some(&must.left)))
+            .or_else(|| lent.wrong_after(sheet, &must.left).into_iter().next())
     }
 
     /// Notes it as a difference where an outcome was not seen at all.

@@ -5,10 +5,10 @@ use Rattle.check_replay.proofs.main.Statement.{statement}
 use Rattle.check_replay.proofs.main.Tie as tie
 
 abbrev Inv-loop : tie.InvT-loop
-Inv-loop turn₀ turns₀ turn turns = Unit {0}
+Inv-loop turns₀ turns = Unit {0}
 
 abbrev μ-loop : tie.MeasureT-loop
-μ-loop turn₀ turns₀ turn turns = turns
+μ-loop turns₀ turns = turns
 
 loop-holds : tie.Need-loop-holds Inv-loop μ-loop
 loop-holds c = tt
@@ -25,11 +25,11 @@ loop-less c = omega arith
 loop-again : tie.Need-loop-again Inv-loop μ-loop
 loop-again c = tt
 
-print-tally-requires : tie.Need-print-tally-requires Inv-loop μ-loop
-print-tally-requires c κs = tt
-
 returns : tie.Need-returns Inv-loop μ-loop
 returns c = tt
+
+returns-2 : tie.Need-returns-2 Inv-loop μ-loop
+returns-2 c = tt
 
 pub main-spec : {M : Type 1} → statement M
 main-spec =
@@ -42,5 +42,5 @@ main-spec =
     sub-turns
     loop-less
     loop-again
-    print-tally-requires
-    returns)
+    returns
+    returns-2)

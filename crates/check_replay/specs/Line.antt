@@ -1,0 +1,29 @@
+-- The line of a recorded sheet.
+-- Assumes nothing.
+use mathlib.Core.List.{List, [], _∷_, _++_}
+use mathlib.Core.Option.{Option, none, some}
+use Prim.Native.Nat.{ℕ}
+use Rattle.model.specs.Call.{answerNumbered}
+use Rattle.model.specs.Interface.{twelve}
+use Rattle.model.specs.Listing.{ascii, decimal, space, newline}
+use Rattle.check_replay_lent.specs.Checksum.{checksumNumber}
+use Rattle.check_replay.specs.Calls.{replayed}
+use Rattle.check_replay.specs.declared.call.Called.{Called}
+
+-- numbers, each behind a space
+unfoldable pub spaced : List ℕ → List ℕ
+spaced [] = []
+spaced (x ∷ xs) = (space ++ decimal x) ++ spaced xs
+
+-- the twelve numbers of the first call's answer, and the checksum over all calls
+unfoldable pub calledLine : Called → List ℕ
+calledLine c = ascii "answer" ++ spaced (twelve (answerNumbered (c .answer))) ++ ascii " checksum" ++ (space ++ decimal (checksumNumber (c .checksum))) ++ newline
+
+-- the same, where there is one
+unfoldable pub lineOf : Option Called → Option (List ℕ)
+lineOf none = none
+lineOf (some c) = some (calledLine c)
+
+-- of a recorded sheet: the first call, and 18 more
+unfoldable pub replayLine : List ℕ → List ℕ → Option (List ℕ)
+replayLine head sheet = lineOf (replayed head sheet 18)

@@ -1,0 +1,32 @@
+-- A checksum over a list, as a loop makes it that puts one element in each turn.
+-- Assumes nothing.
+use mathlib.Core.Path.{_≡_, ap, _∙_}
+use mathlib.Core.List.{List}
+use Prim.Native.Nat.{ℕ, _+_, _≤_, _<_}
+use native.Mathlib.Numerals.{add-one}
+use native.Mathlib.Omega.{arith}
+use lib.ListN.{length, getD, drop}
+use lib.Seq.{drop-cons, drop-length}
+use Rattle.check_replay_lent.specs.Checksum.{withNumber, withNumbers, withBuffer}
+use Rattle.check_replay_lent.specs.declared.Checksum.{Checksum}
+
+-- after i turns: with the rest put in it is the goal
+pub record Summed (goal : Checksum) (xs : List ℕ) (sum : Checksum) (i : ℕ) : Type 0 where
+  pub within : i ≤ length xs
+  pub rest : withNumbers sum (drop i xs) ≡ goal
+
+pub turn : {goal sum next : Checksum} {xs : List ℕ} {i x : ℕ} → Summed goal xs sum i → i < length xs → x ≡ getD xs i 0 → next ≡ withNumber sum x
+    → Summed goal xs next (i + 1)
+unfolding withNumbers
+turn {xs} {i} s h p q = record {
+  within = omega arith;
+  rest = rw (add-one, q, p) (rw (drop-cons xs i 0 h) at (s .rest));
+}
+
+pub done : {goal sum : Checksum} {xs : List ℕ} {i : ℕ} → Summed goal xs sum i → length xs ≤ i → sum ≡ goal
+unfolding withNumbers
+done {xs} {i} s h = let e : i ≡ length xs = omega (arith, s .within) in rw (e, drop-length xs) at (s .rest)
+
+-- a buffer behind what was put in before
+pub behind : {before others sum : Checksum} (xs : List ℕ) → before ≡ others → sum ≡ withBuffer before xs → sum ≡ withBuffer others xs
+behind xs e k = k ∙ ap (λ (c : Checksum). withBuffer c xs) e
