@@ -9,7 +9,7 @@ use lib.ListN.{length, getD, take}
 use lib.Seq.{take-suc, take-all}
 use Rattle.model.specs.Listing.{decimal, space}
 use Rattle.text_words.specs.Text.{Added}
-use Rattle.text_words.proofs.Writing.{then, reword, nothing}
+use Rattle.text_words.proofs.Writing.{then, reword, no-text}
 use Rattle.check_replay.specs.Line.{spaced}
 
 spaced-last : (xs : List ℕ) (x : ℕ) → spaced (xs ++ (x ∷ [])) ≡ spaced xs ++ (space ++ decimal x)
@@ -21,7 +21,7 @@ spaced-last (y ∷ ys) x =
 module _ (xs : List ℕ) where
   pub none : (old : List ℕ) (at : ℕ) → at ≤ length old → Added (21 * 0) (spaced (take 0 xs)) at old at old
   unfolding spaced
-  none old at h = nothing old at h
+  none old at h = no-text old at h
 
   -- one more
   pub more : {old mid new : List ℕ} {at a next i : ℕ} → i < length xs → Added (21 * i) (spaced (take i xs)) at old a mid
