@@ -23,9 +23,13 @@ turn {xs} {i} s h p q = record {
   rest = rw (add-one, q, p) (rw (drop-cons xs i 0 h) at (s .rest));
 }
 
-pub done : {goal sum : Checksum} {xs : List ℕ} {i : ℕ} → Summed goal xs sum i → length xs ≤ i → sum ≡ goal
-unfolding withNumbers
-done {xs} {i} s h = let e : i ≡ length xs = omega (arith, s .within) in rw (e, drop-length xs) at (s .rest)
+-- all of a buffer, behind its length
+pub whole : (begun : Checksum) {first sum : Checksum} {xs : List ℕ} {i : ℕ} → Summed (withNumbers first xs) xs sum i → length xs ≤ i
+    → first ≡ withNumber begun (length xs) → sum ≡ withBuffer begun xs
+unfolding withNumbers withBuffer
+whole begun {xs} {i} s h p =
+    let e : i ≡ length xs = omega (arith, s .within) in
+    (rw (e, drop-length xs) at (s .rest)) ∙ ap (λ (c : Checksum). withNumbers c xs) p
 
 -- a buffer behind what was put in before
 pub behind : {before others sum : Checksum} (xs : List ℕ) → before ≡ others → sum ≡ withBuffer before xs → sum ≡ withBuffer others xs

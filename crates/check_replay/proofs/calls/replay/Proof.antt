@@ -3,10 +3,9 @@
 use mathlib.Core.Path.{_≡_}
 use mathlib.Core.Option.{some}
 use Prim.Native.Nat.{_-_, _≤_}
-use denote.Ref.{now}
-use Rattle.check_replay.specs.Calls.{called, replayed}
-use Rattle.check_replay.proofs.Replayed as laws
 use native.Mathlib.Omega.{arith}
+use Rattle.check_replay.specs.Calls.{called, replayed}
+use Rattle.check_replay.proofs.Replayed.{first, again}
 use Rattle.check_replay.proofs.calls.replay.Statement.{statement}
 use Rattle.check_replay.proofs.calls.replay.Tie as tie
 
@@ -16,43 +15,9 @@ Inv-loop head sheet answer checksum₀ i₀ checksum i = (i ≤ 18) × (some (ca
 abbrev μ-loop : tie.MeasureT-loop
 μ-loop head sheet answer checksum₀ i₀ checksum i = 18 - i
 
-call-requires : tie.Need-call-requires Inv-loop μ-loop
-call-requires c κs = tt
-
-loop-holds : tie.Need-loop-holds Inv-loop μ-loop
-loop-holds c =
-    let a = c .before .before .before .args in
-    (omega arith, laws.first (now (a .head)) (now (a .sheet)) _ (c .before .call .ensures))
-
-add-i : tie.Need-add-i Inv-loop μ-loop
-add-i c = omega arith
-
-call-requires-2 : tie.Need-call-requires-2 Inv-loop μ-loop
-call-requires-2 c κs = tt
-
-loop-less : tie.Need-loop-less Inv-loop μ-loop
-loop-less c = omega arith
-
-loop-again : tie.Need-loop-again Inv-loop μ-loop
-loop-again c =
-    let a = c .before .before .before .before .before .before .before .args in
-    (omega arith, laws.again (now (a .head)) (now (a .sheet)) _ _ _ (c .before .before .before .loop .inv .1) (c .before .call2 .ensures))
-
-returns : tie.Need-returns Inv-loop μ-loop
-returns c =
-    let e : c .before .loop .i ≡ 18 = omega arith in
-    rw e at (c .before .loop .inv .1)
-
 pub replay-spec : {M : Type 1} → statement M
 replay-spec =
     tie.close
-    (tie.spec
-    Inv-loop
-    μ-loop
-    call-requires
-    loop-holds
-    add-i
-    call-requires-2
-    loop-less
-    loop-again
-    returns)
+    (tie.spec Inv-loop μ-loop (λ c κs. tt) (λ c. (omega arith, first _ _ _ (c .before .call .ensures))) (λ c. omega arith) (λ c κs. tt) (λ c. omega arith)
+    (λ c. (omega arith, again _ _ _ _ _ (c .before .before .before .loop .inv .1) (c .before .call2 .ensures)))
+    (λ c. let e : c .before .loop .i ≡ 18 = omega arith in rw e at (c .before .loop .inv .1)))

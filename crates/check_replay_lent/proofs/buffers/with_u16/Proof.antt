@@ -1,13 +1,11 @@
 -- `check_replay_lent::buffers::with_u16` meets its contract, by the law of loops that put a list into a checksum.
 -- Assumes nothing.
-use mathlib.Core.Path.{refl, ap, _∙_}
-use denote.Ref.{now}
-use Prim.Native.Nat.{_-_}
-use lib.ListN.{length}
-use Rattle.check_replay_lent.specs.Checksum.{withNumbers, withBuffer}
-use Rattle.check_replay_lent.specs.declared.Checksum.{Checksum}
-use Rattle.check_replay_lent.proofs.Summed.{Summed, turn, done}
+use mathlib.Core.Path.{refl}
+use Prim.Native.Nat.{_-_, zero-le}
 use native.Mathlib.Omega.{arith}
+use lib.ListN.{length}
+use Rattle.check_replay_lent.specs.Checksum.{withNumbers}
+use Rattle.check_replay_lent.proofs.Summed.{Summed, turn, whole}
 use Rattle.check_replay_lent.proofs.buffers.with_u16.Statement.{statement}
 use Rattle.check_replay_lent.proofs.buffers.with_u16.Tie as tie
 
@@ -17,51 +15,9 @@ Inv-loop buffer sum₀ i₀ sum i = Summed (withNumbers sum₀ buffer) buffer su
 abbrev μ-loop : tie.MeasureT-loop
 μ-loop buffer sum₀ i₀ sum i = length buffer - i
 
-with-number-requires : tie.Need-with-number-requires Inv-loop μ-loop
-with-number-requires c κs = tt
-
-loop-holds : tie.Need-loop-holds Inv-loop μ-loop
-loop-holds c = record { within = omega arith; rest = refl }
-
-mul-wide-u16 : tie.Need-mul-wide-u16 Inv-loop μ-loop
-mul-wide-u16 c = omega arith
-
-shared-slice-read-wide-u16 : tie.Need-shared-slice-read-wide-u16 Inv-loop μ-loop
-shared-slice-read-wide-u16 c = omega arith
-
-wide-u16-requires : tie.Need-wide-u16-requires Inv-loop μ-loop
-wide-u16-requires c κs = tt
-
-with-number-requires-2 : tie.Need-with-number-requires-2 Inv-loop μ-loop
-with-number-requires-2 c κs = tt
-
-add-i : tie.Need-add-i Inv-loop μ-loop
-add-i c = omega arith
-
-loop-less : tie.Need-loop-less Inv-loop μ-loop
-loop-less c = omega arith
-
-loop-again : tie.Need-loop-again Inv-loop μ-loop
-loop-again c = turn (c .before .before .before .before .loop .inv) (c .before .before .before .loop-test .taken) (c .before .wide-u16 .ensures) (c .with-number2 .ensures)
-
-returns : tie.Need-returns Inv-loop μ-loop
-unfolding withBuffer
-returns c =
-    done (c .before .loop .inv) (c .loop-test .left) ∙ ap (λ (s : Checksum). withNumbers s (now (c .before .before .before .before .args .buffer))) (c .before .before .with-number .ensures)
-
 pub with-u16-spec : {M : Type 1} → statement M
 with-u16-spec =
     tie.close
-    (tie.spec
-    Inv-loop
-    μ-loop
-    with-number-requires
-    loop-holds
-    mul-wide-u16
-    shared-slice-read-wide-u16
-    wide-u16-requires
-    with-number-requires-2
-    add-i
-    loop-less
-    loop-again
-    returns)
+    (tie.spec Inv-loop μ-loop (λ c κs. tt) (λ c. record { within = zero-le; rest = refl }) (λ c. omega arith) (λ c. omega arith) (λ c κs. tt) (λ c κs. tt) (λ c. omega arith) (λ c. omega arith)
+    (λ c. turn (c .before .before .before .before .loop .inv) (c .before .before .before .loop-test .taken) (c .before .wide-u16 .ensures) (c .with-number2 .ensures))
+    (λ c. whole _ (c .before .loop .inv) (c .loop-test .left) (c .before .before .with-number .ensures)))

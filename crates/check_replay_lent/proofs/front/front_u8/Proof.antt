@@ -3,11 +3,11 @@
 use mathlib.Core.Path.{sym}
 use Prim.Native.Nat.{_-_, _≤_, zero-le}
 use native.Mathlib.Nat.{mul-one}
+use native.Mathlib.Omega.{arith}
 use lib.Seq.{length-take-le}
 use Rattle.memory.proofs.Turned.{Turned, turned-none, turn}
 use Rattle.check_replay_lent.specs.Lent.{before}
 use Rattle.check_replay_lent.proofs.Filled.{filled}
-use native.Mathlib.Omega.{arith}
 use Rattle.check_replay_lent.proofs.front.front_u8.Statement.{statement}
 use Rattle.check_replay_lent.proofs.front.front_u8.Tie as tie
 
@@ -17,49 +17,12 @@ Inv-loop room₀ size head call which end i₀ room i = (i ≤ end) × Turned (b
 abbrev μ-loop : tie.MeasureT-loop
 μ-loop room₀ size head call which end i₀ room i = end - i
 
-lent-length-requires : tie.Need-lent-length-requires Inv-loop μ-loop
-lent-length-requires c κs = c .before .pre .1
-
-loop-holds : tie.Need-loop-holds Inv-loop μ-loop
-loop-holds c = (zero-le, turned-none _ _)
-
-add-room : tie.Need-add-room Inv-loop μ-loop
-add-room c = omega arith
-
-cast-room : tie.Need-cast-room Inv-loop μ-loop
-cast-room c = omega arith
-
-slice-write-room : tie.Need-slice-write-room Inv-loop μ-loop
-slice-write-room c = omega (arith, c .before .loop .inv .1 .long)
-
-add-i : tie.Need-add-i Inv-loop μ-loop
-add-i c = omega arith
-
-loop-less : tie.Need-loop-less Inv-loop μ-loop
-loop-less c = omega arith
-
-loop-again : tie.Need-loop-again Inv-loop μ-loop
-loop-again c = (omega arith, turn (c .before .loop .inv .1) (omega (arith, c .before .loop .inv .1 .long)) (sym (mul-one _)))
-
-slice-aggregate-result : tie.Need-slice-aggregate-result Inv-loop μ-loop
-slice-aggregate-result c = sym (length-take-le _ _ (omega (arith, c .before .before .loop .inv .1 .long)))
-
-returns : tie.Need-returns Inv-loop μ-loop
-returns c = filled 1 (c .before .before .loop .inv .1) (omega (arith, c .before .before .before .lent-length .ensures .0)) (c .before .before .loop .inv .0) (c .before .loop-test .left) (c .before .before .before .lent-length .ensures .1)
-
 pub front-u8-spec : {M : Type 1} → statement M
 front-u8-spec =
     tie.close
-    (tie.spec
-    Inv-loop
-    μ-loop
-    lent-length-requires
-    loop-holds
-    add-room
-    cast-room
-    slice-write-room
-    add-i
-    loop-less
-    loop-again
-    slice-aggregate-result
-    returns)
+    (tie.spec Inv-loop μ-loop (λ c κs. c .before .pre .1) (λ c. (zero-le, turned-none _ _)) (λ c. omega arith) (λ c. omega arith)
+    (λ c. omega (arith, c .before .loop .inv .1 .long)) (λ c. omega arith) (λ c. omega arith)
+    (λ c. (omega arith, turn (c .before .loop .inv .1) (omega (arith, c .before .loop .inv .1 .long)) (sym (mul-one _))))
+    (λ c. sym (length-take-le _ _ (omega (arith, c .before .before .loop .inv .1 .long))))
+    (λ c. let begun = c .before .before .before in
+    filled 1 (c .before .before .loop .inv .1) (omega (arith, begun .lent-length .ensures .0)) (c .before .before .loop .inv .0) (c .before .loop-test .left) (begun .lent-length .ensures .1)))

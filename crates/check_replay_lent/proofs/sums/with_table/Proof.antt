@@ -5,23 +5,9 @@ use Rattle.check_replay_lent.proofs.Summed.{behind}
 use Rattle.check_replay_lent.proofs.sums.with_table.Statement.{statement}
 use Rattle.check_replay_lent.proofs.sums.with_table.Tie as tie
 
-with-u16-requires : tie.Need-with-u16-requires
-with-u16-requires c κs = tt
-
-with-u8-requires : tie.Need-with-u8-requires
-with-u8-requires c κs = tt
-
-with-u8-requires-2 : tie.Need-with-u8-requires-2
-with-u8-requires-2 c κs = tt
-
-with-u64-requires : tie.Need-with-u64-requires
-with-u64-requires c κs = tt
-
-returns : tie.Need-returns
-unfolding withTable
-returns c = behind _ (behind _ (behind _ (c .before .before .before .with-u16 .ensures) (c .before .before .with-u8 .ensures)) (c .before .with-u82 .ensures)) (c .with-u64 .ensures)
-
 pub with-table-spec : {M : Type 1} → statement M
+unfolding withTable
 with-table-spec =
     tie.close
-    (tie.spec with-u16-requires with-u8-requires with-u8-requires-2 with-u64-requires returns)
+    (tie.spec (λ c κs. tt) (λ c κs. tt) (λ c κs. tt) (λ c κs. tt)
+    (λ c. behind _ (behind _ (behind _ (c .before .before .before .with-u16 .ensures) (c .before .before .with-u8 .ensures)) (c .before .with-u82 .ensures)) (c .with-u64 .ensures)))
