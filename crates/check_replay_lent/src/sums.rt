@@ -44,7 +44,10 @@ pub fn with_scratch(
     row_values: &[u64],
     work_list: &[u16],
 ) -> Checksum
-    ensures { λ r. ⌜ r ≡ withScratch checksum (scratch (now (marks .entry)) (now (stack .entry)) (now («row_kinds» .entry)) (now («row_values» .entry)) (now («work_list» .entry))) ⌝ }
+    ensures { λ r. ⌜ (
+        let lent = scratch (now (marks .entry)) (now (stack .entry)) (now («row_kinds» .entry)) (now («row_values» .entry)) (now («work_list» .entry)) in
+        r ≡ withScratch checksum lent
+        ) ⌝ }
 {
     let a = with_u8(checksum, marks);
     let b = with_u16(a, stack);

@@ -23,7 +23,9 @@ abbrev at-answer : tie.After-with-table → tie.After-with-answer
 at-answer c = c .before .before .before .before .before
 
 abbrev at-analyze : tie.After-with-answer → tie.After-analyze
-at-analyze c = c .before .before .before .before .before .before .before .before .before .before .before .before .before .before .before .before .before .before .before .before .before .before .before .before .before .before .before .before .before .before .before .before .before .before .before
+at-analyze c =
+    c .before .before .before .before .before .before .before .before .before .before .before .before .before .before .before .before .before .before
+    .before .before .before .before .before .before .before .before .before .before .before .before .before .before .before .before .before
 
 abbrev at-budget : tie.After-analyze → tie.After-budget-of
 at-budget c = c .before .before .before .before .before .before .before .before .before .before .before .before .before .before .before .before .before .before
@@ -35,7 +37,8 @@ left-of c =
     lent (table (left .0) (left .1 .0) (left .1 .1 .0) (left .1 .1 .1 .0))
     (table (left .1 .1 .1 .1 .0) (left .1 .1 .1 .1 .1 .0) (left .1 .1 .1 .1 .1 .1 .0) (left .1 .1 .1 .1 .1 .1 .1 .0))
     (table (left .1 .1 .1 .1 .1 .1 .1 .1 .0) (left .1 .1 .1 .1 .1 .1 .1 .1 .1 .0) (left .1 .1 .1 .1 .1 .1 .1 .1 .1 .1 .0) (left .1 .1 .1 .1 .1 .1 .1 .1 .1 .1 .1 .0))
-    (scratch (left .1 .1 .1 .1 .1 .1 .1 .1 .1 .1 .1 .1 .0) (left .1 .1 .1 .1 .1 .1 .1 .1 .1 .1 .1 .1 .1 .0) (left .1 .1 .1 .1 .1 .1 .1 .1 .1 .1 .1 .1 .1 .1 .0) (left .1 .1 .1 .1 .1 .1 .1 .1 .1 .1 .1 .1 .1 .1 .1 .0) (left .1 .1 .1 .1 .1 .1 .1 .1 .1 .1 .1 .1 .1 .1 .1 .1 .0))
+    (scratch (left .1 .1 .1 .1 .1 .1 .1 .1 .1 .1 .1 .1 .0) (left .1 .1 .1 .1 .1 .1 .1 .1 .1 .1 .1 .1 .1 .0) (left .1 .1 .1 .1 .1 .1 .1 .1 .1 .1 .1 .1 .1 .1 .0)
+    (left .1 .1 .1 .1 .1 .1 .1 .1 .1 .1 .1 .1 .1 .1 .1 .0) (left .1 .1 .1 .1 .1 .1 .1 .1 .1 .1 .1 .1 .1 .1 .1 .1 .0))
 
 returns : tie.Need-returns
 returns c =
@@ -69,8 +72,10 @@ returns c =
     called-is head call (now (start .args .sheet)) (start .args .checksum) (analyzed .analyze .result) (left-of analyzed) (budget .budget-of .result) _ _ _ _
     (table-is head call 0 (constant-slots .front-u16 .ensures) (constant-present .front-u8 .ensures) (constant-kinds .front-u82 .ensures) (constant-values .front-u64 .ensures))
     (table-is head call 4 (index-slots .front-u162 .ensures) (index-present .front-u83 .ensures) (index-kinds .front-u84 .ensures) (index-values .front-u642 .ensures))
-    (table-is head call 8 (container-slots .front-u163 .ensures) (container-present .front-u85 .ensures) (container-kinds .front-u86 .ensures) (container-values .front-u643 .ensures))
-    (scratch-is head call (marks .front-u87 .ensures) (stack .front-u164 .ensures) (row-kinds .front-u88 .ensures) (row-values .front-u644 .ensures) (work-list .front-u165 .ensures))
+    (table-is head call 8 (container-slots .front-u163 .ensures) (container-present .front-u85 .ensures)
+    (container-kinds .front-u86 .ensures) (container-values .front-u643 .ensures))
+    (scratch-is head call (marks .front-u87 .ensures) (stack .front-u164 .ensures)
+    (row-kinds .front-u88 .ensures) (row-values .front-u644 .ensures) (work-list .front-u165 .ensures))
     (budget .budget-of .ensures) (analyzed .analyze .ensures .0) (answered .with-answer .ensures)
     (constants .with-table .ensures) (index .with-table2 .ensures) (containers .with-table3 .ensures) (scratched .with-scratch .ensures)
 
@@ -81,5 +86,5 @@ call-spec =
     (λ c. refl) (λ c κs. (lit≤ tt, lit< tt)) (λ c. refl) (λ c κs. (lit≤ tt, lit< tt)) (λ c. refl) (λ c κs. (lit≤ tt, lit< tt)) (λ c. refl) (λ c κs. (lit≤ tt, lit< tt))
     (λ c. refl) (λ c κs. (lit≤ tt, lit< tt)) (λ c. refl) (λ c κs. (lit≤ tt, lit< tt)) (λ c. refl) (λ c κs. (lit≤ tt, lit< tt)) (λ c. refl) (λ c κs. (lit≤ tt, lit< tt))
     (λ c. refl) (λ c κs. (lit≤ tt, lit< tt)) (λ c. refl) (λ c κs. (lit≤ tt, lit< tt)) (λ c. refl) (λ c κs. (lit≤ tt, lit< tt)) (λ c. refl) (λ c κs. (lit≤ tt, lit< tt))
-    (λ c. refl) (λ c κs. (lit≤ tt, lit< tt)) (λ c. refl) (λ c κs. (lit≤ tt, lit< tt)) (λ c. refl) (λ c κs. (lit≤ tt, lit< tt)) (λ c. refl) (λ c κs. (lit≤ tt, lit< tt)) (λ c. refl) (λ c κs. (lit≤ tt, lit< tt))
-    (λ c κs. tt) (λ c κs. tt) (λ c κs. tt) (λ c κs. tt) (λ c κs. tt) (λ c κs. tt) (λ c κs. tt) returns)
+    (λ c. refl) (λ c κs. (lit≤ tt, lit< tt)) (λ c. refl) (λ c κs. (lit≤ tt, lit< tt)) (λ c. refl) (λ c κs. (lit≤ tt, lit< tt)) (λ c. refl) (λ c κs. (lit≤ tt, lit< tt))
+    (λ c. refl) (λ c κs. (lit≤ tt, lit< tt)) (λ c κs. tt) (λ c κs. tt) (λ c κs. tt) (λ c κs. tt) (λ c κs. tt) (λ c κs. tt) (λ c κs. tt) returns)

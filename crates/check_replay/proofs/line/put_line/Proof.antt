@@ -20,7 +20,8 @@ returns c =
     let name = twelve .before .before .before .before in
     let all = name .before .before .before .before in
     shown _ _ (all .replay .result) (all .replay .ensures)
-    (then (then (then (then (name .put .ensures) (twelve .put-twelve .ensures)) (word .put2 .ensures)) (same (number .u64-of .ensures) (sum .put-spaced .ensures))) (end .put3 .ensures))
+    (then (then (then (then (name .put .ensures) (twelve .put-twelve .ensures)) (word .put2 .ensures))
+    (same (number .u64-of .ensures) (sum .put-spaced .ensures))) (end .put3 .ensures))
 
 pub put-line-spec : {M : Type 1} → statement M
 put-line-spec =

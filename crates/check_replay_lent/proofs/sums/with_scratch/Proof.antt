@@ -11,4 +11,5 @@ with-scratch-spec =
     tie.close
     (tie.spec (λ c κs. tt) (λ c κs. tt) (λ c κs. tt) (λ c κs. tt) (λ c κs. tt)
     (λ c. let third = c .before .before in
-    behind _ (behind _ (behind _ (behind _ (third .before .before .with-u8 .ensures) (third .before .with-u16 .ensures)) (third .with-u82 .ensures)) (c .before .with-u64 .ensures)) (c .with-u162 .ensures)))
+    behind _ (behind _ (behind _ (behind _ (third .before .before .with-u8 .ensures) (third .before .with-u16 .ensures))
+    (third .with-u82 .ensures)) (c .before .with-u64 .ensures)) (c .with-u162 .ensures)))

@@ -10,4 +10,5 @@ unfolding withTable
 with-table-spec =
     tie.close
     (tie.spec (λ c κs. tt) (λ c κs. tt) (λ c κs. tt) (λ c κs. tt)
-    (λ c. behind _ (behind _ (behind _ (c .before .before .before .with-u16 .ensures) (c .before .before .with-u8 .ensures)) (c .before .with-u82 .ensures)) (c .with-u64 .ensures)))
+    (λ c. let second = c .before .before in
+    behind _ (behind _ (behind _ (second .before .with-u16 .ensures) (second .with-u8 .ensures)) (c .before .with-u82 .ensures)) (c .with-u64 .ensures)))
