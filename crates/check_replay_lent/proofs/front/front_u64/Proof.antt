@@ -24,4 +24,5 @@ front-u64-spec =
     (λ c. (omega arith, turn (c .before .loop .inv .1) (omega (arith, c .before .loop .inv .1 .long)) refl))
     (λ c. sym (length-take-le _ _ (omega (arith, c .before .before .loop .inv .1 .long))))
     (λ c. let ended = c .before .before in let begun = ended .before in
-    filled 72340172838076673 (ended .loop .inv .1) (omega (arith, begun .lent-length .ensures .0)) (ended .loop .inv .0) (c .before .loop-test .left) (begun .lent-length .ensures .1)))
+    filled 72340172838076673 (ended .loop .inv .1) (omega (arith, begun .lent-length .ensures .0)) (ended .loop .inv .0)
+    (c .before .loop-test .left) (begun .lent-length .ensures .1)))
