@@ -24,7 +24,11 @@ pub fn agrees(recorded: &RecordedSheet) -> bool {
         let left = (0..BUFFERS).map(|which| held(&must.left, which, lengths[which])).collect();
         let both = [(answer, lent.held()), (must.answer, left)];
         let mut wrong = wrong_numbers(&answer, &must.answer);
-        wrong.extend(lent.wrong_after(&recorded.sheet, &must.left));
+        wrong.extend((0..BUFFERS).filter_map(|which| wrong_buffer(which, &both[0].1[which], &both[1].1[which])));
+        if wrong.is_empty() {
+            // what no checksum goes over: the sheet, and what stands around the buffers
+            wrong = lent.wrong_after(&recorded.sheet, &must.left);
+        }
         if wrong.is_empty() {
             let mut alone = Checksum::start();
             put(&mut alone, &both[0]);
@@ -51,14 +55,23 @@ fn wrong_numbers(is: &Numbers, must: &Numbers) -> Vec<String> {
     differ.map(|i| format!("answer [{i}] is {} and must be {}", is[i], must[i])).collect()
 }
 
+/// The buffer's first element that differs.
+fn wrong_buffer(which: usize, is: &[u64], must: &[u64]) -> Option<String> {
+    let at = (0..must.len()).find(|at| is[*at] != must[*at])?;
+    Some(format!("{} [{at}] is {} and must be {}", name(which), is[at], must[at]))
+}
+
+fn name(which: usize) -> String {
+    match which.checked_sub(MARKS) {
+        None => format!("{} {}", NAMES[which / 4], PARTS[which % 4]),
+        Some(scratch) => SCRATCH[scratch].to_string(),
+    }
+}
+
 /// What the call is lent.
 fn how(call: usize, lengths: &Lengths, needed: &Lengths) -> String {
     let Some(which) = call.checked_sub(2) else {
         return ["buffers as long as needed", "longer buffers"][call].to_string();
     };
-    let buffer = match which.checked_sub(MARKS) {
-        None => format!("{} {}", NAMES[which / 4], PARTS[which % 4]),
-        Some(scratch) => SCRATCH[scratch].to_string(),
-    };
-    format!("{buffer} one {}", if lengths[which] < needed[which] { "short" } else { "longer" })
+    format!("{} one {}", name(which), if lengths[which] < needed[which] { "short" } else { "longer" })
 }
