@@ -8,7 +8,7 @@ ghost use Rattle.sheet.specs.Measured.{Accepted};
 ghost use Rattle.text_words.specs.Text.{ShowsText};
 use facts_call::list_facts;
 use sheet::Sizes;
-use sheet_offsets::layout_starts;
+use sheet_index::index_sheet;
 use sheet_questions::SheetCheck;
 use sheet_questions::check_sheet;
 use text_lines::refused_line;
@@ -49,7 +49,8 @@ fn list_accepted(sheet: &[u8], sizes: Sizes, out: &mut [u8]) -> usize
     if MOST_LOCALS < sizes.local_slots {
         return too_large(0, out);
     }
-    let mut starts = facts_room::starts();
-    layout_starts(sheet, sizes, &mut starts);
-    list_facts(sheet, sizes, &starts, out)
+    let mut firsts = [0u16; 256];
+    let mut classes = [0u16; 1025];
+    index_sheet(sheet, sizes, &mut firsts, &mut classes);
+    list_facts(sheet, sizes, &firsts, &classes, out)
 }
