@@ -27,7 +27,9 @@ const MOST_LOCALS: usize = 4096;
 // sheet (`listing`), for every outcome of the call, and the rest of out stays as it was. Three analyses have at most 729,161 bytes each, and the last
 // line 47. "`too large` alone is printed for a sheet over 65,536 bytes before question 1"
 pub fn list(sheet: &[u8], out: &mut [u8; 2187530]) -> usize
-    ensures { λ r. ⌜ (r ≤ length (now (out .exit))) × (listing (now (sheet .entry)) ≡ some (take r (now (out .exit)))) × (drop r (now (out .exit)) ≡ drop r (now (out .entry))) ⌝ }
+    ensures { λ r. ⌜ (
+        (r ≤ length (now (out .exit))) × (listing (now (sheet .entry)) ≡ some (take r (now (out .exit)))) × (drop r (now (out .exit)) ≡ drop r (now (out .entry)))
+        ) ⌝ }
 {
     if MOST_BYTES < sheet.len() {
         return too_large(0, out);

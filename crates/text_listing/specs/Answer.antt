@@ -1,5 +1,6 @@
 -- What is written of a call's answer and of the tables that it left.
 -- Assumes nothing.
+use mathlib.Core.Path.{_≡_}
 use mathlib.Core.List.{List, [], _++_}
 use Prim.Native.Nat.{ℕ, _*_, _≤_}
 use lib.ListN.{length}
@@ -8,6 +9,7 @@ use Rattle.model.specs.Call.{Table, Lent}
 use Rattle.model.specs.Fact.{Fact}
 use Rattle.model.specs.Listing.{factText, leftLine, refusedLine, tooLarge}
 use Rattle.model.specs.declared.Counts.{Counts}
+use Rattle.model.specs.declared.VerifierResources.{VerifierResources}
 use Rattle.model.specs.declared.AnalysisKind.{AnalysisKind}
 use Rattle.model.specs.declared.AnalysisKind.the-variants.{Constant, IndexCheck, Container}
 use Rattle.model.specs.declared.Answer.{Answer}
@@ -26,6 +28,11 @@ unfoldable pub choose : AnalysisKind → Counts → Counts → Counts → Counts
 choose Constant constant index container = constant
 choose IndexCheck constant index container = index
 choose Container constant index container = container
+
+-- a table that has room for the analysis, where the answer has facts
+abbrev pub AnswerListable : AnalysisKind → Answer → ℕ → Table → Type 0
+AnswerListable which answer n table =
+    (constant index container : Counts) (left : VerifierResources) → answer ≡ Analyzed constant index container left → Listable n (choose which constant index container) table
 
 -- the lines of an analysis of n instructions: none of a call that was refused
 unfoldable pub answerPart : AnalysisKind → (Fact → List ℕ) → ℕ → Answer → Table → List ℕ

@@ -3,13 +3,10 @@ ghost use mathlib.Core.Path.{_≡_};
 ghost use Prim.Native.Nat.{_+_, _≤_};
 ghost use lib.ListN.{length};
 ghost use Rattle.model.specs.Call.{table};
-ghost use Rattle.model.specs.declared.Counts.{Counts};
-ghost use Rattle.model.specs.declared.VerifierResources.{VerifierResources};
-ghost use Rattle.model.specs.declared.Answer.the-variants.{Analyzed};
 ghost use Rattle.text_words.specs.Text.{Added};
 ghost use Rattle.text_facts.specs.Text.{factTextBy};
 ghost use Rattle.text_listing.specs.Rows.{printedAnalysis};
-ghost use Rattle.text_listing.specs.Answer.{Listable, choose, answerPart, lastLine};
+ghost use Rattle.text_listing.specs.Answer.{Listable, AnswerListable, choose, answerPart, lastLine};
 use crate::rows::rows_lines;
 use model::AnalysisKind;
 use model::Answer;
@@ -32,8 +29,14 @@ fn analysis_lines(
     at: usize,
     out: &mut [u8],
 ) -> usize
-    requires { ⌜ (n ≤ 256) × (length (now slots) ≤ 32) × Listable n counts (table (now slots) (now present) (now kinds) (now values)) × (at + 729161 ≤ length (now out)) ⌝ }
-    ensures { λ r. ⌜ Added 729161 (printedAnalysis which (factTextBy which (now (classes .entry))) n counts (table (now (slots .entry)) (now (present .entry)) (now (kinds .entry)) (now (values .entry)))) at (now (out .entry)) r (now (out .exit)) ⌝ }
+    requires { ⌜ (
+        (n ≤ 256) × (length (now slots) ≤ 32) × Listable n counts (table (now slots) (now present) (now kinds) (now values)) × (at + 729161 ≤ length (now out))
+        ) ⌝ }
+    ensures { λ r. ⌜ (
+        Added 729161
+        (printedAnalysis which (factTextBy which (now (classes .entry))) n counts (table (now (slots .entry)) (now (present .entry)) (now (kinds .entry)) (now (values .entry))))
+        at (now (out .entry)) r (now (out .exit))
+        ) ⌝ }
 {
     let behind = head_line(which, n as u64, counts.tracked, counts.pops, at, out);
     rows_lines(
@@ -75,8 +78,17 @@ pub fn answer_lines(
     at: usize,
     out: &mut [u8],
 ) -> usize
-    requires { ⌜ (n ≤ 256) × (length (now slots) ≤ 32) × ((constant index container : Counts) (left : VerifierResources) → answer ≡ Analyzed constant index container left → Listable n (choose which constant index container) (table (now slots) (now present) (now kinds) (now values))) × (at + 729161 ≤ length (now out)) ⌝ }
-    ensures { λ r. ⌜ Added 729161 (answerPart which (factTextBy which (now (classes .entry))) n answer (table (now (slots .entry)) (now (present .entry)) (now (kinds .entry)) (now (values .entry)))) at (now (out .entry)) r (now (out .exit)) ⌝ }
+    requires { ⌜ (
+        (n ≤ 256)
+        × (length (now slots) ≤ 32)
+        × AnswerListable which answer n (table (now slots) (now present) (now kinds) (now values))
+        × (at + 729161 ≤ length (now out))
+        ) ⌝ }
+    ensures { λ r. ⌜ (
+        Added 729161
+        (answerPart which (factTextBy which (now (classes .entry))) n answer (table (now (slots .entry)) (now (present .entry)) (now (kinds .entry)) (now (values .entry))))
+        at (now (out .entry)) r (now (out .exit))
+        ) ⌝ }
 {
     match answer {
         Answer::Analyzed {

@@ -48,7 +48,11 @@ fn row_lines(
     out: &mut [u8],
 ) -> usize
     requires { ⌜ (length (now kinds) ≡ length (now slots)) × (length (now values) ≡ length (now slots)) × (at + 89 * length (now slots) ≤ length (now out)) ⌝ }
-    ensures { λ r. ⌜ Added (89 * length (now (slots .entry))) (presentLines (factTextBy which (now (classes .entry))) pc (now (slots .entry)) (tableRowOf present (now (kinds .entry)) (now (values .entry)))) at (now (out .entry)) r (now (out .exit)) ⌝ }
+    ensures { λ r. ⌜ (
+        Added (89 * length (now (slots .entry)))
+        (presentLines (factTextBy which (now (classes .entry))) pc (now (slots .entry)) (tableRowOf present (now (kinds .entry)) (now (values .entry)))) at
+        (now (out .entry)) r (now (out .exit))
+        ) ⌝ }
 {
     if present != 1 {
         return at;
@@ -75,8 +79,15 @@ pub fn rows_lines(
     at: usize,
     out: &mut [u8],
 ) -> usize
-    requires { ⌜ (s ≤ length (now slots)) × (n ≤ length (now present)) × (n * s ≤ length (now kinds)) × (n * s ≤ length (now values)) × (at + n * (89 * s) ≤ length (now out)) ⌝ }
-    ensures { λ r. ⌜ Added (n * (89 * s)) (collect (λ pc. presentLines (factTextBy which (now (classes .entry))) pc (take s (now (slots .entry))) (rowOf s (now (present .entry)) (now (kinds .entry)) (now (values .entry)) pc)) n) at (now (out .entry)) r (now (out .exit)) ⌝ }
+    requires { ⌜ (
+        (s ≤ length (now slots)) × (n ≤ length (now present)) × (n * s ≤ length (now kinds)) × (n * s ≤ length (now values)) × (at + n * (89 * s) ≤ length (now out))
+        ) ⌝ }
+    ensures { λ r. ⌜ (
+        Added (n * (89 * s))
+        (collect (λ pc. presentLines (factTextBy which (now (classes .entry))) pc (take s (now (slots .entry)))
+        (rowOf s (now (present .entry)) (now (kinds .entry)) (now (values .entry)) pc)) n)
+        at (now (out .entry)) r (now (out .exit))
+        ) ⌝ }
 {
     let mut next = at;
     let mut from = 0;
