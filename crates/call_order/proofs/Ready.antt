@@ -20,7 +20,7 @@ use Rattle.finality.proofs.Lent.{analyzed-demand}
 use Rattle.finality.proofs.Lengths.{zeros-length}
 use Rattle.memory.proofs.Front.{front-holds}
 use Rattle.sheet.specs.Measured.{Accepted}
-use Rattle.sheet_offsets.specs.Tables.{firstRanges}
+use Rattle.sheet_index.specs.Tables.{firstRanges}
 use Rattle.sheet_layouts.specs.Classes.{layoutClasses, Classes}
 use Rattle.sheet_layouts.proofs.Classes.{layout-classes-hold}
 use Rattle.fixpoint_step.specs.Stepped.{SheetIndex}

@@ -123,7 +123,7 @@ fn answer_accepted(sheet: &[u8], sizes: Sizes, questions: u16) -> bool
     requires { ⌜ Accepted (now sheet) sizes ⌝ }
 {
     let mut firsts = no_ranges();
-    sheet_offsets::first_ranges(sheet, sizes, &mut firsts);
+    sheet_index::first_ranges(sheet, sizes, &mut firsts);
     answer_questions(sheet, sizes, &firsts, questions)
 }
 

@@ -4,7 +4,6 @@ use check_input::read_front;
 use check_input::u16_of;
 use check_input::u32_of;
 use facts_report::list;
-use facts_room::no_sheet;
 use libc::STDIN_FILENO;
 use libc::STDOUT_FILENO;
 
@@ -45,7 +44,8 @@ fn print_heading(length: usize) -> bool {
 
 // Writes the listing of a sheet. Answers whether the sheet came and all of the listing was written: nothing is written behind a gap.
 fn list_sheet(length: usize) -> bool {
-    let mut sheet = no_sheet();
+    // One byte more than the longest sheet that is not too large: of a longer input the rest may be left unread.
+    let mut sheet = [0u8; 65537];
     let count = read_front(&mut sheet, length);
     if count < length {
         return false;

@@ -8,8 +8,8 @@ ghost use Rattle.sheet.specs.Measured.{Accepted};
 ghost use Rattle.model.specs.Interface.{looked};
 ghost use Rattle.model.specs.Room.{lowestIf, lowestOf};
 use sheet::Sizes;
+use sheet_index::layout_starts;
 use sheet_layouts::lowest;
-use sheet_offsets::layout_starts;
 use sheet_questions::SheetCheck;
 use sheet_questions::check_sheet;
 

@@ -1,11 +1,11 @@
 // Lists the facts of the sheet on standard input, or nothing where it cannot be read. The listing is written whole, or up to the first write that fails.
 use check_input::read_input;
 use facts_report::list;
-use facts_room::no_sheet;
 use libc::STDOUT_FILENO;
 
 fn main() {
-    let mut sheet = no_sheet();
+    // One byte more than the longest sheet that is not too large: of a longer input the rest may be left unread.
+    let mut sheet = [0u8; 65537];
     let input = read_input(&mut sheet);
     let failed = input.failed;
     if failed {

@@ -4,40 +4,60 @@ ghost use lib.ListN.{length};
 ghost use Rattle.model.specs.Charges.{fresh};
 ghost use Rattle.model.specs.Call.{call};
 ghost use Rattle.model.specs.Listing.{callLines, listingLent};
-ghost use Rattle.sheet_layouts.specs.Readable.{Readable};
+ghost use Rattle.model.specs.Sheet.{codeCount, firstRange};
+ghost use Rattle.memory.specs.Front.{Holds};
+ghost use Rattle.sheet.specs.Measured.{Accepted};
+ghost use Rattle.sheet_layouts.specs.Classes.{Classes};
 ghost use Rattle.text_words.specs.Text.{ShowsText};
+use call_indexed::analyze_indexed;
 use model::AnalysisKind;
 use model::VerifierResources;
 use sheet::Sizes;
 use text_listing::answer_lines;
 use text_listing::last_line;
-use verifier::analyze;
 
-// "for s over 32 in question 8's [place]": what is lent has room for 32 tracked slots.
-pub fn list_facts(sheet: &[u8], sizes: Sizes, starts: &[u16], out: &mut [u8]) -> usize
-    requires { ⌜ Readable (now sheet) sizes (now starts) × (sizes .«code_count» ≤ 256) × (2187530 ≤ length (now out)) ⌝ }
+// "for s over 32 in question 8's [place]": what is lent has room for 32 tracked slots. The sheet is accepted and its index found, and n and L are in
+// their limits: nothing is asked or found again.
+pub fn list_facts(
+    sheet: &[u8],
+    sizes: Sizes,
+    firsts: &[u16],
+    classes: &[u16],
+    out: &mut [u8],
+) -> usize
+    requires { ⌜ (
+        Accepted (now sheet) sizes
+        × Holds (firstRange (now sheet)) (codeCount (now sheet)) (now firsts)
+        × Classes (now sheet) (now classes)
+        × (sizes .«code_count» ≤ 256)
+        × (sizes .«local_slots» ≤ 4096)
+        × (2187530 ≤ length (now out))
+        ) ⌝ }
     ensures { λ r. ⌜ ShowsText (callLines (now (sheet .entry)) (call (now (sheet .entry)) fresh listingLent)) (now (out .entry)) r (now (out .exit)) ⌝ }
 {
-    let mut constant_slots = facts_room::slots();
-    let mut constant_present = facts_room::present();
-    let mut constant_kinds = facts_room::kinds();
-    let mut constant_values = facts_room::values();
-    let mut index_slots = facts_room::slots();
-    let mut index_present = facts_room::present();
-    let mut index_kinds = facts_room::kinds();
-    let mut index_values = facts_room::values();
-    let mut container_slots = facts_room::slots();
-    let mut container_present = facts_room::present();
-    let mut container_kinds = facts_room::kinds();
-    let mut container_values = facts_room::values();
-    let mut marks = facts_room::marks();
-    let mut stack = facts_room::stack();
-    let mut row_kinds = facts_room::row_kinds();
-    let mut row_values = facts_room::row_values();
-    let mut work_list = facts_room::work_list();
-    let answer = analyze(
+    let mut constant_slots = [0u16; 32];
+    let mut constant_present = [0u8; 256];
+    let mut constant_kinds = [0u8; 8192];
+    let mut constant_values = [0u64; 8192];
+    let mut index_slots = [0u16; 32];
+    let mut index_present = [0u8; 256];
+    let mut index_kinds = [0u8; 8192];
+    let mut index_values = [0u64; 8192];
+    let mut container_slots = [0u16; 32];
+    let mut container_present = [0u8; 256];
+    let mut container_kinds = [0u8; 8192];
+    let mut container_values = [0u64; 8192];
+    let mut marks = [0u8; 4096];
+    let mut stack = [0u16; 4096];
+    let mut row_kinds = [0u8; 32];
+    let mut row_values = [0u64; 32];
+    let mut work_list = [0u16; 16640];
+    let answer = analyze_indexed(
         sheet,
+        sizes,
         VerifierResources::new(),
+        firsts,
+        classes,
         &mut constant_slots,
         &mut constant_present,
         &mut constant_kinds,
@@ -56,12 +76,12 @@ pub fn list_facts(sheet: &[u8], sizes: Sizes, starts: &[u16], out: &mut [u8]) ->
         &mut row_values,
         &mut work_list,
     );
+    let n = sizes.code_count;
     let a = answer_lines(
         AnalysisKind::Constant,
         answer,
-        sheet,
-        sizes,
-        starts,
+        classes,
+        n,
         &constant_slots,
         &constant_present,
         &constant_kinds,
@@ -72,9 +92,8 @@ pub fn list_facts(sheet: &[u8], sizes: Sizes, starts: &[u16], out: &mut [u8]) ->
     let b = answer_lines(
         AnalysisKind::IndexCheck,
         answer,
-        sheet,
-        sizes,
-        starts,
+        classes,
+        n,
         &index_slots,
         &index_present,
         &index_kinds,
@@ -85,9 +104,8 @@ pub fn list_facts(sheet: &[u8], sizes: Sizes, starts: &[u16], out: &mut [u8]) ->
     let c = answer_lines(
         AnalysisKind::Container,
         answer,
-        sheet,
-        sizes,
-        starts,
+        classes,
+        n,
         &container_slots,
         &container_present,
         &container_kinds,

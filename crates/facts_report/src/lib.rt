@@ -8,7 +8,7 @@ ghost use Rattle.sheet.specs.Measured.{Accepted};
 ghost use Rattle.text_words.specs.Text.{ShowsText};
 use facts_call::list_facts;
 use sheet::Sizes;
-use sheet_offsets::layout_starts;
+use sheet_index::index_sheet;
 use sheet_questions::SheetCheck;
 use sheet_questions::check_sheet;
 use text_lines::refused_line;
@@ -27,7 +27,9 @@ const MOST_LOCALS: usize = 4096;
 // sheet (`listing`), for every outcome of the call, and the rest of out stays as it was. Three analyses have at most 729,161 bytes each, and the last
 // line 47. "`too large` alone is printed for a sheet over 65,536 bytes before question 1"
 pub fn list(sheet: &[u8], out: &mut [u8; 2187530]) -> usize
-    ensures { λ r. ⌜ (r ≤ length (now (out .exit))) × (listing (now (sheet .entry)) ≡ some (take r (now (out .exit)))) × (drop r (now (out .exit)) ≡ drop r (now (out .entry))) ⌝ }
+    ensures { λ r. ⌜ (
+        (r ≤ length (now (out .exit))) × (listing (now (sheet .entry)) ≡ some (take r (now (out .exit)))) × (drop r (now (out .exit)) ≡ drop r (now (out .entry)))
+        ) ⌝ }
 {
     if MOST_BYTES < sheet.len() {
         return too_large(0, out);
@@ -49,7 +51,8 @@ fn list_accepted(sheet: &[u8], sizes: Sizes, out: &mut [u8]) -> usize
     if MOST_LOCALS < sizes.local_slots {
         return too_large(0, out);
     }
-    let mut starts = facts_room::starts();
-    layout_starts(sheet, sizes, &mut starts);
-    list_facts(sheet, sizes, &starts, out)
+    let mut firsts = [0u16; 256];
+    let mut classes = [0u16; 1025];
+    index_sheet(sheet, sizes, &mut firsts, &mut classes);
+    list_facts(sheet, sizes, &firsts, &classes, out)
 }

@@ -2,23 +2,10 @@
 ghost use mathlib.Core.Path.{_≡_};
 ghost use Rattle.model.specs.Fact.{join};
 ghost use Rattle.model.specs.Tables.{factIn, cellOf};
-ghost use Rattle.sheet_layouts.specs.Classes.{classOf, equalContainersBy};
+ghost use Rattle.sheet_layouts.specs.Classes.{equalContainersBy};
 use crate::facts::merge_fact;
 use model::FactCell;
-
-// The class of layout i. classes is what layout_classes has filled; a number from its end up names no layout, and has the last one's class.
-pub fn class_of(classes: &[u16], i: usize) -> u16
-    ensures { λ r. ⌜ r ≡ classOf (now (classes .entry)) i ⌝ }
-{
-    let n = classes.len();
-    if i < n {
-        return classes[i];
-    }
-    if n == 0 {
-        return 0;
-    }
-    classes[n - 1]
-}
+use sheet_layouts::class_of;
 
 // Whether two containers are equal: by kind, and A and B by class ("value A × 65,536 + B"). Equal values are answered at once.
 pub fn equal_containers(classes: &[u16], old: FactCell, new: FactCell) -> bool

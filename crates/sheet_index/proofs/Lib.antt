@@ -1,1 +1,4 @@
--- This crate has no laws beside the proof of its function.
+-- The laws of this crate. For other crates to cite: Tabled, what the tables hold; Found, what the analyses ask of a sheet's index.
+pub mod Summed
+pub mod Tabled
+pub mod Found

@@ -1,4 +1,4 @@
--- What the listing asks of a sheet, its sizes and where its layouts begin.
+-- What the search for a layout of equal content asks: the sheet, its sizes and where its layouts begin.
 -- Assumes nothing.
 use mathlib.Core.Bool.{cond}
 use mathlib.Core.List.{List}

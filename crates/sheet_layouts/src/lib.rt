@@ -1,9 +1,9 @@
-// "with the lowest layout number of equal content": of one layout, and once a call of all
+// "with the lowest layout number of equal content": of one layout, and once a call of all, to be read as often as needed
 ghost use mathlib.Core.Path.{_≡_};
 ghost use Prim.Native.Nat.{_≤_, _<_};
 ghost use lib.ListN.{length, replicate};
 ghost use Rattle.model.specs.Listing.{lowest};
-ghost use Rattle.sheet_layouts.specs.Classes.{layoutClasses};
+ghost use Rattle.sheet_layouts.specs.Classes.{layoutClasses, classOf};
 ghost use Rattle.sheet_layouts.specs.Readable.{Readable, startOf};
 use sheet::Sizes;
 use sheet_fields::layout_length_at;
@@ -84,4 +84,18 @@ pub fn layout_classes(sheet: &[u8], sizes: Sizes, starts: &[u16], classes: &mut 
         classes[i] = lowest_of(sheet, sizes, starts, i) as u16;
         i += 1;
     }
+}
+
+// The class of layout i. classes is what layout_classes has filled; a number from its end up names no layout, and has the last one's class.
+pub fn class_of(classes: &[u16], i: usize) -> u16
+    ensures { λ r. ⌜ r ≡ classOf (now (classes .entry)) i ⌝ }
+{
+    let n = classes.len();
+    if i < n {
+        return classes[i];
+    }
+    if n == 0 {
+        return 0;
+    }
+    classes[n - 1]
 }

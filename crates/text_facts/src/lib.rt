@@ -2,13 +2,12 @@
 ghost use mathlib.Core.List.{List, _++_};
 ghost use Prim.Native.Nat.{ℕ, _+_, _≤_};
 ghost use lib.ListN.{length};
-ghost use Rattle.model.specs.Listing.{ascii, decimal, constantText, containerText, factText};
+ghost use Rattle.model.specs.Listing.{ascii, decimal, constantText};
 ghost use Rattle.model.specs.Tables.{factOf};
 ghost use Rattle.text_words.specs.Text.{Added};
-ghost use Rattle.sheet_layouts.specs.Readable.{Readable};
+ghost use Rattle.text_facts.specs.Text.{containerTextBy, factTextBy};
 use model::AnalysisKind;
-use sheet::Sizes;
-use sheet_layouts::lowest;
+use sheet_layouts::class_of;
 use text_words::put;
 use text_words::put_decimal;
 use text_words::put_spaced;
@@ -37,25 +36,17 @@ fn put_checked(value: u64, at: usize, out: &mut [u8]) -> usize
     put_decimal(value, a, out)
 }
 
-// "`map 0 1`, `iter 0 1`, `queue 2`"
-fn put_container(
-    sheet: &[u8],
-    sizes: Sizes,
-    starts: &[u16],
-    kind: u8,
-    value: u64,
-    at: usize,
-    out: &mut [u8],
-) -> usize
-    requires { ⌜ Readable (now sheet) sizes (now starts) × (2 ≤ kind) × (at + 46 ≤ length (now out)) ⌝ }
-    ensures { λ r. ⌜ Added 46 (containerText (now (sheet .entry)) (factOf kind value)) at (now (out .entry)) r (now (out .exit)) ⌝ }
+// "`map 0 1`, `iter 0 1`, `queue 2`, with the lowest layout number of equal content": its class
+fn put_container(classes: &[u16], kind: u8, value: u64, at: usize, out: &mut [u8]) -> usize
+    requires { ⌜ (2 ≤ kind) × (at + 46 ≤ length (now out)) ⌝ }
+    ensures { λ r. ⌜ Added 46 (containerTextBy (now (classes .entry)) (factOf kind value)) at (now (out .entry)) r (now (out .exit)) ⌝ }
 {
-    let first = lowest(sheet, sizes, starts, value / 65536);
+    let first = class_of(classes, (value / 65536) as usize) as u64;
     if 3 < kind {
         let a = put(b"queue ", at, out);
         return put_decimal(first, a, out);
     }
-    let second = lowest(sheet, sizes, starts, value % 65536);
+    let second = class_of(classes, (value % 65536) as usize) as u64;
     if kind == 2 {
         let a = put(b"map ", at, out);
         let b = put_decimal(first, a, out);
@@ -66,19 +57,17 @@ fn put_container(
     put_spaced(second, b, out)
 }
 
-// The text of a fact of an analysis.
+// The text of a fact of an analysis. classes is what layout_classes has filled.
 pub fn put_fact(
     which: AnalysisKind,
-    sheet: &[u8],
-    sizes: Sizes,
-    starts: &[u16],
+    classes: &[u16],
     kind: u8,
     value: u64,
     at: usize,
     out: &mut [u8],
 ) -> usize
-    requires { ⌜ Readable (now sheet) sizes (now starts) × (at + 46 ≤ length (now out)) ⌝ }
-    ensures { λ r. ⌜ Added 46 (factText which (now (sheet .entry)) (factOf kind value)) at (now (out .entry)) r (now (out .exit)) ⌝ }
+    requires { ⌜ at + 46 ≤ length (now out) ⌝ }
+    ensures { λ r. ⌜ Added 46 (factTextBy which (now (classes .entry)) (factOf kind value)) at (now (out .entry)) r (now (out .exit)) ⌝ }
 {
     if kind == 0 {
         return put(b"unknown", at, out);
@@ -89,6 +78,6 @@ pub fn put_fact(
     match which {
         AnalysisKind::Constant => put_constant(kind, value, at, out),
         AnalysisKind::IndexCheck => put_checked(value, at, out),
-        AnalysisKind::Container => put_container(sheet, sizes, starts, kind, value, at, out),
+        AnalysisKind::Container => put_container(classes, kind, value, at, out),
     }
 }

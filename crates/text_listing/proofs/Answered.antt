@@ -7,7 +7,8 @@ use Prim.Native.Nat.{ℕ}
 use native.Mathlib.Omega.{arith}
 use Rattle.model.specs.Charges.{overBudget, noRoom}
 use Rattle.model.specs.Call.{Table, Lent, CallEnd, kept, cleared, completed, tableOf, call, counts, answer, tables, filledTable, scratchZero, lentAfter, Result, result, resultOf, analyzed}
-use Rattle.model.specs.Listing.{analysisLines, factsLines, endLines, callLines}
+use Rattle.model.specs.Sheet.{codeCount}
+use Rattle.model.specs.Listing.{factText, analysisLines, factsLines, endLines, callLines}
 use Rattle.model.specs.declared.Counts.{Counts}
 use Rattle.model.specs.declared.VerifierResources.{VerifierResources}
 use Rattle.model.specs.declared.AnalysisKind.{AnalysisKind}
@@ -50,7 +51,7 @@ module _ (sheet : List ℕ) (budget : VerifierResources) (before : Lent) where
   text-is (completed facts left) e =
       ap₂ _++_ (ap₂ _++_ (ap₂ _++_ (part Constant (before .constants)) (part IndexCheck (before .index))) (part Container (before .containers))) refl
     where
-      part : (which : AnalysisKind) (old : Table) → printedAnalysis which sheet (counts (analysedOf facts which)) (filledTable (tables (analysedOf facts which)) old)
+      part : (which : AnalysisKind) (old : Table) → printedAnalysis which (factText which sheet) (codeCount sheet) (counts (analysedOf facts which)) (filledTable (tables (analysedOf facts which)) old)
           ≡ analysisLines which sheet (analysedOf facts which)
       part which old = let s = call-shaped sheet budget before facts left e which in analysis-is (analysedOf facts which) (s .0) old which sheet (s .1)
 
@@ -64,26 +65,26 @@ module _ (sheet : List ℕ) (budget : VerifierResources) (before : Lent) where
   -- ---- its tables
 
   tables-fit : (end : CallEnd) (constant index container : Counts) (left : VerifierResources) → call sheet budget before ≡ some end → answer budget end ≡ Analyzed constant index container left
-      → (which : AnalysisKind) → Listable sheet (choose which constant index container) (tableOf (lentAfter end before) which)
+      → (which : AnalysisKind) → Listable (codeCount sheet) (choose which constant index container) (tableOf (lentAfter end before) which)
   unfolding answer choose tableOf lentAfter scratchZero analysedOf
   tables-fit (kept number) constant index container left e a which = let z : _≡_ {A = ℕ} 0 1 = cc in absurd (omega arith)
   tables-fit (cleared (overBudget stage requested remaining) rest) constant index container left e a which = let z : _≡_ {A = ℕ} 0 1 = cc in absurd (omega arith)
   tables-fit (cleared noRoom rest) constant index container left e a which = let z : _≡_ {A = ℕ} 0 1 = cc in absurd (omega arith)
   tables-fit (completed facts rest) constant index container left e a which = each which
     where
-      fit : (which : AnalysisKind) (c : Counts) (old : Table) → counts (analysedOf facts which) ≡ c → Listable sheet c (filledTable (tables (analysedOf facts which)) old)
+      fit : (which : AnalysisKind) (c : Counts) (old : Table) → counts (analysedOf facts which) ≡ c → Listable (codeCount sheet) c (filledTable (tables (analysedOf facts which)) old)
       fit which c old p =
           let s = call-shaped sheet budget before facts rest e which in
-          subst (λ (x : Counts). Listable sheet x (filledTable (tables (analysedOf facts which)) old)) p (listable (analysedOf facts which) (s .0) old sheet (s .1))
+          subst (λ (x : Counts). Listable (codeCount sheet) x (filledTable (tables (analysedOf facts which)) old)) p (listable (analysedOf facts which) (s .0) old (codeCount sheet) (s .1))
 
-      each : (which : AnalysisKind) → Listable sheet (choose which constant index container) (tableOf (lentAfter (completed facts rest) before) which)
+      each : (which : AnalysisKind) → Listable (codeCount sheet) (choose which constant index container) (tableOf (lentAfter (completed facts rest) before) which)
       each Constant = fit Constant constant (before .constants) (cc)
       each IndexCheck = fit IndexCheck index (before .index) (cc)
       each Container = fit Container container (before .containers) (cc)
 
   -- the tables that a call with facts left are long enough to be listed
   pub answer-listable : (r : Answer) (after : Lent) → some (result r after) ≡ analyzed sheet budget before → (constant index container : Counts) (left : VerifierResources)
-      → r ≡ Analyzed constant index container left → (which : AnalysisKind) → Listable sheet (choose which constant index container) (tableOf after which)
+      → r ≡ Analyzed constant index container left → (which : AnalysisKind) → Listable (codeCount sheet) (choose which constant index container) (tableOf after which)
   answer-listable r after e constant index container left a which =
       let d = ended r after e in
-      subst (λ (x : Lent). Listable sheet (choose which constant index container) (tableOf x which)) (d .leaves) (tables-fit (d .end) constant index container left (d .is) (d .answers ∙ a) which)
+      subst (λ (x : Lent). Listable (codeCount sheet) (choose which constant index container) (tableOf x which)) (d .leaves) (tables-fit (d .end) constant index container left (d .is) (d .answers ∙ a) which)

@@ -61,7 +61,7 @@ module _ (a : Analysed) (sized : Sized (length (a .slots)) (a .rows)) (old : Tab
     unfolding filledTable filled tables
     slots-are = take-at (a .slots) (replicate (length (old .slots) - length (a .slots)) 0) (length (a .slots)) refl
 
-    pub analysis-is : printedAnalysis which sheet (counts a) (filledTable (tables a) old) ≡ analysisLines which sheet a
+    pub analysis-is : printedAnalysis which (factText which sheet) (codeCount sheet) (counts a) (filledTable (tables a) old) ≡ analysisLines which sheet a
     unfolding printedAnalysis analysisLines counts
     analysis-is =
         ap (λ (x : List ℕ). headLine which (codeCount sheet) (length (a .slots)) (a .pops) ++ x)
@@ -74,17 +74,17 @@ module _ (a : Analysed) (sized : Sized (length (a .slots)) (a .rows)) (old : Tab
         row pc = let z : 0 + pc ≡ pc = omega arith in rw (z, slots-are, row-is pc (rowAt (a .rows) pc) refl)
 
   -- the table is long enough for n rows of s cells
-  pub listable : (sheet : List ℕ) → length (a .rows) ≡ codeCount sheet → Listable sheet (counts a) (filledTable (tables a) old)
+  pub listable : (n : ℕ) → length (a .rows) ≡ n → Listable n (counts a) (filledTable (tables a) old)
   unfolding filledTable filled tables counts
-  listable sheet all = record {
+  listable n all = record {
     slots = longer (a .slots) _ (length (a .slots)) refl;
-    present = longer (presentBytes (a .rows)) _ (codeCount sheet) (length-present (a .rows) ∙ all);
-    kinds = longer (cells kind (length (a .slots)) (a .rows)) _ (codeCount sheet * length (a .slots)) (part kind);
-    values = longer (cells value (length (a .slots)) (a .rows)) _ (codeCount sheet * length (a .slots)) (part value);
+    present = longer (presentBytes (a .rows)) _ n (length-present (a .rows) ∙ all);
+    kinds = longer (cells kind (length (a .slots)) (a .rows)) _ (n * length (a .slots)) (part kind);
+    values = longer (cells value (length (a .slots)) (a .rows)) _ (n * length (a .slots)) (part value);
   }
     where
-      longer : (front rest : List ℕ) (n : ℕ) → length front ≡ n → n ≤ length (front ++ rest)
-      longer front rest n e = omega (arith, e, length-append front rest)
+      longer : (front rest : List ℕ) (m : ℕ) → length front ≡ m → m ≤ length (front ++ rest)
+      longer front rest m e = omega (arith, e, length-append front rest)
 
-      part : (f : Fact → ℕ) → length (cells f (length (a .slots)) (a .rows)) ≡ codeCount sheet * length (a .slots)
-      part f = length-cells f (length (a .slots)) (a .rows) sized ∙ ap (λ (n : ℕ). n * length (a .slots)) all
+      part : (f : Fact → ℕ) → length (cells f (length (a .slots)) (a .rows)) ≡ n * length (a .slots)
+      part f = length-cells f (length (a .slots)) (a .rows) sized ∙ ap (λ (m : ℕ). m * length (a .slots)) all

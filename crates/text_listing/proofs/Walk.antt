@@ -1,6 +1,6 @@
 -- The lines of the rows of an analysis, row by row.
 -- Assumes nothing.
-use mathlib.Core.Path.{_≡_, refl, ap, ap₂}
+use mathlib.Core.Path.{_≡_, refl, ap₂}
 use mathlib.Core.List.{List, _++_}
 use Prim.Native.Nat.{ℕ, _+_, _*_, _-_, _≤_, _<_}
 use native.Mathlib.Nat.{mul-le-mul-right, suc-mul}
@@ -10,8 +10,7 @@ use lib.ListN.{length, getD, take, drop}
 use lib.Seq.{length-take-le}
 use Rattle.model.specs.Fact.{Fact}
 use Rattle.model.specs.Count.{collect}
-use Rattle.model.specs.Listing.{presentLines, factText, headLine}
-use Rattle.model.specs.Sheet.{codeCount}
+use Rattle.model.specs.Listing.{presentLines, headLine}
 use Rattle.model.specs.declared.Counts.{Counts}
 use Rattle.model.specs.declared.AnalysisKind.{AnalysisKind}
 use Rattle.text_words.specs.Text.{Added}
@@ -52,11 +51,10 @@ pub rows-short : (n s : ℕ) → n ≤ 256 → s ≤ 32 → n * (89 * s) ≤ 729
 rows-short n s h k = omega (arith, mul-le-mul-right (89 * s) h)
 
 -- the head, and behind it the rows
-module _ (which : AnalysisKind) (sheet slots present kinds values : List ℕ) (c : Counts) (n : ℕ) (is : n ≡ codeCount sheet) where
+module _ (which : AnalysisKind) (text : Fact → List ℕ) (slots present kinds values : List ℕ) (c : Counts) (n : ℕ) where
   pub analysis-written : (old mid new : List ℕ) (at a next : ℕ) → n ≤ 256 → c .tracked ≤ 32
       → Added 73 (headLine which n (c .tracked) (c .pops)) at old a mid
-      → Added (n * (89 * c .tracked)) (collect (rowText (factText which sheet) (c .tracked) slots present kinds values) n) a mid next new
-      → Added 729161 (printedAnalysis which sheet c (table slots present kinds values)) at old next new
+      → Added (n * (89 * c .tracked)) (collect (rowText text (c .tracked) slots present kinds values) n) a mid next new
+      → Added 729161 (printedAnalysis which text n c (table slots present kinds values)) at old next new
   unfolding printedAnalysis
-  analysis-written old mid new at a next h k w v =
-      reword (omega (arith, rows-short n (c .tracked) h k)) (ap (λ (m : ℕ). headLine which m (c .tracked) (c .pops) ++ collect (rowText (factText which sheet) (c .tracked) slots present kinds values) m) is) (then w v)
+  analysis-written old mid new at a next h k w v = reword (omega (arith, rows-short n (c .tracked) h k)) refl (then w v)

@@ -1,12 +1,15 @@
 -- What is written of a call's answer and of the tables that it left.
 -- Assumes nothing.
+use mathlib.Core.Path.{_≡_}
 use mathlib.Core.List.{List, [], _++_}
 use Prim.Native.Nat.{ℕ, _*_, _≤_}
 use lib.ListN.{length}
 use Rattle.model.specs.Sheet.{codeCount}
 use Rattle.model.specs.Call.{Table, Lent}
-use Rattle.model.specs.Listing.{leftLine, refusedLine, tooLarge}
+use Rattle.model.specs.Fact.{Fact}
+use Rattle.model.specs.Listing.{factText, leftLine, refusedLine, tooLarge}
 use Rattle.model.specs.declared.Counts.{Counts}
+use Rattle.model.specs.declared.VerifierResources.{VerifierResources}
 use Rattle.model.specs.declared.AnalysisKind.{AnalysisKind}
 use Rattle.model.specs.declared.AnalysisKind.the-variants.{Constant, IndexCheck, Container}
 use Rattle.model.specs.declared.Answer.{Answer}
@@ -14,11 +17,11 @@ use Rattle.model.specs.declared.Answer.the-variants.{Analyzed, Invalid, OverBud
 use Rattle.text_listing.specs.Rows.{printedAnalysis}
 
 -- a table that is at least as long as n rows of s cells
-pub record Listable (sheet : List ℕ) (c : Counts) (table : Table) : Type 0 where
+pub record Listable (n : ℕ) (c : Counts) (table : Table) : Type 0 where
   pub slots : c .tracked ≤ length (table .slots)
-  pub present : codeCount sheet ≤ length (table .present)
-  pub kinds : codeCount sheet * c .tracked ≤ length (table .kinds)
-  pub values : codeCount sheet * c .tracked ≤ length (table .values)
+  pub present : n ≤ length (table .present)
+  pub kinds : n * c .tracked ≤ length (table .kinds)
+  pub values : n * c .tracked ≤ length (table .values)
 
 -- the one of an analysis, of three
 unfoldable pub choose : AnalysisKind → Counts → Counts → Counts → Counts
@@ -26,12 +29,21 @@ choose Constant constant index container = constant
 choose IndexCheck constant index container = index
 choose Container constant index container = container
 
--- the lines of an analysis: none of a call that was refused
-unfoldable pub answerPart : AnalysisKind → List ℕ → Answer → Table → List ℕ
-answerPart which sheet (Analyzed constant index container left) table = printedAnalysis which sheet (choose which constant index container) table
-answerPart which sheet (Invalid number left) table = []
-answerPart which sheet (OverBudget stage requested remaining left) table = []
-answerPart which sheet (NoRoom left) table = []
+-- a table that has room for the analysis, where the answer has facts
+abbrev pub AnswerListable : AnalysisKind → Answer → ℕ → Table → Type 0
+AnswerListable which answer n table =
+    (constant index container : Counts) (left : VerifierResources) → answer ≡ Analyzed constant index container left → Listable n (choose which constant index container) table
+
+-- the lines of an analysis of n instructions: none of a call that was refused
+unfoldable pub answerPart : AnalysisKind → (Fact → List ℕ) → ℕ → Answer → Table → List ℕ
+answerPart which text n (Analyzed constant index container left) table = printedAnalysis which text n (choose which constant index container) table
+answerPart which text n (Invalid number left) table = []
+answerPart which text n (OverBudget stage requested remaining left) table = []
+answerPart which text n (NoRoom left) table = []
+
+-- the lines of an analysis of a sheet
+abbrev pub sheetPart : AnalysisKind → List ℕ → Answer → Table → List ℕ
+sheetPart which sheet answer table = answerPart which (factText which sheet) (codeCount sheet) answer table
 
 -- the last line
 unfoldable pub lastLine : Answer → List ℕ
@@ -43,5 +55,5 @@ lastLine (NoRoom left) = tooLarge
 -- the three analyses and the last line
 unfoldable pub answerText : List ℕ → Answer → Lent → List ℕ
 answerText sheet answer lent =
-    answerPart Constant sheet answer (lent .constants) ++ answerPart IndexCheck sheet answer (lent .index) ++ answerPart Container sheet answer (lent .containers)
+    sheetPart Constant sheet answer (lent .constants) ++ sheetPart IndexCheck sheet answer (lent .index) ++ sheetPart Container sheet answer (lent .containers)
     ++ lastLine answer

@@ -6,12 +6,11 @@ use mathlib.Core.Option.{Option, none, some}
 use Prim.Native.Nat.{ℕ, _*_}
 use lib.Dec.{eqb}
 use lib.ListN.{getD, take, drop}
-use Rattle.model.specs.Sheet.{codeCount}
 use Rattle.model.specs.Count.{collect}
 use Rattle.model.specs.Fact.{Fact, Row}
 use Rattle.model.specs.Tables.{factsOf}
 use Rattle.model.specs.Call.{Table}
-use Rattle.model.specs.Listing.{decimal, space, newline, presentLines, factText, headLine}
+use Rattle.model.specs.Listing.{decimal, space, newline, presentLines, headLine}
 use Rattle.model.specs.declared.Counts.{Counts}
 use Rattle.model.specs.declared.AnalysisKind.{AnalysisKind}
 
@@ -39,7 +38,6 @@ abbrev pub rowIn : ℕ → Table → ℕ → Option Row
 rowIn s table pc = rowOf s (table .present) (table .kinds) (table .values) pc
 
 -- the head of an analysis, and the lines of its n rows in order
-unfoldable pub printedAnalysis : AnalysisKind → List ℕ → Counts → Table → List ℕ
-printedAnalysis which sheet c table =
-    headLine which (codeCount sheet) (c .tracked) (c .pops)
-    ++ collect (λ pc. presentLines (factText which sheet) pc (take (c .tracked) (table .slots)) (rowIn (c .tracked) table pc)) (codeCount sheet)
+unfoldable pub printedAnalysis : AnalysisKind → (Fact → List ℕ) → ℕ → Counts → Table → List ℕ
+printedAnalysis which text n c table =
+    headLine which n (c .tracked) (c .pops) ++ collect (λ pc. presentLines text pc (take (c .tracked) (table .slots)) (rowIn (c .tracked) table pc)) n

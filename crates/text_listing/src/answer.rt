@@ -3,18 +3,14 @@ ghost use mathlib.Core.Path.{_≡_};
 ghost use Prim.Native.Nat.{_+_, _≤_};
 ghost use lib.ListN.{length};
 ghost use Rattle.model.specs.Call.{table};
-ghost use Rattle.model.specs.declared.Counts.{Counts};
-ghost use Rattle.model.specs.declared.VerifierResources.{VerifierResources};
-ghost use Rattle.model.specs.declared.Answer.the-variants.{Analyzed};
 ghost use Rattle.text_words.specs.Text.{Added};
-ghost use Rattle.sheet_layouts.specs.Readable.{Readable};
+ghost use Rattle.text_facts.specs.Text.{factTextBy};
 ghost use Rattle.text_listing.specs.Rows.{printedAnalysis};
-ghost use Rattle.text_listing.specs.Answer.{Listable, choose, answerPart, lastLine};
+ghost use Rattle.text_listing.specs.Answer.{Listable, AnswerListable, choose, answerPart, lastLine};
 use crate::rows::rows_lines;
 use model::AnalysisKind;
 use model::Answer;
 use model::Counts;
-use sheet::Sizes;
 use text_lines::head_line;
 use text_lines::left_line;
 use text_lines::refused_line;
@@ -23,9 +19,8 @@ use text_lines::too_large;
 // "Heads: analysis, n, s, pops.", and behind it the rows.
 fn analysis_lines(
     which: AnalysisKind,
-    sheet: &[u8],
-    sizes: Sizes,
-    starts: &[u16],
+    classes: &[u16],
+    n: usize,
     counts: Counts,
     slots: &[u16],
     present: &[u8],
@@ -34,16 +29,19 @@ fn analysis_lines(
     at: usize,
     out: &mut [u8],
 ) -> usize
-    requires { ⌜ Readable (now sheet) sizes (now starts) × (sizes .«code_count» ≤ 256) × (length (now slots) ≤ 32) × Listable (now sheet) counts (table (now slots) (now present) (now kinds) (now values)) × (at + 729161 ≤ length (now out)) ⌝ }
-    ensures { λ r. ⌜ Added 729161 (printedAnalysis which (now (sheet .entry)) counts (table (now (slots .entry)) (now (present .entry)) (now (kinds .entry)) (now (values .entry)))) at (now (out .entry)) r (now (out .exit)) ⌝ }
+    requires { ⌜ (
+        (n ≤ 256) × (length (now slots) ≤ 32) × Listable n counts (table (now slots) (now present) (now kinds) (now values)) × (at + 729161 ≤ length (now out))
+        ) ⌝ }
+    ensures { λ r. ⌜ (
+        Added 729161
+        (printedAnalysis which (factTextBy which (now (classes .entry))) n counts (table (now (slots .entry)) (now (present .entry)) (now (kinds .entry)) (now (values .entry))))
+        at (now (out .entry)) r (now (out .exit))
+        ) ⌝ }
 {
-    let n = sizes.code_count;
     let behind = head_line(which, n as u64, counts.tracked, counts.pops, at, out);
     rows_lines(
         which,
-        sheet,
-        sizes,
-        starts,
+        classes,
         n,
         counts.tracked as usize,
         slots,
@@ -66,14 +64,13 @@ fn counts_of(which: AnalysisKind, constant: Counts, index: Counts, container: Co
     }
 }
 
-// The lines of an analysis from the answer of a call and the table that it left: none unless the answer has facts. 73 bytes of head at most, and 89
-// for each of at most 256 × 32 cells.
+// The lines of an analysis of n instructions from the answer of a call and the table that it left: none unless the answer has facts. Layouts are
+// printed by their classes. 73 bytes of head at most, and 89 for each of at most 256 × 32 cells.
 pub fn answer_lines(
     which: AnalysisKind,
     answer: Answer,
-    sheet: &[u8],
-    sizes: Sizes,
-    starts: &[u16],
+    classes: &[u16],
+    n: usize,
     slots: &[u16],
     present: &[u8],
     kinds: &[u8],
@@ -81,8 +78,17 @@ pub fn answer_lines(
     at: usize,
     out: &mut [u8],
 ) -> usize
-    requires { ⌜ Readable (now sheet) sizes (now starts) × (sizes .«code_count» ≤ 256) × (length (now slots) ≤ 32) × ((constant index container : Counts) (left : VerifierResources) → answer ≡ Analyzed constant index container left → Listable (now sheet) (choose which constant index container) (table (now slots) (now present) (now kinds) (now values))) × (at + 729161 ≤ length (now out)) ⌝ }
-    ensures { λ r. ⌜ Added 729161 (answerPart which (now (sheet .entry)) answer (table (now (slots .entry)) (now (present .entry)) (now (kinds .entry)) (now (values .entry)))) at (now (out .entry)) r (now (out .exit)) ⌝ }
+    requires { ⌜ (
+        (n ≤ 256)
+        × (length (now slots) ≤ 32)
+        × AnswerListable which answer n (table (now slots) (now present) (now kinds) (now values))
+        × (at + 729161 ≤ length (now out))
+        ) ⌝ }
+    ensures { λ r. ⌜ (
+        Added 729161
+        (answerPart which (factTextBy which (now (classes .entry))) n answer (table (now (slots .entry)) (now (present .entry)) (now (kinds .entry)) (now (values .entry))))
+        at (now (out .entry)) r (now (out .exit))
+        ) ⌝ }
 {
     match answer {
         Answer::Analyzed {
@@ -94,9 +100,8 @@ pub fn answer_lines(
             let counts = counts_of(which, constant, index, container);
             analysis_lines(
                 which,
-                sheet,
-                sizes,
-                starts,
+                classes,
+                n,
                 counts,
                 slots,
                 present,

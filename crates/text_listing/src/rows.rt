@@ -3,13 +3,12 @@ ghost use mathlib.Core.Path.{_≡_};
 ghost use Prim.Native.Nat.{_+_, _*_, _≤_};
 ghost use lib.ListN.{length, take};
 ghost use Rattle.model.specs.Count.{collect};
-ghost use Rattle.model.specs.Listing.{presentLines, factText};
+ghost use Rattle.model.specs.Listing.{presentLines};
 ghost use Rattle.model.specs.Tables.{factOf};
 ghost use Rattle.text_words.specs.Text.{Added};
-ghost use Rattle.sheet_layouts.specs.Readable.{Readable};
+ghost use Rattle.text_facts.specs.Text.{factTextBy};
 ghost use Rattle.text_listing.specs.Rows.{cellLine, tableRowOf, rowOf};
 use model::AnalysisKind;
-use sheet::Sizes;
 use text_facts::put_fact;
 use text_words::put;
 use text_words::put_decimal;
@@ -18,9 +17,7 @@ use text_words::put_spaced;
 // The line of one cell.
 fn cell_line(
     which: AnalysisKind,
-    sheet: &[u8],
-    sizes: Sizes,
-    starts: &[u16],
+    classes: &[u16],
     pc: u64,
     slot: u16,
     kind: u8,
@@ -28,22 +25,20 @@ fn cell_line(
     at: usize,
     out: &mut [u8],
 ) -> usize
-    requires { ⌜ Readable (now sheet) sizes (now starts) × (at + 89 ≤ length (now out)) ⌝ }
-    ensures { λ r. ⌜ Added 89 (cellLine (factText which (now (sheet .entry))) pc slot (factOf kind value)) at (now (out .entry)) r (now (out .exit)) ⌝ }
+    requires { ⌜ at + 89 ≤ length (now out) ⌝ }
+    ensures { λ r. ⌜ Added 89 (cellLine (factTextBy which (now (classes .entry))) pc slot (factOf kind value)) at (now (out .entry)) r (now (out .exit)) ⌝ }
 {
     let a = put_decimal(pc, at, out);
     let b = put_spaced(slot as u64, a, out);
     let c = put(b" ", b, out);
-    let d = put_fact(which, sheet, sizes, starts, kind, value, c, out);
+    let d = put_fact(which, classes, kind, value, c, out);
     put(b"\n", d, out)
 }
 
 // The lines of the row of pc, from its present byte and its parts of kinds and values: none for an absent row.
 fn row_lines(
     which: AnalysisKind,
-    sheet: &[u8],
-    sizes: Sizes,
-    starts: &[u16],
+    classes: &[u16],
     pc: u64,
     slots: &[u16],
     present: u8,
@@ -52,8 +47,12 @@ fn row_lines(
     at: usize,
     out: &mut [u8],
 ) -> usize
-    requires { ⌜ Readable (now sheet) sizes (now starts) × (length (now kinds) ≡ length (now slots)) × (length (now values) ≡ length (now slots)) × (at + 89 * length (now slots) ≤ length (now out)) ⌝ }
-    ensures { λ r. ⌜ Added (89 * length (now (slots .entry))) (presentLines (factText which (now (sheet .entry))) pc (now (slots .entry)) (tableRowOf present (now (kinds .entry)) (now (values .entry)))) at (now (out .entry)) r (now (out .exit)) ⌝ }
+    requires { ⌜ (length (now kinds) ≡ length (now slots)) × (length (now values) ≡ length (now slots)) × (at + 89 * length (now slots) ≤ length (now out)) ⌝ }
+    ensures { λ r. ⌜ (
+        Added (89 * length (now (slots .entry)))
+        (presentLines (factTextBy which (now (classes .entry))) pc (now (slots .entry)) (tableRowOf present (now (kinds .entry)) (now (values .entry)))) at
+        (now (out .entry)) r (now (out .exit))
+        ) ⌝ }
 {
     if present != 1 {
         return at;
@@ -61,18 +60,7 @@ fn row_lines(
     let mut next = at;
     let mut j = 0;
     while j < slots.len() {
-        next = cell_line(
-            which,
-            sheet,
-            sizes,
-            starts,
-            pc,
-            slots[j],
-            kinds[j],
-            values[j],
-            next,
-            out,
-        );
+        next = cell_line(which, classes, pc, slots[j], kinds[j], values[j], next, out);
         j += 1;
     }
     next
@@ -81,9 +69,7 @@ fn row_lines(
 // "present rows ascending": the lines of n rows of s cells each.
 pub fn rows_lines(
     which: AnalysisKind,
-    sheet: &[u8],
-    sizes: Sizes,
-    starts: &[u16],
+    classes: &[u16],
     n: usize,
     s: usize,
     slots: &[u16],
@@ -93,8 +79,15 @@ pub fn rows_lines(
     at: usize,
     out: &mut [u8],
 ) -> usize
-    requires { ⌜ Readable (now sheet) sizes (now starts) × (s ≤ length (now slots)) × (n ≤ length (now present)) × (n * s ≤ length (now kinds)) × (n * s ≤ length (now values)) × (at + n * (89 * s) ≤ length (now out)) ⌝ }
-    ensures { λ r. ⌜ Added (n * (89 * s)) (collect (λ pc. presentLines (factText which (now (sheet .entry))) pc (take s (now (slots .entry))) (rowOf s (now (present .entry)) (now (kinds .entry)) (now (values .entry)) pc)) n) at (now (out .entry)) r (now (out .exit)) ⌝ }
+    requires { ⌜ (
+        (s ≤ length (now slots)) × (n ≤ length (now present)) × (n * s ≤ length (now kinds)) × (n * s ≤ length (now values)) × (at + n * (89 * s) ≤ length (now out))
+        ) ⌝ }
+    ensures { λ r. ⌜ (
+        Added (n * (89 * s))
+        (collect (λ pc. presentLines (factTextBy which (now (classes .entry))) pc (take s (now (slots .entry)))
+        (rowOf s (now (present .entry)) (now (kinds .entry)) (now (values .entry)) pc)) n)
+        at (now (out .entry)) r (now (out .exit))
+        ) ⌝ }
 {
     let mut next = at;
     let mut from = 0;
@@ -103,9 +96,7 @@ pub fn rows_lines(
         let end = from + s;
         next = row_lines(
             which,
-            sheet,
-            sizes,
-            starts,
+            classes,
             pc as u64,
             &slots[..s],
             present[pc],

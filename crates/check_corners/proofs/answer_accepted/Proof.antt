@@ -5,7 +5,7 @@ use borrow.Author.Needs.{needs}
 use Rattle.sheet.proofs.Asked.{measured}
 use Rattle.sheet.proofs.Counted.{counted}
 use Rattle.sheet.proofs.Limited.{limited}
-use Rattle.sheet_offsets.proofs.Tabled.{first-ranges-hold}
+use Rattle.sheet_index.proofs.Tabled.{first-ranges-hold}
 use Rattle.check_corners.proofs.answer_accepted.Statement.{statement}
 use Rattle.check_corners.proofs.answer_accepted.Tie as tie
 

@@ -13,26 +13,11 @@ use borrow.Author.Needs.{needs}
 use Rattle.facts_report.proofs.list.Statement.{statement}
 use Rattle.facts_report.proofs.list.Tie as tie
 
-too-large-requires : tie.Need-too-large-requires
-too-large-requires c κs = search needs
-
 returns : tie.Need-returns
 returns c =
     let a = c .before .before .before .before .args in
     let w = shown-as (listing-long (now (a .sheet)) (lt-leb _ 65536 (c .before .before .if1 .taken))) (shows (c .too-large .ensures)) in
     (w .within, w .front, w .rest)
-
-check-sheet-requires : tie.Need-check-sheet-requires
-check-sheet-requires c κs = search needs
-
-enum-known-number : tie.Need-enum-known-number
-enum-known-number c = search needs
-
-refused-line-requires : tie.Need-refused-line-requires
-refused-line-requires c κs = search needs
-
-enum-known-sizes : tie.Need-enum-known-sizes
-enum-known-sizes c = search needs
 
 list-accepted-requires : tie.Need-list-accepted-requires
 list-accepted-requires c κs = (accepted _ (sym (c .before .before .sizes .given .1) ∙ c .before .before .before .before .check-sheet .ensures), omega arith)
@@ -54,13 +39,4 @@ returns-3 c =
 pub list-spec : {M : Type 1} → statement M
 list-spec =
     tie.close
-    (tie.spec
-    too-large-requires
-    returns
-    check-sheet-requires
-    enum-known-number
-    refused-line-requires
-    enum-known-sizes
-    list-accepted-requires
-    returns-2
-    returns-3)
+    (tie.spec (λ c κs. search needs) returns (λ c κs. search needs) (λ c. search needs) (λ c κs. search needs) (λ c. search needs) list-accepted-requires returns-2 returns-3)

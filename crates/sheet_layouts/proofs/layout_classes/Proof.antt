@@ -23,9 +23,6 @@ lowest-of-requires c κs = (c .before .before .before .before .pre .0, omega ari
 cast-fill : tie.Need-cast-fill Inv-loop μ-loop
 cast-fill c = omega (arith, class-fits (c .before .before .before .before .before .pre .0) _ (omega arith) (c .lowest-of .ensures))
 
-fill-requires : tie.Need-fill-requires Inv-loop μ-loop
-fill-requires c κs = tt
-
 loop-holds : tie.Need-loop-holds Inv-loop μ-loop
 loop-holds c = (omega arith, omega arith, turned-none _ _)
 
@@ -35,25 +32,10 @@ lowest-of-requires-2 c κs = (c .before .before .before .before .before .before 
 cast-classes : tie.Need-cast-classes Inv-loop μ-loop
 cast-classes c = omega (arith, class-fits (c .before .before .before .before .before .before .before .before .before .before .before .pre .0) _ (omega arith) (c .lowest-of2 .ensures))
 
-mul-classes : tie.Need-mul-classes Inv-loop μ-loop
-mul-classes c = omega arith
-
-slice-write-classes : tie.Need-slice-write-classes Inv-loop μ-loop
-slice-write-classes c = omega arith
-
-add-i : tie.Need-add-i Inv-loop μ-loop
-add-i c = omega arith
-
-loop-less : tie.Need-loop-less Inv-loop μ-loop
-loop-less c = omega arith
-
 loop-again : tie.Need-loop-again Inv-loop μ-loop
 loop-again c =
     let q = c .before .before .loop .inv in
     (omega arith, q .1, turn (q .2) (omega arith) (c .lowest-of2 .ensures))
-
-same-length : tie.Need-same-length Inv-loop μ-loop
-same-length c = omega arith
 
 returns : tie.Need-returns Inv-loop μ-loop
 returns c =
@@ -65,19 +47,5 @@ returns c =
 pub layout-classes-spec : {M : Type 1} → statement M
 layout-classes-spec =
     tie.close
-    (tie.spec
-    Inv-loop
-    μ-loop
-    lowest-of-requires
-    cast-fill
-    fill-requires
-    loop-holds
-    lowest-of-requires-2
-    cast-classes
-    mul-classes
-    slice-write-classes
-    add-i
-    loop-less
-    loop-again
-    same-length
-    returns)
+    (tie.spec Inv-loop μ-loop lowest-of-requires cast-fill (λ c κs. tt) loop-holds lowest-of-requires-2 cast-classes (λ c. omega arith) (λ c. omega arith) (λ c. omega arith)
+    (λ c. omega arith) loop-again (λ c. omega arith) returns)

@@ -5,18 +5,10 @@ use borrow.Author.Needs.{needs}
 use Rattle.sheet_layouts.proofs.lowest.Statement.{statement}
 use Rattle.sheet_layouts.proofs.lowest.Tie as tie
 
-lowest-of-requires : tie.Need-lowest-of-requires
-lowest-of-requires c κs = search needs
-
-returns : tie.Need-returns
-returns c = search needs
-
-lowest-of-requires-2 : tie.Need-lowest-of-requires-2
-lowest-of-requires-2 c κs = search needs
-
 returns-2 : tie.Need-returns-2
 returns-2 c =
     c .lowest-of2 .ensures ∙ past-count (c .before .before .before .before .pre) (c .before .before .before .before .args .i) (c .before .if1 .left)
 
 pub lowest-spec : {M : Type 1} → statement M
-lowest-spec = tie.close (tie.spec lowest-of-requires returns lowest-of-requires-2 returns-2)
+lowest-spec =
+    tie.close (tie.spec (λ c κs. search needs) (λ c. search needs) (λ c κs. search needs) returns-2)

@@ -24,9 +24,6 @@ abbrev μ-outer : tie.MeasureT-outer
 layout-length-at-requires : tie.Need-layout-length-at-requires Inv-loop μ-loop Inv-outer μ-outer
 layout-length-at-requires c κs = measured (c .before .before .pre .0 .accepted)
 
-cast-count : tie.Need-cast-count Inv-loop μ-loop Inv-outer μ-outer
-cast-count c = omega arith
-
 start-of-requires : tie.Need-start-of-requires Inv-loop μ-loop Inv-outer μ-outer
 start-of-requires c κs = starts-long (c .before .before .before .pre .0)
 
@@ -36,15 +33,6 @@ outer-holds c = (omega arith, below-none _)
 layout-length-at-requires-2 :
     tie.Need-layout-length-at-requires-2 Inv-loop μ-loop Inv-outer μ-outer
 layout-length-at-requires-2 c κs = measured (c .before .before .before .before .before .before .pre .0 .accepted)
-
-cast-if1 : tie.Need-cast-if1 Inv-loop μ-loop Inv-outer μ-outer
-cast-if1 c = omega arith
-
-add-j : tie.Need-add-j Inv-loop μ-loop Inv-outer μ-outer
-add-j c = omega arith
-
-outer-less : tie.Need-outer-less Inv-loop μ-loop Inv-outer μ-outer
-outer-less c = omega arith
 
 outer-again : tie.Need-outer-again Inv-loop μ-loop Inv-outer μ-outer
 outer-again c =
@@ -83,12 +71,6 @@ slot-kind-at-requires-2 c κs =
     let p = c .before .before .before .before .before .before .before .before .before .before .before .before .pre in
     (measured (p .0 .accepted), second-inside (p .0) (a .i) (c .before .before .before .before .before .before .before .outer .j) _ _ _ (p .1) (c .before .before .before .before .before .before .outer-test .taken) (c .before .before .before .before .before .before .before .before .before .layout-length-at .ensures) (sym (c .before .before .before .before .if1 .left) ∙ (c .before .before .before .before .before .layout-length-at2 .ensures)) (c .before .before .before .start-of2 .ensures) (c .before .before .before .before .before .before .before .before .start-of .ensures) (c .before .before .loop .k) (c .before .loop-test .taken))
 
-add-j-2 : tie.Need-add-j-2 Inv-loop μ-loop Inv-outer μ-outer
-add-j-2 c = omega arith
-
-outer-less-2 : tie.Need-outer-less-2 Inv-loop μ-loop Inv-outer μ-outer
-outer-less-2 c = omega arith
-
 outer-again-2 : tie.Need-outer-again-2 Inv-loop μ-loop Inv-outer μ-outer
 outer-again-2 c =
     let a = c .before .before .before .before .before .before .before .before .before .before .before .before .before .before .args in
@@ -97,12 +79,6 @@ outer-again-2 c =
     let d = kinds-differ (p .0) (a .i) (c .before .before .before .before .before .before .before .before .before .outer .j) _ _ _ (p .1) (c .before .before .before .before .before .before .before .before .outer-test .taken) (c .before .before .before .before .before .before .before .before .before .before .before .layout-length-at .ensures) (sym (c .before .before .before .before .before .before .if1 .left) ∙ (c .before .before .before .before .before .before .before .layout-length-at2 .ensures)) (c .before .before .before .before .before .start-of2 .ensures) (c .before .before .before .before .before .before .before .before .before .before .start-of .ensures) (c .before .before .before .before .loop .k) _ _ (c .before .before .before .loop-test .taken) (c .before .before .slot-kind-at .ensures) (c .before .slot-kind-at2 .ensures) (c .if2 .taken) in
     let e = c .before .before .before .before .loop .inv .0 in
     (omega arith, rw e (below-more _ _ (o .inv .1) d))
-
-add-k : tie.Need-add-k Inv-loop μ-loop Inv-outer μ-outer
-add-k c = omega arith
-
-loop-less : tie.Need-loop-less Inv-loop μ-loop Inv-outer μ-outer
-loop-less c = omega arith
 
 loop-again : tie.Need-loop-again Inv-loop μ-loop Inv-outer μ-outer
 loop-again c =
@@ -128,31 +104,6 @@ returns-2 c =
 pub lowest-of-spec : {M : Type 1} → statement M
 lowest-of-spec =
     tie.close
-    (tie.spec
-    Inv-loop
-    μ-loop
-    Inv-outer
-    μ-outer
-    layout-length-at-requires
-    cast-count
-    start-of-requires
-    outer-holds
-    layout-length-at-requires-2
-    cast-if1
-    add-j
-    outer-less
-    outer-again
-    start-of-requires-2
-    loop-holds
-    add-slot-kind-at
-    slot-kind-at-requires
-    add-slot-kind-at-2
-    slot-kind-at-requires-2
-    add-j-2
-    outer-less-2
-    outer-again-2
-    add-k
-    loop-less
-    loop-again
-    returns
-    returns-2)
+    (tie.spec Inv-loop μ-loop Inv-outer μ-outer layout-length-at-requires (λ c. omega arith) start-of-requires outer-holds layout-length-at-requires-2 (λ c. omega arith)
+    (λ c. omega arith) (λ c. omega arith) outer-again start-of-requires-2 loop-holds add-slot-kind-at slot-kind-at-requires add-slot-kind-at-2 slot-kind-at-requires-2
+    (λ c. omega arith) (λ c. omega arith) outer-again-2 (λ c. omega arith) (λ c. omega arith) loop-again returns returns-2)

@@ -5,12 +5,6 @@ use native.Mathlib.Omega.{arith}
 use Rattle.sheet_layouts.proofs.start_of.Statement.{statement}
 use Rattle.sheet_layouts.proofs.start_of.Tie as tie
 
-mul-result : tie.Need-mul-result
-mul-result c = omega arith
-
-shared-slice-read-result : tie.Need-shared-slice-read-result
-shared-slice-read-result c = omega arith
-
 cast-result : tie.Need-cast-result
 cast-result c = omega (arith, c .shared-slice-known .given (c .before .before .args .i))
 
@@ -24,4 +18,4 @@ returns-2 c = rw (le-ltb _ _ (c .if1 .left))
 
 pub start-of-spec : {M : Type 1} → statement M
 start-of-spec =
-    tie.close (tie.spec mul-result shared-slice-read-result cast-result returns returns-2)
+    tie.close (tie.spec (λ c. omega arith) (λ c. omega arith) cast-result returns returns-2)

@@ -5,22 +5,10 @@ use borrow.Author.Needs.{needs}
 use Rattle.text_facts.proofs.put_checked.Statement.{statement}
 use Rattle.text_facts.proofs.put_checked.Tie as tie
 
-slice-aggregate-put : tie.Need-slice-aggregate-put
-slice-aggregate-put c = search needs
-
-put-requires : tie.Need-put-requires
-put-requires c κs = search needs
-
-put-decimal-requires : tie.Need-put-decimal-requires
-put-decimal-requires c κs = search needs
-
-same-length : tie.Need-same-length
-same-length c = search needs
-
 returns : tie.Need-returns
 unfolding ascii
-returns c = then (c .before .before .before .before .before .before .put .ensures) (c .before .before .put-decimal .ensures)
+returns c = let at-put-decimal = c .before .before in then (at-put-decimal .before .before .before .before .put .ensures) (at-put-decimal .put-decimal .ensures)
 
 pub put-checked-spec : {M : Type 1} → statement M
 put-checked-spec =
-    tie.close (tie.spec slice-aggregate-put put-requires put-decimal-requires same-length returns)
+    tie.close (tie.spec (λ c. search needs) (λ c κs. search needs) (λ c κs. search needs) (λ c. search needs) returns)

@@ -4,7 +4,7 @@ use native.Mathlib.Omega.{arith}
 use Rattle.sheet.proofs.Asked.{measured}
 use Rattle.sheet.proofs.Counted.{counted}
 use Rattle.sheet.proofs.Limited.{limited}
-use Rattle.sheet_offsets.proofs.Tabled.{layout-starts-hold}
+use Rattle.sheet_index.proofs.Tabled.{layout-starts-hold}
 use Rattle.export_loader.proofs.Telling.{no-layout, put-one}
 use borrow.Author.Needs.{needs}
 use Rattle.export_loader.proofs.lowest.put_lowest.Statement.{statement}

@@ -3,7 +3,7 @@ ghost use mathlib.Core.Path.{_≡_};
 ghost use Prim.Native.Nat.{_≤_};
 ghost use lib.ListN.{length};
 ghost use Rattle.sheet.specs.Measured.{Accepted};
-ghost use Rattle.sheet_offsets.specs.Tables.{firstRanges, layoutStarts};
+ghost use Rattle.sheet_index.specs.Tables.{firstRanges, layoutStarts};
 use sheet::Sizes;
 use sheet_fields::layout_length_at;
 use sheet_fields::ranges_of;

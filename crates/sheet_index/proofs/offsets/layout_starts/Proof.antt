@@ -1,14 +1,14 @@
--- `sheet_offsets::tables::layout_starts` meets its contract. Assumes nothing.
+-- `sheet_index::offsets::layout_starts` meets its contract. Assumes nothing.
 use Prim.Native.Nat.{_-_}
 use Rattle.model.specs.Sheet.{layoutLength, layoutStart}
-use Rattle.sheet_offsets.specs.Tables.{layoutStarts}
+use Rattle.sheet_index.specs.Tables.{layoutStarts}
 use Rattle.sheet.proofs.Counted.{counted}
 use Rattle.sheet.proofs.Limited.{limited}
 use Rattle.sheet.proofs.Asked.{measured, layout-fits}
-use Rattle.sheet_offsets.proofs.Summed.{Summed, summed-none, summed-more, summed-all}
+use Rattle.sheet_index.proofs.Summed.{Summed, summed-none, summed-more, summed-all}
 use native.Mathlib.Omega.{arith}
-use Rattle.sheet_offsets.proofs.tables.layout_starts.Statement.{statement}
-use Rattle.sheet_offsets.proofs.tables.layout_starts.Tie as tie
+use Rattle.sheet_index.proofs.offsets.layout_starts.Statement.{statement}
+use Rattle.sheet_index.proofs.offsets.layout_starts.Tie as tie
 
 abbrev Inv-loop : tie.InvT-loop
 Inv-loop sheet sizes out₀ y sum₀ i₀ out sum i = Summed (layoutLength sheet) y out₀ out sum i
@@ -19,12 +19,6 @@ abbrev μ-loop : tie.MeasureT-loop
 loop-holds : tie.Need-loop-holds Inv-loop μ-loop
 loop-holds c = summed-none _ _ _ (c .before .before .pre .1)
 
-mul-out : tie.Need-mul-out Inv-loop μ-loop
-mul-out c = omega arith
-
-slice-write-out : tie.Need-slice-write-out Inv-loop μ-loop
-slice-write-out c = omega arith
-
 layout-length-at-requires : tie.Need-layout-length-at-requires Inv-loop μ-loop
 layout-length-at-requires c κs = measured (c .before .before .before .before .pre .0)
 
@@ -34,12 +28,6 @@ add-sum c =
     let a = c .before .before .before .before .before .pre .0 in
     let l = limited (measured a) in
     omega (arith, layout-fits a _ (c .before .loop-test .taken))
-
-add-i : tie.Need-add-i Inv-loop μ-loop
-add-i c = omega arith
-
-loop-less : tie.Need-loop-less Inv-loop μ-loop
-loop-less c = omega arith
 
 loop-again : tie.Need-loop-again Inv-loop μ-loop
 loop-again c = summed-more (c .before .before .loop .inv) (c .before .loop-test .taken) (c .layout-length-at .ensures)
@@ -54,16 +42,5 @@ returns c = summed-all (c .before .loop .inv) (c .loop-test .left) (counted (c .
 pub layout-starts-spec : {M : Type 1} → statement M
 layout-starts-spec =
     tie.close
-    (tie.spec
-    Inv-loop
-    μ-loop
-    loop-holds
-    mul-out
-    slice-write-out
-    layout-length-at-requires
-    add-sum
-    add-i
-    loop-less
-    loop-again
-    same-length
+    (tie.spec Inv-loop μ-loop loop-holds (λ c. omega arith) (λ c. omega arith) layout-length-at-requires add-sum (λ c. omega arith) (λ c. omega arith) loop-again same-length
     returns)

@@ -7,7 +7,7 @@ use lib.ListN.{length}
 use Rattle.memory.specs.Front.{Holds}
 use Rattle.memory.proofs.Front.{front-holds}
 use Rattle.model.specs.Sheet.{codeCount, firstRange, layoutCount, layoutStart}
-use Rattle.sheet_offsets.specs.Tables.{firstRanges, layoutStarts}
+use Rattle.sheet_index.specs.Tables.{firstRanges, layoutStarts}
 
 module _ (sheet old : List ℕ) {table : List ℕ} where
   pub first-ranges-hold : table ≡ firstRanges sheet old → codeCount sheet ≤ length old → Holds (firstRange sheet) (codeCount sheet) table

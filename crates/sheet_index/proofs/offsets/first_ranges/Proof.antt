@@ -1,14 +1,14 @@
--- `sheet_offsets::tables::first_ranges` meets its contract. Assumes nothing.
+-- `sheet_index::offsets::first_ranges` meets its contract. Assumes nothing.
 use Prim.Native.Nat.{_-_}
 use Rattle.model.specs.Sheet.{rangesOf, firstRange}
-use Rattle.sheet_offsets.specs.Tables.{firstRanges}
+use Rattle.sheet_index.specs.Tables.{firstRanges}
 use Rattle.sheet.proofs.Counted.{counted}
 use Rattle.sheet.proofs.Limited.{limited}
 use Rattle.sheet.proofs.Asked.{measured, ranges-fit}
-use Rattle.sheet_offsets.proofs.Summed.{Summed, summed-none, summed-more, summed-all}
+use Rattle.sheet_index.proofs.Summed.{Summed, summed-none, summed-more, summed-all}
 use native.Mathlib.Omega.{arith}
-use Rattle.sheet_offsets.proofs.tables.first_ranges.Statement.{statement}
-use Rattle.sheet_offsets.proofs.tables.first_ranges.Tie as tie
+use Rattle.sheet_index.proofs.offsets.first_ranges.Statement.{statement}
+use Rattle.sheet_index.proofs.offsets.first_ranges.Tie as tie
 
 abbrev Inv-loop : tie.InvT-loop
 Inv-loop sheet sizes out₀ n sum₀ pc₀ out sum pc = Summed (rangesOf sheet) n out₀ out sum pc
@@ -19,12 +19,6 @@ abbrev μ-loop : tie.MeasureT-loop
 loop-holds : tie.Need-loop-holds Inv-loop μ-loop
 loop-holds c = summed-none _ _ _ (c .before .before .pre .1)
 
-mul-out : tie.Need-mul-out Inv-loop μ-loop
-mul-out c = omega arith
-
-slice-write-out : tie.Need-slice-write-out Inv-loop μ-loop
-slice-write-out c = omega arith
-
 ranges-of-requires : tie.Need-ranges-of-requires Inv-loop μ-loop
 ranges-of-requires c κs = (measured (c .before .before .before .before .pre .0), c .loop-test .taken)
 
@@ -34,12 +28,6 @@ add-sum c =
     let a = c .before .before .before .before .before .pre .0 in
     let l = limited (measured a) in
     omega (arith, ranges-fit a _ (c .before .loop-test .taken))
-
-add-pc : tie.Need-add-pc Inv-loop μ-loop
-add-pc c = omega arith
-
-loop-less : tie.Need-loop-less Inv-loop μ-loop
-loop-less c = omega arith
 
 loop-again : tie.Need-loop-again Inv-loop μ-loop
 loop-again c = summed-more (c .before .before .loop .inv) (c .before .loop-test .taken) (c .ranges-of .ensures)
@@ -54,16 +42,4 @@ returns c = summed-all (c .before .loop .inv) (c .loop-test .left) (counted (c .
 pub first-ranges-spec : {M : Type 1} → statement M
 first-ranges-spec =
     tie.close
-    (tie.spec
-    Inv-loop
-    μ-loop
-    loop-holds
-    mul-out
-    slice-write-out
-    ranges-of-requires
-    add-sum
-    add-pc
-    loop-less
-    loop-again
-    same-length
-    returns)
+    (tie.spec Inv-loop μ-loop loop-holds (λ c. omega arith) (λ c. omega arith) ranges-of-requires add-sum (λ c. omega arith) (λ c. omega arith) loop-again same-length returns)

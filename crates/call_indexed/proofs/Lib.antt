@@ -1,0 +1,2 @@
+-- Question 6, answered with yes
+pub mod Admitted
