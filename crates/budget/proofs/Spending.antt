@@ -8,9 +8,9 @@ use Rattle.model.specs.Charges.{Refusal, overBudget, Spent, ok, stop, Metered, 
 use Rattle.model.specs.declared.Charge.{Charge}
 use Rattle.model.specs.declared.VerifierResources.{VerifierResources}
 use Rattle.model.proofs.Loops.{each-stops}
-use Rattle.budget.specs.Metering.{asSpent}
-use Rattle.budget.specs.declared.Metering.{Metering}
-use Rattle.budget.specs.declared.Metering.the-variants.{Covered, Refused}
+use Rattle.budget.specs.Outcome.{asSpent}
+use Rattle.budget.specs.declared.Outcome.{Outcome}
+use Rattle.budget.specs.declared.Outcome.the-variants.{Covered, Refused}
 
 module _ {A B : Type 0} (part : Metered A) (next : Metered B) (budget : VerifierResources) where
   pub then-covered : {a : A} {left : VerifierResources} → part budget ≡ ok a left → (part >> next) budget ≡ next left
@@ -22,24 +22,24 @@ module _ {A B : Type 0} (part : Metered A) (next : Metered B) (budget : Verifier
   then-refused e = rw e
 
 -- the answer of a part that was covered, and of one that was refused
-module _ (stage : ℕ) {whole : Metering} {spent : Spent (Unit {0})} (came : asSpent stage whole ≡ spent) where
+module _ {whole : Outcome} {spent : Spent (Unit {0})} (came : asSpent whole ≡ spent) where
   pub covered : {left : VerifierResources} → whole ≡ Covered left → spent ≡ ok tt left
   unfolding asSpent
   covered e = sym came ∙ rw e
 
-  pub refused : {requested remaining : ℕ} {left : VerifierResources} → whole ≡ Refused requested remaining left
+  pub refused : {stage requested remaining : ℕ} {left : VerifierResources} → whole ≡ Refused stage requested remaining left
       → spent ≡ stop (overBudget stage requested remaining) left
   unfolding asSpent
   refused e = sym came ∙ rw e
 
-module _ (stage : ℕ) (part next : Metered (Unit {0})) (budget : VerifierResources) {whole : Metering} (came : asSpent stage whole ≡ part budget) where
+module _ (part next : Metered (Unit {0})) (budget : VerifierResources) {whole : Outcome} (came : asSpent whole ≡ part budget) where
   -- the refusal of the first is that of both
-  pub first-refused : {requested remaining : ℕ} {left : VerifierResources} → whole ≡ Refused requested remaining left → asSpent stage whole ≡ (part >> next) budget
-  first-refused e = came ∙ refused stage came e ∙ sym (then-refused part next budget (refused stage came e))
+  pub first-refused : {stage requested remaining : ℕ} {left : VerifierResources} → whole ≡ Refused stage requested remaining left → asSpent whole ≡ (part >> next) budget
+  first-refused e = came ∙ refused came e ∙ sym (then-refused part next budget (refused came e))
 
   -- what follows a covered part
-  pub second-came : {left : VerifierResources} (last : Metering) → whole ≡ Covered left → asSpent stage last ≡ next left → asSpent stage last ≡ (part >> next) budget
-  second-came last e h = h ∙ sym (then-covered part next budget (covered stage came e))
+  pub second-came : {left : VerifierResources} (last : Outcome) → whole ≡ Covered left → asSpent last ≡ next left → asSpent last ≡ (part >> next) budget
+  second-came last e h = h ∙ sym (then-covered part next budget (covered came e))
 
 -- ---- a loop that charges
 
@@ -73,15 +73,15 @@ module _ (f : ℕ → Metered (Unit {0})) (n : ℕ) (budget : VerifierResources)
 
 -- ---- one charge, as its functions answer it
 
-module _ (stage : ℕ) (whole : Metering) (left : VerifierResources) {amount same : ℕ} {charge : Charge} where
-  pub bytes-came : charge ≡ chargeBytes amount left → asSpent stage whole ≡ inStage stage left charge → amount ≡ same → asSpent stage whole ≡ spendBytes stage same left
+module _ (stage : ℕ) (whole : Outcome) (left : VerifierResources) {amount same : ℕ} {charge : Charge} where
+  pub bytes-came : charge ≡ chargeBytes amount left → asSpent whole ≡ inStage stage left charge → amount ≡ same → asSpent whole ≡ spendBytes stage same left
   unfolding spendBytes
   bytes-came p q e = cc
 
-  pub work-came : charge ≡ chargeWork amount left → asSpent stage whole ≡ inStage stage left charge → amount ≡ same → asSpent stage whole ≡ spendWork stage same left
+  pub work-came : charge ≡ chargeWork amount left → asSpent whole ≡ inStage stage left charge → amount ≡ same → asSpent whole ≡ spendWork stage same left
   unfolding spendWork
   work-came p q e = cc
 
-pub edges-came : (stage : ℕ) (whole : Metering) (left : VerifierResources) {count same : ℕ} → asSpent stage whole ≡ forEach (λ i. spendBytes stage 4) count left → count ≡ same
-    → asSpent stage whole ≡ forEach (λ i. spendBytes stage 4) same left
+pub edges-came : (stage : ℕ) (whole : Outcome) (left : VerifierResources) {count same : ℕ} → asSpent whole ≡ forEach (λ i. spendBytes stage 4) count left → count ≡ same
+    → asSpent whole ≡ forEach (λ i. spendBytes stage 4) same left
 edges-came stage whole left h e = rw e at h
