@@ -24,6 +24,12 @@ refusing (Covered left) = false
 refusing (Refused stage requested remaining left) = true
 refusing (NoRoom left) = true
 
+-- "what the covered charges left"
+unfoldable pub leftOf : Outcome → VerifierResources
+leftOf (Covered left) = left
+leftOf (Refused stage requested remaining left) = left
+leftOf (NoRoom left) = left
+
 -- What a part answers and leaves in memory.
 pub record Leaves (M : Type 0) : Type 0 where
   pub outcome : Outcome

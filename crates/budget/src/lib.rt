@@ -2,7 +2,7 @@
 ghost use mathlib.Core.Path.{_≡_};
 ghost use Rattle.model.specs.Charges.{units, chargeBytes, chargeWork, inStage, spendBytes, forEach};
 ghost use Rattle.model.specs.Closure.{stageNumber};
-ghost use Rattle.budget.specs.Outcome.{asSpent};
+ghost use Rattle.budget.specs.Outcome.{asSpent, refusing, leftOf};
 use model::AnalysisKind;
 use model::Charge;
 use model::VerifierResources;
@@ -32,6 +32,38 @@ pub fn stage_number(which: AnalysisKind) -> u8
         AnalysisKind::Constant => 3,
         AnalysisKind::IndexCheck => 4,
         AnalysisKind::Container => 5,
+    }
+}
+
+// Whether an outcome is a refusal.
+pub fn refuses(outcome: Outcome) -> bool
+    ensures { λ r. ⌜ r ≡ refusing outcome ⌝ }
+{
+    match outcome {
+        Outcome::Covered { left: _ } => false,
+        Outcome::Refused {
+            stage: _,
+            requested: _,
+            remaining: _,
+            left: _,
+        } => true,
+        Outcome::NoRoom { left: _ } => true,
+    }
+}
+
+// "what the covered charges left"
+pub fn left_of(outcome: Outcome) -> VerifierResources
+    ensures { λ r. ⌜ r ≡ leftOf outcome ⌝ }
+{
+    match outcome {
+        Outcome::Covered { left } => left,
+        Outcome::Refused {
+            stage: _,
+            requested: _,
+            remaining: _,
+            left,
+        } => left,
+        Outcome::NoRoom { left } => left,
     }
 }
 
