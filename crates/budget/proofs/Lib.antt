@@ -2,3 +2,5 @@
 pub mod Row
 -- Parts that spend, one after the other
 pub mod Spending
+-- What a part came to and left
+pub mod Left

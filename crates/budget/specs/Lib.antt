@@ -1,2 +1,2 @@
--- What a part that charges comes to, in the words of crate model
-pub mod Metering
+-- What a part that spends comes to, in the words of crate model
+pub mod Outcome

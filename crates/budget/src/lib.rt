@@ -1,21 +1,70 @@
-// "Charges": one charge, and equal charges in a row, made from a budget by value.
+// "Charges": one charge, and equal charges in a row, made from a budget by value; what a part of the call that spends comes to.
 ghost use mathlib.Core.Path.{_≡_};
-ghost use Prim.Native.Nat.{ℕ};
 ghost use Rattle.model.specs.Charges.{units, chargeBytes, chargeWork, inStage, spendBytes, forEach};
-ghost use Rattle.budget.specs.Metering.{asSpent};
+ghost use Rattle.model.specs.Closure.{stageNumber};
+ghost use Rattle.budget.specs.Outcome.{asSpent, refusing, leftOf};
+use model::AnalysisKind;
 use model::Charge;
 use model::VerifierResources;
 
-// What a part that charges comes to: what is left, or the refusal with what the charges before it left.
-pub enum Metering {
+// What a part of the call that spends comes to: what is left; "7, with stage (1 to 5 in charge order), requested, remaining"; or 8. A
+// refusal has what the covered charges left.
+pub enum Outcome {
     Covered {
         left: VerifierResources,
     },
     Refused {
+        stage: u8,
         requested: u64,
         remaining: u64,
         left: VerifierResources,
     },
+    NoRoom {
+        left: VerifierResources,
+    },
+}
+
+// "stage (1 to 5 in charge order)", of an analysis
+pub fn stage_number(which: AnalysisKind) -> u8
+    ensures { λ r. ⌜ r ≡ stageNumber which ⌝ }
+{
+    match which {
+        AnalysisKind::Constant => 3,
+        AnalysisKind::IndexCheck => 4,
+        AnalysisKind::Container => 5,
+    }
+}
+
+// Whether an outcome is a refusal.
+pub fn refuses(outcome: Outcome) -> bool
+    ensures { λ r. ⌜ r ≡ refusing outcome ⌝ }
+{
+    match outcome {
+        Outcome::Covered { left: _ } => false,
+        Outcome::Refused {
+            stage: _,
+            requested: _,
+            remaining: _,
+            left: _,
+        } => true,
+        Outcome::NoRoom { left: _ } => true,
+    }
+}
+
+// "what the covered charges left"
+pub fn left_of(outcome: Outcome) -> VerifierResources
+    ensures { λ r. ⌜ r ≡ leftOf outcome ⌝ }
+{
+    match outcome {
+        Outcome::Covered { left } => left,
+        Outcome::Refused {
+            stage: _,
+            requested: _,
+            remaining: _,
+            left,
+        } => left,
+        Outcome::NoRoom { left } => left,
+    }
 }
 
 // "7. Does what is left cover the charge?" "A refused charge takes nothing."
@@ -59,15 +108,16 @@ pub fn charge_work(resources: VerifierResources, amount: u64) -> Charge
 }
 
 // A charge made from the resources, as a part of a stage: they are what is left where it was refused.
-pub fn metered(resources: VerifierResources, charge: Charge) -> Metering
-    ensures { λ r. ⌜ ((stage : ℕ) → asSpent stage r ≡ inStage stage resources charge) ⌝ }
+pub fn metered(stage: u8, resources: VerifierResources, charge: Charge) -> Outcome
+    ensures { λ r. ⌜ asSpent r ≡ inStage stage resources charge ⌝ }
 {
     match charge {
-        Charge::Covered { left } => Metering::Covered { left },
+        Charge::Covered { left } => Outcome::Covered { left },
         Charge::Refused {
             requested,
             remaining,
-        } => Metering::Refused {
+        } => Outcome::Refused {
+            stage,
             requested,
             remaining,
             left: resources,
@@ -77,13 +127,13 @@ pub fn metered(resources: VerifierResources, charge: Charge) -> Metering
 
 // "dependency 4": count charges of 4 bytes, one after the other. They are one computation: what is refused is the first that
 // finds fewer than 4 bytes, so that the rest of a division by 4 remains. No product is made before the count is known to be covered.
-pub fn charge_edges(resources: VerifierResources, count: u64) -> Metering
-    ensures { λ r. ⌜ ((stage : ℕ) → asSpent stage r ≡ forEach (λ i. spendBytes stage (units .dependency)) count resources) ⌝ }
+pub fn charge_edges(stage: u8, resources: VerifierResources, count: u64) -> Outcome
+    ensures { λ r. ⌜ asSpent r ≡ forEach (λ i. spendBytes stage (units .dependency)) count resources ⌝ }
 {
     let bytes = resources.bytes;
     let work = resources.work;
     if count <= bytes / 4 {
-        Metering::Covered {
+        Outcome::Covered {
             left: VerifierResources {
                 bytes: bytes - 4 * count,
                 work,
@@ -91,7 +141,8 @@ pub fn charge_edges(resources: VerifierResources, count: u64) -> Metering
         }
     } else {
         let rest = bytes % 4;
-        Metering::Refused {
+        Outcome::Refused {
+            stage,
             requested: 4,
             remaining: rest,
             left: VerifierResources { bytes: rest, work },

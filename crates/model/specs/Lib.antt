@@ -18,6 +18,7 @@ pub mod Analyses
 -- Tables, questions 6 to 9, listing
 pub mod Tables
 pub mod Call
+pub mod Promise
 pub mod Lookup
 pub mod Listing
 -- The C interface; what it tells a loader beside the call

@@ -4,27 +4,27 @@ use mathlib.Core.Path.{sym}
 use Prim.Native.Nat.{_/_, _%_}
 use native.Mathlib.Omega.{arith}
 use borrow.Author.Needs.{needs}
-use Rattle.budget.specs.Metering.{asSpent}
+use Rattle.budget.specs.Outcome.{asSpent}
 use Rattle.budget.proofs.Row.{edges-covered, edges-refused}
 use Rattle.budget.proofs.charge_edges.Statement.{statement}
 use Rattle.budget.proofs.charge_edges.Tie as tie
 
-mul-t9 : tie.Need-mul-t9
-mul-t9 c = search needs
+mul-t10 : tie.Need-mul-t10
+mul-t10 c = search needs
 
-sub-t10 : tie.Need-sub-t10
-sub-t10 c = search needs
+sub-t11 : tie.Need-sub-t11
+sub-t11 c = search needs
 
 returns : tie.Need-returns
 unfolding asSpent
-returns c stage = sym (edges-covered stage (c .before .args .resources .work) (c .before .args .count) (c .before .args .resources .bytes) (omega arith))
+returns c = sym (edges-covered (c .before .args .stage) (c .before .args .resources .work) (c .before .args .count) (c .before .args .resources .bytes) (omega arith))
 
 returns-2 : tie.Need-returns-2
 unfolding asSpent
-returns-2 c stage =
+returns-2 c =
     sym
     (edges-refused
-    stage
+    (c .before .args .stage)
     (c .before .args .resources .work)
     (c .before .args .count)
     (c .before .args .resources .bytes / 4)
@@ -35,4 +35,4 @@ returns-2 c stage =
     (omega arith))
 
 pub charge-edges-spec : {M : Type 1} → statement M
-charge-edges-spec = tie.close (tie.spec mul-t9 sub-t10 returns returns-2)
+charge-edges-spec = tie.close (tie.spec mul-t10 sub-t11 returns returns-2)
