@@ -4,6 +4,7 @@ use mathlib.Core.Bool.{Bool, true, false, cond}
 use mathlib.Core.List.{List}
 use Prim.Native.Nat.{ℕ}
 use Rattle.model.specs.Call.{Table, Scratch, scratch, zeros, zeroTable}
+use Rattle.model.specs.declared.Counts.{Counts}
 
 -- scratch that is all zero
 unfoldable pub zeroScratch : Scratch → Scratch
@@ -17,3 +18,8 @@ tableIf false old = old
 -- slots cleared where the test holds
 unfoldable pub slotsIf : Bool → List ℕ → List ℕ
 slotsIf test old = cond test (zeros old) old
+
+-- "s and the pop count of each analysis"; none where the test holds
+unfoldable pub countsIf : Bool → ℕ → ℕ → Counts
+countsIf true s pops = record { tracked = 0; pops = 0 }
+countsIf false s pops = record { tracked = s; pops = pops }
