@@ -1,7 +1,6 @@
 -- What a stage makes of the lent memory.
 -- Assumes nothing.
-use mathlib.Core.Bool.{Bool, true, false, cond}
-use mathlib.Core.List.{List}
+use mathlib.Core.Bool.{Bool, true, false}
 use Prim.Native.Nat.{ℕ}
 use Rattle.model.specs.Call.{Table, Scratch, scratch, zeros, zeroTable}
 use Rattle.model.specs.declared.Counts.{Counts}
@@ -14,10 +13,6 @@ zeroScratch old = scratch (zeros (old .marks)) (zeros (old .stack)) (zeros (old 
 unfoldable pub tableIf : Bool → Table → Table
 tableIf true old = zeroTable old
 tableIf false old = old
-
--- slots cleared where the test holds
-unfoldable pub slotsIf : Bool → List ℕ → List ℕ
-slotsIf test old = cond test (zeros old) old
 
 -- "s and the pop count of each analysis"; none where the test holds
 unfoldable pub countsIf : Bool → ℕ → ℕ → Counts

@@ -1,13 +1,13 @@
 -- `conclude` meets its contract.
 -- Assumes nothing.
 use mathlib.Core.Path.{sym, _∙_}
-use Rattle.stage_memory.specs.Stage.{slotsIf, countsIf}
+use Rattle.stage_memory.specs.Stage.{countsIf}
 use borrow.Author.Needs.{needs}
 use Rattle.stage_memory.proofs.concluding.conclude.Statement.{statement}
 use Rattle.stage_memory.proofs.concluding.conclude.Tie as tie
 
 returns : tie.Need-returns
-unfolding slotsIf countsIf
+unfolding countsIf
 returns c =
     let clear = c .before .before in
     let test = clear .before .before in
@@ -15,7 +15,7 @@ returns c =
     (rw is, rw is (clear .clear-u16 .ensures))
 
 returns-2 : tie.Need-returns-2
-unfolding slotsIf countsIf
+unfolding countsIf
 returns-2 c = let is = sym (c .before .refuses .ensures) ∙ c .if1 .left in (rw is, rw is)
 
 pub conclude-spec : {M : Type 1} → statement M
