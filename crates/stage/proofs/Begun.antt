@@ -25,7 +25,7 @@ use Rattle.budget.proofs.Left.{Left, covered, stopped, left-by}
 use Rattle.stage_room.specs.Room.{roomBy}
 use Rattle.stage_prepare.specs.declared.Prepared.{Prepared}
 use Rattle.stage_prepare.specs.Begin.{entering, enterIf, Begun, begin}
-use Rattle.stage_prepare.specs.Prepare.{something, PreparedLeft, prepared, preparedBy}
+use Rattle.stage_prepare.specs.Prepare.{something, PrepareEnd, prepared, preparedBy, unprepared}
 use Rattle.stage_prepare.proofs.Stepwise.{goOn, stage-begins}
 
 -- what was begun: the closure's slots, room for them, and the first row of as many facts
@@ -90,12 +90,12 @@ stage-after before which sheet t w lengthFact = go (asSpent before)
 abbrev pub PreparedTold : Outcome → AnalysisKind → List ℕ → Table → Scratch → Prepared → List ℕ → List ℕ → List ℕ → Type 0
 PreparedTold before which sheet t w r slots rowKinds rowValues =
     some (leaves (r .outcome) (prepared (r .runs) (r .s) slots rowKinds rowValues))
-    ≡ leavesOf (preparedBy (codeCount sheet) (t .slots) (w .rowKinds) (w .rowValues)) (prepared false 0 (zeros (t .slots)) (zeros (w .rowKinds)) (zeros (w .rowValues))) (begunAfter before which sheet t w)
+    ≡ leavesOf (preparedBy (codeCount sheet) (t .slots) (w .rowKinds) (w .rowValues)) (unprepared (t .slots) (w .rowKinds) (w .rowValues)) (begunAfter before which sheet t w)
 
 pub asked-lent : (before : Outcome) (which : AnalysisKind) (sheet : List ℕ) (t : Table) (w : Scratch) {lp lk lv : ℕ} → lp ≡ length (t .present) → lk ≡ length (t .kinds) → lv ≡ length (t .values)
     → (r : Prepared) (slots rowKinds rowValues : List ℕ)
     → some (leaves (r .outcome) (prepared (r .runs) (r .s) slots rowKinds rowValues))
-    ≡ leavesOf (preparedBy (codeCount sheet) (t .slots) (w .rowKinds) (w .rowValues)) (prepared false 0 (zeros (t .slots)) (zeros (w .rowKinds)) (zeros (w .rowValues)))
+    ≡ leavesOf (preparedBy (codeCount sheet) (t .slots) (w .rowKinds) (w .rowValues)) (unprepared (t .slots) (w .rowKinds) (w .rowValues))
     (continue (λ _. begin which sheet (λ s. roomBy (codeCount sheet) s (length (t .slots)) lp lk lv (length (w .rowKinds)) (length (w .rowValues)) (length (w .workList)))) (asSpent before))
     → PreparedTold before which sheet t w r slots rowKinds rowValues
 asked-lent before which sheet t w p k v r slots rowKinds rowValues e = rw (p, k, v) at e
@@ -117,18 +117,17 @@ module _ (before : Outcome) (which : AnalysisKind) (sheet : List ℕ) (t : Table
   pub begun-ready : (b : Begun) (rest : VerifierResources) → begunAfter before which sheet t w ≡ ok b rest → r .outcome ≡ Covered rest
       → prepared (r .runs) (r .s) slots rowKinds rowValues ≡ preparedBy (codeCount sheet) (t .slots) (w .rowKinds) (w .rowValues) b
       → Ready before which sheet t w r slots rowKinds rowValues
-  unfolding preparedBy
   begun-ready b rest came o m = record {
     b = b;
     rest = rest;
     came = came;
     begun = let from = begun-from (asSpent before) came in begins which sheet (asked sheet t w) (from .0) b rest (from .1);
     outcome-is = o;
-    runs-is = ap (λ (x : PreparedLeft). x .runs) m;
-    s-is = ap (λ (x : PreparedLeft). x .s) m;
-    slots-are = ap (λ (x : PreparedLeft). x .slots) m;
-    row-kinds-are = ap (λ (x : PreparedLeft). x .rowKinds) m;
-    row-values-are = ap (λ (x : PreparedLeft). x .rowValues) m;
+    runs-is = ap (λ (x : PrepareEnd). x .runs) m;
+    s-is = ap (λ (x : PrepareEnd). x .s) m;
+    slots-are = ap (λ (x : PrepareEnd). x .slots) m;
+    row-kinds-are = ap (λ (x : PrepareEnd). x .rowKinds) m;
+    row-values-are = ap (λ (x : PrepareEnd). x .rowValues) m;
   }
     where
       begun-from : (spent : Spent (Unit {0})) → continue (λ _. begin which sheet (asked sheet t w)) spent ≡ ok b rest → (budget : VerifierResources) × (begin which sheet (asked sheet t w) budget ≡ ok b rest)
@@ -139,12 +138,12 @@ module _ (before : Outcome) (which : AnalysisKind) (sheet : List ℕ) (t : Table
   -- where something runs, the stage was begun
   pub ready : PreparedTold before which sheet t w r slots rowKinds rowValues → r .runs ≡ true → Ready before which sheet t w r slots rowKinds rowValues
   ready told runs =
-      go (left-by (preparedBy (codeCount sheet) (t .slots) (w .rowKinds) (w .rowValues)) (prepared false 0 (zeros (t .slots)) (zeros (w .rowKinds)) (zeros (w .rowValues))) (begunAfter before which sheet t w) told)
+      go (left-by (preparedBy (codeCount sheet) (t .slots) (w .rowKinds) (w .rowValues)) (unprepared (t .slots) (w .rowKinds) (w .rowValues)) (begunAfter before which sheet t w) told)
     where
-      go : Left (preparedBy (codeCount sheet) (t .slots) (w .rowKinds) (w .rowValues)) (prepared false 0 (zeros (t .slots)) (zeros (w .rowKinds)) (zeros (w .rowValues))) (begunAfter before which sheet t w)
+      go : Left (preparedBy (codeCount sheet) (t .slots) (w .rowKinds) (w .rowValues)) (unprepared (t .slots) (w .rowKinds) (w .rowValues)) (begunAfter before which sheet t w)
           (r .outcome) (prepared (r .runs) (r .s) slots rowKinds rowValues) → Ready before which sheet t w r slots rowKinds rowValues
       go (covered b rest came o m) = begun-ready b rest came o m
       go (stopped refusal rest came o m) =
-          let e : false ≡ true = sym (ap (λ (x : PreparedLeft). x .runs) m) ∙ runs in
+          let e : false ≡ true = sym (ap (λ (x : PrepareEnd). x .runs) m) ∙ runs in
           let z : _≡_ {A = ℕ} 0 1 = cc in
           absurd (omega arith)

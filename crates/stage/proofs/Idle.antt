@@ -28,7 +28,7 @@ use Rattle.stage_memory.specs.Stage.{zeroScratch}
 use Rattle.stage_memory.proofs.Paths.{table-path, scratch-path}
 use Rattle.stage_prepare.specs.declared.Prepared.{Prepared}
 use Rattle.stage_prepare.specs.Begin.{Begun}
-use Rattle.stage_prepare.specs.Prepare.{something, PreparedLeft, prepared, preparedBy}
+use Rattle.stage_prepare.specs.Prepare.{something, PrepareEnd, prepared, preparedBy, unprepared}
 use Rattle.stage_prepare.proofs.Stepwise.{goOn, enters-at-once, runs-at-once}
 use Rattle.stage_prepare.proofs.Tracked.{room-parts, unknown-cells}
 use Rattle.stage_prepare.proofs.Zeros.{zero-filled, cleared-zero}
@@ -100,14 +100,14 @@ module _ (before : Outcome) (which : AnalysisKind) (sheet : List ℕ) (t : Table
       ≡ leavesOf (stagedBy t w) (staged noCounts (zeroTable t) (zeroScratch w)) (stageAfter before which sheet t w lengthFact)
   unfolding leavesOf continue zeroTable
   idles =
-      go (left-by (preparedBy (codeCount sheet) (t .slots) (w .rowKinds) (w .rowValues)) (prepared false 0 (zeros (t .slots)) (zeros (w .rowKinds)) (zeros (w .rowValues))) (begunAfter before which sheet t w) told)
+      go (left-by (preparedBy (codeCount sheet) (t .slots) (w .rowKinds) (w .rowValues)) (unprepared (t .slots) (w .rowKinds) (w .rowValues)) (begunAfter before which sheet t w) told)
       ∙ ap (leavesOf (stagedBy t w) (staged noCounts (zeroTable t) (zeroScratch w))) (sym (stage-after before which sheet t w lengthFact))
     where
-      go : Left (preparedBy (codeCount sheet) (t .slots) (w .rowKinds) (w .rowValues)) (prepared false 0 (zeros (t .slots)) (zeros (w .rowKinds)) (zeros (w .rowValues))) (begunAfter before which sheet t w)
+      go : Left (preparedBy (codeCount sheet) (t .slots) (w .rowKinds) (w .rowValues)) (unprepared (t .slots) (w .rowKinds) (w .rowValues)) (begunAfter before which sheet t w)
           (r .outcome) (prepared (r .runs) (r .s) slots′ rk rv)
           → some (leaves (r .outcome) (staged (record { tracked = r .s; pops = 0 }) (table slots′ present′ kinds′ values′) (scratch marks′ stack′ rk rv (w .workList))))
           ≡ leavesOf (stagedBy t w) (staged noCounts (zeroTable t) (zeroScratch w)) (goOn which sheet lengthFact (begunAfter before which sheet t w))
       go (covered b rest came o m) = let y = begun-ready before which sheet t w b rest came o m in rw (y .came) (at-once y)
       go (stopped refusal rest came o m) =
-          rw came (stage-path o (ap (λ (x : PreparedLeft). record { tracked = x .s; pops = 0 }) m) (table-path (ap (λ (x : PreparedLeft). x .slots) m) no-present′ no-kinds′ no-values′)
-          (scratch-zero (ap (λ (x : PreparedLeft). x .rowKinds) m) (ap (λ (x : PreparedLeft). x .rowValues) m)))
+          rw came (stage-path o (ap (λ (x : PrepareEnd). record { tracked = x .s; pops = 0 }) m) (table-path (ap (λ (x : PrepareEnd). x .slots) m) no-present′ no-kinds′ no-values′)
+          (scratch-zero (ap (λ (x : PrepareEnd). x .rowKinds) m) (ap (λ (x : PrepareEnd). x .rowValues) m)))
