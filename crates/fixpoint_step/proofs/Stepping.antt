@@ -10,7 +10,7 @@ use lib.ListN.{length, getD, length-map}
 use borrow.Rule.Slice.PartMut.{midOf}
 use Rattle.model.specs.Sheet.{codeCount, firstRange}
 use Rattle.model.specs.Successors.{sheetSuccessors}
-use Rattle.model.specs.Fact.{kind, value, Row, equalKnown}
+use Rattle.model.specs.Fact.{kind, value, Row}
 use Rattle.model.specs.Run.{rowAt}
 use Rattle.model.specs.Tables.{rowCells, factsOf, factIn, lengthTable}
 use Rattle.model.specs.Transfer.{indexTransfer, transferRow}

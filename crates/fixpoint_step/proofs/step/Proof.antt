@@ -2,13 +2,8 @@
 -- Assumes nothing.
 use native.Mathlib.Omega.{arith}
 use Rattle.fixpoint_step.proofs.Stepping.{step-end, transfer-asks, visiting, stepped, copied}
-use borrow.Author.Needs.{needs}
 use Rattle.fixpoint_step.proofs.step.Statement.{statement}
 use Rattle.fixpoint_step.proofs.step.Tie as tie
-use Rattle.fixpoint_step.proofs.step.Reads as reads
-use Rattle.fixpoint_step.proofs.step.Lts as lts
-use Rattle.fixpoint_visit.proofs.visit_successors.Reads as visit-successors-reads
-use Rattle.transfer.proofs.transfer_row.Reads as transfer-row-reads
 
 mul-at : tie.Need-mul-at
 mul-at c = omega (arith, step-end (c .before .before .before .before .before .before .before .before .before .before .before .pre))
@@ -28,23 +23,11 @@ shared-slice-read-t23 c = omega (arith, c .before .before .before .before .befor
 cast-t24 : tie.Need-cast-t24
 cast-t24 c = omega (arith, c .shared-slice-known8 .given (c .before .before .before .before .before .before .before .before .before .before .before .before .before .args .p))
 
-sub-transfer-row : tie.Need-sub-transfer-row
-sub-transfer-row c = omega arith
-
-part-transfer-row-start : tie.Need-part-transfer-row-start
-part-transfer-row-start c = omega arith
-
 part-transfer-row-end : tie.Need-part-transfer-row-end
 part-transfer-row-end c = omega (arith, step-end (c .before .before .before .before .before .before .before .before .before .before .before .before .before .before .pre))
 
 mul-transfer-row : tie.Need-mul-transfer-row
 mul-transfer-row c = omega (arith, step-end (c .before .before .before .before .before .before .before .before .before .before .before .before .before .before .before .pre))
-
-sub-transfer-row-2 : tie.Need-sub-transfer-row-2
-sub-transfer-row-2 c = omega arith
-
-part-transfer-row-start-2 : tie.Need-part-transfer-row-start-2
-part-transfer-row-start-2 c = omega arith
 
 part-transfer-row-end-2 : tie.Need-part-transfer-row-end-2
 part-transfer-row-end-2 c = omega (arith, step-end (c .before .before .before .before .before .before .before .before .before .before .before .before .before .before .before .before .pre))
@@ -75,26 +58,6 @@ returns c = (stepped (c .before .before .before .before .before .before .before 
 
 pub step-spec : {M : Type 1} → statement M
 step-spec =
-    tie.close
-    (tie.spec
-    mul-at
-    add-end
-    shared-slice-read-t20
-    mul-t21
-    shared-slice-read-t23
-    cast-t24
-    sub-transfer-row
-    part-transfer-row-start
-    part-transfer-row-end
-    mul-transfer-row
-    sub-transfer-row-2
-    part-transfer-row-start-2
-    part-transfer-row-end-2
-    transfer-row-requires
-    visit-successors-requires
-    same-length
-    same-length-2
-    same-length-3
-    same-length-4
-    same-length-5
-    returns)
+    tie.close (tie.spec mul-at add-end shared-slice-read-t20 mul-t21 shared-slice-read-t23 cast-t24 (λ c. omega arith) (λ c. omega arith)
+    part-transfer-row-end mul-transfer-row (λ c. omega arith) (λ c. omega arith) part-transfer-row-end-2 transfer-row-requires
+    visit-successors-requires same-length same-length-2 same-length-3 same-length-4 same-length-5 returns)

@@ -1,9 +1,8 @@
 -- `run_list` meets its contract: the loop passes through the states of the defined run.
 -- Assumes nothing.
-use mathlib.Core.Path.{sym, ap, _∙_}
+use mathlib.Core.Path.{ap, _∙_}
 use Prim.Native.Nat.{_+_, _*_, _-_}
 use native.Mathlib.Omega.{arith}
-use borrow.Author.Needs.{needs}
 use lib.ListN.{length}
 use Rattle.model.specs.Sheet.{codeCount}
 use Rattle.finality.proofs.Lengths.{zeros-length, zeros-same}
@@ -136,12 +135,16 @@ returns-2 c =
 
 pub run-list-spec : {M : Type 1} → statement M
 run-list-spec =
-    tie.close
-    (tie.spec Inv-loop μ-loop loop-holds take-requires sub-top (λ c κs. tt) (λ c κs. tt)
-    (λ c. kept-lengths (at-turn c .loop .inv) (at-start (at-turn c) .pre .1) .present) (λ c. kept-lengths (at-turn c .loop .inv) (at-start (at-turn c) .pre .1) .kinds)
-    (λ c. kept-lengths (at-turn c .loop .inv) (at-start (at-turn c) .pre .1) .values) (λ c. kept-lengths (at-turn c .loop .inv) (at-start (at-turn c) .pre .1) .rowKinds)
-    (λ c. kept-lengths (at-turn c .loop .inv) (at-start (at-turn c) .pre .1) .rowValues) same-length-6 returns add-pops step-requires (λ c. omega arith) enter-requires
-    (λ c. omega arith) enter-requires-2 loop-less loop-again (λ c κs. tt)
-    (λ c. kept-lengths (c .before .before .loop .inv) (at-start (c .before .before) .pre .1) .present) (λ c. kept-lengths (c .before .before .loop .inv) (at-start (c .before .before) .pre .1) .kinds)
-    (λ c. kept-lengths (c .before .before .loop .inv) (at-start (c .before .before) .pre .1) .values) (λ c. kept-lengths (c .before .before .loop .inv) (at-start (c .before .before) .pre .1) .rowKinds)
-    (λ c. kept-lengths (c .before .before .loop .inv) (at-start (c .before .before) .pre .1) .rowValues) (λ c. c .before .before .loop .inv .list-length) returns-2)
+    tie.close (tie.spec Inv-loop μ-loop loop-holds take-requires sub-top (λ c κs. tt) (λ c κs. tt)
+    (λ c. kept-lengths (at-turn c .loop .inv) (at-start (at-turn c) .pre .1) .present)
+    (λ c. kept-lengths (at-turn c .loop .inv) (at-start (at-turn c) .pre .1) .kinds)
+    (λ c. kept-lengths (at-turn c .loop .inv) (at-start (at-turn c) .pre .1) .values)
+    (λ c. kept-lengths (at-turn c .loop .inv) (at-start (at-turn c) .pre .1) .rowKinds)
+    (λ c. kept-lengths (at-turn c .loop .inv) (at-start (at-turn c) .pre .1) .rowValues) same-length-6 returns add-pops step-requires
+    (λ c. omega arith) enter-requires (λ c. omega arith) enter-requires-2 loop-less loop-again (λ c κs. tt)
+    (λ c. kept-lengths (c .before .before .loop .inv) (at-start (c .before .before) .pre .1) .present)
+    (λ c. kept-lengths (c .before .before .loop .inv) (at-start (c .before .before) .pre .1) .kinds)
+    (λ c. kept-lengths (c .before .before .loop .inv) (at-start (c .before .before) .pre .1) .values)
+    (λ c. kept-lengths (c .before .before .loop .inv) (at-start (c .before .before) .pre .1) .rowKinds)
+    (λ c. kept-lengths (c .before .before .loop .inv) (at-start (c .before .before) .pre .1) .rowValues)
+    (λ c. c .before .before .loop .inv .list-length) returns-2)

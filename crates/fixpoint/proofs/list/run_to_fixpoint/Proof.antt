@@ -71,6 +71,5 @@ same-length-3 c =
 
 pub run-to-fixpoint-spec : {M : Type 1} → statement M
 run-to-fixpoint-spec =
-    tie.close
-    (tie.spec join-into-requires enter-requires run-list-requires (λ c κs. search needs) same-length same-length-2 same-length-3
+    tie.close (tie.spec join-into-requires enter-requires run-list-requires (λ c κs. search needs) same-length same-length-2 same-length-3
     (λ c. search needs) (λ c. search needs) (λ c. search needs) returns)

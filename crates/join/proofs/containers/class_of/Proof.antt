@@ -6,39 +6,16 @@ use Rattle.sheet_layouts.proofs.Classes.{class-at, class-none, class-last}
 use Rattle.join.proofs.containers.class_of.Statement.{statement}
 use Rattle.join.proofs.containers.class_of.Tie as tie
 
-mul-result : tie.Need-mul-result
-mul-result c = search needs
-
-shared-slice-read-result : tie.Need-shared-slice-read-result
-shared-slice-read-result c = search needs
-
 returns : tie.Need-returns
 returns c = class-at (now (c .before .before .args .classes)) (c .before .before .args .i) (c .before .if1 .taken)
 
 returns-2 : tie.Need-returns-2
 returns-2 c = class-none (now (c .before .before .args .classes)) (c .before .before .args .i) (c .if2 .taken)
 
-sub-result : tie.Need-sub-result
-sub-result c = search needs
-
-mul-result-2 : tie.Need-mul-result-2
-mul-result-2 c = search needs
-
-shared-slice-read-result-2 : tie.Need-shared-slice-read-result-2
-shared-slice-read-result-2 c = search needs
-
 returns-3 : tie.Need-returns-3
 returns-3 c = class-last (now (c .before .before .before .args .classes)) (c .before .before .before .args .i) (c .before .before .if1 .left)
 
 pub class-of-spec : {M : Type 1} → statement M
 class-of-spec =
-    tie.close
-    (tie.spec
-    mul-result
-    shared-slice-read-result
-    returns
-    returns-2
-    sub-result
-    mul-result-2
-    shared-slice-read-result-2
+    tie.close (tie.spec (λ c. search needs) (λ c. search needs) returns returns-2 (λ c. search needs) (λ c. search needs) (λ c. search needs)
     returns-3)

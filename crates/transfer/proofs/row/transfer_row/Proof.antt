@@ -21,9 +21,6 @@ effect-of-requires c κs =
     let s = c .before .before .before .before .before .before .before .before in
     (measured (s .pre .0 .0), s .pre .1 .0, s .pre .0 .2, c .instruction-at .ensures)
 
-slots-written-requires : tie.Need-slots-written-requires
-slots-written-requires c κs = search needs
-
 copy-u8-requires : tie.Need-copy-u8-requires
 copy-u8-requires c κs =
     let s = c .before .before .before .before .before .before .before .before .before .before .before in
@@ -48,12 +45,6 @@ set-checked-requires c κs =
       values-long = s .write-slots .ensures .values-long;
     }
 
-same-length : tie.Need-same-length
-same-length c = search needs
-
-same-length-2 : tie.Need-same-length-2
-same-length-2 c = search needs
-
 returns : tie.Need-returns
 returns c =
     let s = c .before .before .before .before .before .before .before .before .before .before .before .before .before .before .before .before .before .before .before .before .before .before .before .before .before .before .before .before .before .before .before .before in
@@ -61,15 +52,5 @@ returns c =
 
 pub transfer-row-spec : {M : Type 1} → statement M
 transfer-row-spec =
-    tie.close
-    (tie.spec
-    instruction-at-requires
-    effect-of-requires
-    slots-written-requires
-    copy-u8-requires
-    copy-u64-requires
-    write-slots-requires
-    set-checked-requires
-    same-length
-    same-length-2
-    returns)
+    tie.close (tie.spec instruction-at-requires effect-of-requires (λ c κs. search needs) copy-u8-requires copy-u64-requires write-slots-requires
+    set-checked-requires (λ c. search needs) (λ c. search needs) returns)
