@@ -1,25 +1,19 @@
--- A row as it lies in memory, and where a slot stands among the tracked ones.
+-- What the readers and the writers of a row ask, and where a slot stands among the tracked ones.
 -- Assumes nothing.
 use mathlib.Core.Path.{_≡_}
 use mathlib.Core.Bool.{true}
-use mathlib.Core.List.{List, map}
+use mathlib.Core.List.{List}
 use Prim.Native.Nat.{ℕ, _≤_, _<_}
 use lib.ListN.{length, getD}
-use Rattle.model.specs.Fact.{kind, value, Row}
 use Rattle.model.specs.Lookup.{ascends}
-use Rattle.model.specs.Tables.{factsOf}
-
--- "the row of an instruction is handed on as a part of both": the row's kinds and values
-pub record Lies (row : Row) (kinds values : List ℕ) : Type 0 where
-  pub kinds-are : kinds ≡ map kind row
-  pub values-are : values ≡ map value row
+use Rattle.model.specs.Tables.{rowSlices, RowLies, factsOf}
 
 -- what the readers of a row ask: the slots ascend, and kinds and values hold a fact for each
 pub record ReadableRow (slots kinds values : List ℕ) : Type 0 where
   pub ascending : ascends slots ≡ true
   pub kinds-long : length kinds ≡ length slots
   pub values-long : length values ≡ length slots
-  pub lies : Lies (factsOf kinds values) kinds values
+  pub lies : RowLies (factsOf kinds values) (rowSlices kinds values)
 
 -- what a writer of a row asks: the slots ascend, and kinds and values have a place for each
 pub record WritableRow (slots kinds values : List ℕ) : Type 0 where

@@ -86,7 +86,10 @@ pub fn fact_for_tracked_source(slots: &[u16], kinds: &[u8], values: &[u64], slot
 // A slot's fact is set, if the slot is tracked.
 pub fn set_fact(slots: &[u16], slot: usize, cell: FactCell, kinds: &mut [u8], values: &mut [u64])
     requires { ⌜ WritableRow (now slots) (now kinds) (now values) ⌝ }
-    ensures { λ r. ⌜ (now (kinds .exit) ≡ setAt (place (now (slots .entry)) slot) (now (kinds .entry)) (cell .kind)) × (now (values .exit) ≡ setAt (place (now (slots .entry)) slot) (now (values .entry)) (cell .value)) ⌝ }
+    ensures { λ r. ⌜ (
+        let at = place (now (slots .entry)) slot in
+        (now (kinds .exit) ≡ setAt at (now (kinds .entry)) (cell .kind)) × (now (values .exit) ≡ setAt at (now (values .entry)) (cell .value))
+        ) ⌝ }
 {
     let Place::At(j) = find(slots, slot) else {
         return;

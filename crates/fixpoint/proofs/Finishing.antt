@@ -9,7 +9,7 @@ use lib.ListN.{length}
 use Rattle.model.specs.Charges.{Refusal, overBudget, noRoom, Spent}
 use Rattle.model.specs.Fact.{Row}
 use Rattle.model.specs.Run.{finished, overdrawn, run}
-use Rattle.model.specs.Tables.{lengthTable}
+use Rattle.model.specs.Tables.{RowsLie, lengthTable}
 use Rattle.model.specs.Analyses.{Analysed, ranTo, propagate}
 use Rattle.model.specs.Call.{zeros}
 use Rattle.model.specs.declared.AnalysisKind.{AnalysisKind}
@@ -19,9 +19,8 @@ use Rattle.budget.specs.Outcome.{refusedBy, refusing, Leaves, leaves, leavesOf}
 use Rattle.budget.specs.declared.Outcome.{Outcome}
 use Rattle.budget.specs.declared.Outcome.the-variants.{Covered}
 use Rattle.budget.proofs.Left.{Left, covered, stopped, left-by}
-use Rattle.fixpoint_visit.specs.Laid.{RowsLaid}
 use Rattle.fixpoint.specs.declared.Ran.{Ran}
-use Rattle.fixpoint.specs.Memory.{RunMemory, runMemory, zeroRun}
+use Rattle.fixpoint.specs.Memory.{RunMemory, runMemory, runTables, zeroRun}
 use Rattle.fixpoint.specs.Turn.{ranAnalysis}
 use Rattle.fixpoint.specs.Result.{RunLeft, ran, ranTables, runEnded, runRefused}
 
@@ -68,7 +67,7 @@ module _ (which : AnalysisKind) (sheet slots lengthKinds lengthValues : List ℕ
   module _ (r : Ran) where
     -- the empty list ended it, and its rows lie there
     pub told-ended : (rows : List (Option Row)) (pops rest : ℕ) → run (ranAnalysis which sheet slots lengthKinds lengthValues entry) (resources .work) ≡ finished rows pops rest
-        → (m : RunMemory) → RowsLaid (length slots) rows (m .present) (m .kinds) (m .values) → r ≡ runEnded pops resources rest → RunTold r m
+        → (m : RunMemory) → RowsLie (length slots) rows (runTables m) → r ≡ runEnded pops resources rest → RunTold r m
     unfolding ranAnalysis propagate ranTo leavesOf ranTables runEnded
     told-ended rows pops rest e m l is = rw (is, e) (run-path refl refl (l .present-are) (l .kinds-are) (l .values-are) refl refl refl)
 

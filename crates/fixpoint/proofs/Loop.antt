@@ -1,8 +1,8 @@
 -- The loop over one sheet: what a turn asks of what is lent, and how it goes on.
 -- Assumes nothing.
-use mathlib.Core.Path.{_≡_, refl, sym, ap, _∙_}
+use mathlib.Core.Path.{_≡_, sym, _∙_}
 use mathlib.Core.Bool.{true, cond}
-use mathlib.Core.List.{List, [], _∷_, List·Memᴰ as Member}
+use mathlib.Core.List.{List, List·Memᴰ as Member}
 use Prim.Native.Nat.{ℕ, _+_, _*_, _-_, _≤_, _<_}
 use native.Mathlib.Nat.{mul-le-mul-right}
 use native.Mathlib.Omega.{arith}
@@ -13,7 +13,7 @@ use Rattle.model.specs.Call.{zeros}
 use Rattle.model.specs.Fact.{Row, equalKnown}
 use Rattle.model.specs.Run.{Analysis}
 use Rattle.model.specs.Successors.{sheetSuccessors, asRecord}
-use Rattle.model.specs.Tables.{lengthTable}
+use Rattle.model.specs.Tables.{TableSlices, lengthTable}
 use Rattle.model.specs.Transfer.{transferRow}
 use Rattle.model.specs.Analyses.{analysis}
 use Rattle.model.specs.Demand.{Lawful}
@@ -21,20 +21,17 @@ use Rattle.model.specs.declared.AnalysisKind.{AnalysisKind}
 use Rattle.model.specs.declared.VerifierResources.{VerifierResources}
 use Rattle.model.specs.declared.InstructionSuccessors.{InstructionSuccessors}
 use Rattle.finality.proofs.Lawful.{lawful, successors-below}
-use Rattle.finality.proofs.Lengths.{zeros-same}
 use Rattle.sheet.specs.declared.Sizes.{Sizes}
-use Rattle.fixpoint_list.specs.Listed.{Listed, entered}
-use Rattle.fixpoint_visit.specs.News.{newsOf}
+use Rattle.fixpoint_list.specs.Listed.{entered}
 use Rattle.fixpoint_visit.proofs.Visits.{news-among, news-length, list-length}
 use Rattle.fixpoint_step.specs.Stepped.{SheetIndex, TrackedSlots, StepRequires, StepEnsures}
 use Rattle.fixpoint.specs.declared.Ran.{Ran}
-use Rattle.fixpoint.specs.Memory.{RunMemory, runMemory}
+use Rattle.fixpoint.specs.Memory.{RunMemory, runMemory, runTables, runRow}
 use Rattle.fixpoint.specs.Turn.{ranAnalysis, Running, Turn}
 use Rattle.fixpoint.specs.Result.{runEnded, runRefused}
 use Rattle.fixpoint.proofs.Finishing.{RunLengths, RunTold, told-ended, told-refused}
-use Rattle.fixpoint.proofs.Entering.{entered-length, first-asks, second-asks, both-entered}
+use Rattle.fixpoint.proofs.Entering.{first-asks, second-asks, both-entered}
 use Rattle.fixpoint.proofs.Running as T
-use Rattle.fixpoint.proofs.Running.{Sizes as TurnSizes}
 
 module _ (which : AnalysisKind) (sheet : List ℕ) (sizes : Sizes) (firsts classes slots lengthKinds lengthValues : List ℕ) (entry : Row) (resources : VerifierResources) (room : ℕ)
     (i : SheetIndex sheet sizes firsts classes lengthKinds lengthValues) (s : TrackedSlots sheet slots) (long : length entry ≡ length slots) (fit : codeCount sheet * (1 + 2 * length slots) ≤ room) where
@@ -57,13 +54,13 @@ module _ (which : AnalysisKind) (sheet : List ℕ) (sizes : Sizes) (firsts class
   some-s = s .some-slot
 
   -- a running state, with the lengths of what it lies in
-  pub turn : (present kinds values rowKinds rowValues list : List ℕ) (top pops rest : ℕ) → length rowKinds ≡ length slots → length rowValues ≡ length slots → length list ≡ room
-      → Running (ranAnalysis which sheet slots lengthKinds lengthValues entry) left present kinds values list top pops rest
-      → Turn which sheet slots lengthKinds lengthValues entry left room (runMemory present kinds values rowKinds rowValues list) top pops rest
+  pub turn-of : (m : RunMemory) (top pops rest : ℕ) → length (m .rowKinds) ≡ length slots → length (m .rowValues) ≡ length slots → length (m .workList) ≡ room
+      → Running (ranAnalysis which sheet slots lengthKinds lengthValues entry) left (runTables m) (m .workList) top pops rest
+      → Turn which sheet slots lengthKinds lengthValues entry left room m top pops rest
   unfolding ranAnalysis analysis
-  turn present kinds values rowKinds rowValues list top pops rest hk hv hl r =
-      let z : TurnSizes (ranAnalysis which sheet slots lengthKinds lengthValues entry) law present kinds values top pops =
-      T.running-sizes (ranAnalysis which sheet slots lengthKinds lengthValues entry) law some-n left present kinds values list top pops rest r in record {
+  turn-of m top pops rest hk hv hl r =
+      let z : T.TurnSizes (ranAnalysis which sheet slots lengthKinds lengthValues entry) law (runTables m) top pops =
+      T.running-sizes (ranAnalysis which sheet slots lengthKinds lengthValues entry) law some-n left (runTables m) (m .workList) top pops rest r in record {
         entry-length = long;
         running = r;
         fits = z .fits;
@@ -113,47 +110,45 @@ module _ {which : AnalysisKind} {sheet : List ℕ} {sizes : Sizes} {firsts class
   turn-little = let k = mul-le-mul-right (1 + 2 * length slots) (s .little) in omega (arith, t .fits, s .few-slots)
 
   -- the empty list
-  pub ends-empty : top ≤ 0 → (r : Ran) → r ≡ runEnded pops resources rest → RunTold which sheet slots lengthKinds lengthValues entry resources r m × (m .workList ≡ zeros (m .workList))
+  pub turn-ends : top ≤ 0 → (r : Ran) → r ≡ runEnded pops resources rest → RunTold which sheet slots lengthKinds lengthValues entry resources r m × (m .workList ≡ zeros (m .workList))
   unfolding ranAnalysis analysis
-  ends-empty h r is = (
+  turn-ends h r is = (
     told-ended which sheet slots lengthKinds lengthValues entry resources r (t .running .st .rows) pops rest
-        (T.ends-empty of lawful-run n-above (resources .work) (m .present) (m .kinds) (m .values) (m .workList) top pops rest (t .running) s-above h) m (t .running .laid .rows-laid) is,
-    T.empty-list of lawful-run n-above (resources .work) (m .present) (m .kinds) (m .values) (m .workList) top pops rest (t .running) h,
+        (T.ends-empty of lawful-run n-above (resources .work) (runTables m) (m .workList) top pops rest (t .running) s-above h) m (t .running .lies .rows-lie) is,
+    T.empty-list of lawful-run n-above (resources .work) (runTables m) (m .workList) top pops rest (t .running) h,
   )
 
   module _ (h : 0 < top) where
     -- the entry that is taken next is an instruction
     pub turn-entry : getD (m .workList) (top - 1) 0 < codeCount sheet
     unfolding ranAnalysis analysis
-    turn-entry = T.entry-below of lawful-run n-above (resources .work) (m .present) (m .kinds) (m .values) (m .workList) top pops rest (t .running) spacious h
+    turn-entry = T.entry-below of lawful-run n-above (resources .work) (runTables m) (m .workList) top pops rest (t .running) spacious h
 
     -- a refused charge
-    pub ends-refused : rest < length slots → (r : Ran) → r ≡ runRefused which (length slots) resources rest → (behind : RunMemory)
+    pub turn-refused : rest < length slots → (r : Ran) → r ≡ runRefused which (length slots) resources rest → (behind : RunMemory)
         → RunTold which sheet slots lengthKinds lengthValues entry resources r behind
     unfolding ranAnalysis analysis
-    ends-refused low r is behind =
+    turn-refused low r is behind =
         told-refused which sheet slots lengthKinds lengthValues entry resources r (length slots) rest
-        (T.ends-refused of lawful-run n-above (resources .work) (m .present) (m .kinds) (m .values) (m .workList) top pops rest (t .running) spacious h s-above low) behind is
+        (T.ends-refused of lawful-run n-above (resources .work) (runTables m) (m .workList) top pops rest (t .running) spacious h s-above low) behind is
 
     -- a step of the entry p, once the charge is covered
     module _ (enough : length slots ≤ rest) {p : ℕ} (p-is : p ≡ getD (m .workList) (top - 1) 0) where
       abbrev others : List ℕ
       others = set (m .workList) (top - 1) 0
 
-      taken : T.Taken (ranAnalysis which sheet slots lengthKinds lengthValues entry) lawful-run (resources .work) (m .present) (m .kinds) (m .values) (set (m .workList) (top - 1) 0) (top - 1) (pops + 1) (rest - length slots) p
+      taken : T.Taken (ranAnalysis which sheet slots lengthKinds lengthValues entry) lawful-run (resources .work) (runTables m) (set (m .workList) (top - 1) 0) (top - 1) (pops + 1) (rest - length slots) p
       unfolding ranAnalysis analysis
-      taken = rw p-is (T.taken of lawful-run n-above (resources .work) (m .present) (m .kinds) (m .values) (m .workList) top pops rest (t .running) spacious h enough)
+      taken = rw p-is (T.taken of lawful-run n-above (resources .work) (runTables m) (m .workList) top pops rest (t .running) spacious h enough)
 
       -- what it asks
-      pub stepping : StepRequires which sheet sizes firsts classes slots lengthKinds lengthValues p (m .present) (m .kinds) (m .values) (m .rowKinds) (m .rowValues)
+      pub stepping : StepRequires (codeCount sheet) (length slots) p (runTables m) (runRow m)
       unfolding ranAnalysis analysis
       stepping = record {
-        index = i;
-        tracked = s;
         below = rw p-is turn-entry;
         rows = taken .st .rows;
-        row = taken .row;
-        laid = taken .laid .rows-laid;
+        row-there = taken .row;
+        rows-lie = taken .lies .rows-lie;
         stands = taken .stands;
         present-length = t .present-length;
         kinds-length = t .kinds-length;
@@ -162,33 +157,32 @@ module _ {which : AnalysisKind} {sheet : List ℕ} {sizes : Sizes} {firsts class
         row-values-length = t .row-values-length;
       }
 
-      module _ (present′ kinds′ values′ : List ℕ) (r : InstructionSuccessors)
-          (o : StepEnsures which sheet slots lengthKinds lengthValues p (m .present) (m .kinds) (m .values) present′ kinds′ values′ r) where
+      module _ (t′ : TableSlices) (r : InstructionSuccessors) (o : StepEnsures which sheet slots (lengthTable lengthKinds lengthValues) p (runTables m) t′ r) where
         -- what had news
-        fresh : List ℕ
-        fresh = T.fresh of lawful-run n-above (resources .work) (m .present) (m .kinds) (m .values) others (top - 1) (pops + 1) (rest - length slots) p taken
+        entries : List ℕ
+        entries = T.had-news of lawful-run n-above (resources .work) (runTables m) others (top - 1) (pops + 1) (rest - length slots) p taken
 
-        fresh-is : r ≡ asRecord fresh
-        unfolding StepEnsures ranAnalysis analysis fresh
-        fresh-is = o (taken .st .rows) (taken .row) (taken .laid .rows-laid) (taken .stands) .1
+        entries-is : r ≡ asRecord entries
+        unfolding StepEnsures ranAnalysis analysis entries
+        entries-is = o (taken .st .rows) (taken .row) (taken .lies .rows-lie) (taken .stands) .1
 
-        fresh-two : length fresh ≤ 2
-        unfolding ranAnalysis analysis fresh
-        fresh-two =
+        entries-two : length entries ≤ 2
+        unfolding ranAnalysis analysis entries
+        entries-two =
             omega (arith, news-length (equalKnown which sheet) (transferRow which sheet slots (lengthTable lengthKinds lengthValues) p (taken .row)) (sheetSuccessors sheet p) (taken .st .rows), list-length sheet p)
 
-        fresh-below : (y : ℕ) → Member y fresh → y < codeCount sheet
-        unfolding ranAnalysis analysis fresh
-        fresh-below y e = successors-below sheet p y (news-among (equalKnown which sheet) _ (sheetSuccessors sheet p) (taken .st .rows) y e)
+        entries-below : (y : ℕ) → Member y entries → y < codeCount sheet
+        unfolding ranAnalysis analysis entries
+        entries-below y e = successors-below sheet p y (news-among (equalKnown which sheet) _ (sheetSuccessors sheet p) (taken .st .rows) y e)
 
-        fresh-fits : length (entered fresh (taken .st .list)) ≤ length (set (m .workList) (top - 1) 0)
-        unfolding ranAnalysis analysis fresh
-        fresh-fits =
+        entries-fits : length (entered entries (taken .st .list)) ≤ length (set (m .workList) (top - 1) 0)
+        unfolding ranAnalysis analysis entries
+        entries-fits =
             omega (
               arith,
               spacious,
               length-set (m .workList) (top - 1) 0,
-              T.taken-room of lawful-run n-above (resources .work) (m .present) (m .kinds) (m .values) others (top - 1) (pops + 1) (rest - length slots) p taken,
+              T.taken-room of lawful-run n-above (resources .work) (runTables m) others (top - 1) (pops + 1) (rest - length slots) p taken,
             )
 
         -- what entering it asks
@@ -197,7 +191,7 @@ module _ {which : AnalysisKind} {sheet : List ℕ} {sizes : Sizes} {firsts class
         enter-first e = ((λ k. rw e (asks k .0)), (λ k. omega (arith, asks k .1, s .little)))
           where
             asks : ltb 0 (r .len) ≡ true → (top - 1 < length (set (m .workList) (top - 1) 0)) × (getD (r .pcs) 0 0 < codeCount sheet)
-            asks k = first-asks fresh fresh-two r fresh-is (taken .st .list) others (top - 1) (taken .laid .listed) fresh-fits (codeCount sheet) fresh-below k
+            asks k = first-asks entries entries-two r entries-is (taken .st .list) others (top - 1) (taken .lies .listed) entries-fits (codeCount sheet) entries-below k
 
         module _ {list₀ : List ℕ} (l₀ : list₀ ≡ set (m .workList) (top - 1) 0) {list₁ : List ℕ} {top₁ : ℕ} (l₁ : list₁ ≡ cond (ltb 0 (r .len)) (set list₀ (top - 1) (getD (r .pcs) 0 0)) list₀)
             (t₁ : top₁ ≡ cond (ltb 0 (r .len)) (top - 1 + 1) (top - 1)) where
@@ -208,16 +202,16 @@ module _ {which : AnalysisKind} {sheet : List ℕ} {sizes : Sizes} {firsts class
           enter-second = ((λ k. asks k .0), (λ k. omega (arith, asks k .1, s .little)))
             where
               asks : ltb 1 (r .len) ≡ true → (top₁ < length list₁) × (getD (r .pcs) 1 0 < codeCount sheet)
-              asks k = second-asks fresh fresh-two r fresh-is (taken .st .list) others (top - 1) (taken .laid .listed) fresh-fits list₁ top₁ first-entered t₁ (codeCount sheet) fresh-below k
+              asks k = second-asks entries entries-two r entries-is (taken .st .list) others (top - 1) (taken .lies .listed) entries-fits list₁ top₁ first-entered t₁ (codeCount sheet) entries-below k
 
           -- what the step leaves
           pub stepped : {rowKinds′ rowValues′ list₂ : List ℕ} {top₂ : ℕ} → length rowKinds′ ≡ length (m .rowKinds) → length rowValues′ ≡ length (m .rowValues) → length list₂ ≡ length (m .workList)
               → list₂ ≡ cond (ltb 1 (r .len)) (set list₁ top₁ (getD (r .pcs) 1 0)) list₁ → top₂ ≡ cond (ltb 1 (r .len)) (top₁ + 1) top₁
-              → Turn which sheet slots lengthKinds lengthValues entry (resources .work) room (runMemory present′ kinds′ values′ rowKinds′ rowValues′ list₂) top₂ (pops + 1) (rest - length slots)
+              → Turn which sheet slots lengthKinds lengthValues entry (resources .work) room (runMemory (t′ .present) (t′ .kinds) (t′ .values) rowKinds′ rowValues′ list₂) top₂ (pops + 1) (rest - length slots)
           unfolding StepEnsures ranAnalysis analysis
           stepped {rowKinds′} {rowValues′} {list₂} {top₂} hk hv hl l₂ t₂ =
-              turn which sheet sizes firsts classes slots lengthKinds lengthValues entry resources room i s (t .entry-length) (t .list-fits)
-              present′ kinds′ values′ rowKinds′ rowValues′ list₂ top₂ (pops + 1) (rest - length slots) (hk ∙ t .row-kinds-length) (hv ∙ t .row-values-length) (hl ∙ t .list-length)
-              (T.taken-end of lawful-run n-above (resources .work) (m .present) (m .kinds) (m .values) others (top - 1) (pops + 1) (rest - length slots) p taken
-              present′ kinds′ values′ list₂ top₂ (o (taken .st .rows) (taken .row) (taken .laid .rows-laid) (taken .stands) .0) (unfold fresh in
-              (both-entered fresh fresh-two r fresh-is (taken .st .list) others (top - 1) (taken .laid .listed) fresh-fits list₁ top₁ first-entered t₁ list₂ top₂ l₂ t₂)))
+              turn-of which sheet sizes firsts classes slots lengthKinds lengthValues entry resources room i s (t .entry-length) (t .list-fits)
+              (runMemory (t′ .present) (t′ .kinds) (t′ .values) rowKinds′ rowValues′ list₂) top₂ (pops + 1) (rest - length slots) (hk ∙ t .row-kinds-length) (hv ∙ t .row-values-length) (hl ∙ t .list-length)
+              (T.taken-end of lawful-run n-above (resources .work) (runTables m) others (top - 1) (pops + 1) (rest - length slots) p taken
+              t′ list₂ top₂ (o (taken .st .rows) (taken .row) (taken .lies .rows-lie) (taken .stands) .0) (unfold entries in
+              (both-entered entries entries-two r entries-is (taken .st .list) others (top - 1) (taken .lies .listed) entries-fits list₁ top₁ first-entered t₁ list₂ top₂ l₂ t₂)))

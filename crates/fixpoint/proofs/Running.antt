@@ -1,7 +1,7 @@
 -- The loop's state between two turns (`Running`) and inside one (`Taken`), and how it goes on.
 -- Assumes nothing.
 use mathlib.Core.Path.{_≡_, refl, sym, ap, ap₂, _∙_}
-use mathlib.Core.List.{List, [], _∷_, _++_, append-nil, List·Memᴰ as Member, List·Memᴰ·head as head, List·Memᴰ·tail as tail}
+use mathlib.Core.List.{List, [], _∷_, _++_, append-nil, List·Memᴰ·head as head}
 use mathlib.Core.Bool.{true}
 use mathlib.Core.Option.{Option, none, some}
 use Prim.Native.Nat.{ℕ, zero, suc, _+_, _*_, _-_, _≤_, _<_}
@@ -12,7 +12,7 @@ use lib.Seq.{getD-set-same}
 use Rattle.model.specs.Call.{zeros}
 use Rattle.model.specs.Fact.{Fact, kind, value, Row}
 use Rattle.model.specs.Run.{Analysis, State, finished, overdrawn, rowAt, news, merged, carry, popped, bound, start, run}
-use Rattle.model.specs.Tables.{presentByte, presentBytes, rowCells, cells, tableRow}
+use Rattle.model.specs.Tables.{presentByte, presentBytes, rowCells, cells, TableSlices, tableSlices, RowsLie, tableRow}
 use Rattle.model.specs.Demand.{Lawful, Present, Visited, begun, then}
 use Rattle.finality.proofs.Cells.{length-cells, length-present}
 use Rattle.finality.proofs.Steps.{step-empty, step-refused, step-next}
@@ -21,11 +21,10 @@ use Rattle.finality.proofs.Final.{visited-good}
 use Rattle.finality.proofs.Memory.{row-part}
 use Rattle.finality.proofs.Fuel.{run-is}
 use Rattle.fixpoint_list.specs.Listed.{Listed, entered}
-use Rattle.fixpoint_list.proofs.Listed.{empty-listed, listed-empty, listed-take}
-use Rattle.fixpoint_visit.specs.Laid.{RowsLaid}
+use Rattle.fixpoint_list.proofs.Listed.{listed-empty, listed-take}
 use Rattle.fixpoint_visit.specs.News.{rowsVisited, rowsAfter, newsOf}
 use Rattle.fixpoint_visit.proofs.Visits.{visits-parts}
-use Rattle.fixpoint.specs.Turn.{StateLaid, Running}
+use Rattle.fixpoint.specs.Turn.{StateLies, Running}
 use Rattle.model.proofs.Facts.{row-below}
 
 -- ---- tables without rows
@@ -46,31 +45,31 @@ module _ (a : Analysis) (law : Lawful a) where
   open Analysis a using (n, s, successors, transfer, same, entry)
 
   -- what the indices of a turn need
-  pub record Sizes (present kinds values : List ℕ) (top pops : ℕ) : Type 0 where
+  pub record TurnSizes (t : TableSlices) (top pops : ℕ) : Type 0 where
     pub fits : pops + top ≤ bound a
-    pub present-length : length present ≡ n
-    pub kinds-length : length kinds ≡ n * s
-    pub values-length : length values ≡ n * s
+    pub present-length : length (t .present) ≡ n
+    pub kinds-length : length (t .kinds) ≡ n * s
+    pub values-length : length (t .values) ≡ n * s
 
   -- a good state that lies there has those sizes
-  sizes : (copy : Row) (pending : List ℕ) (st : State) (present kinds values workList : List ℕ) (top pops : ℕ) → Good a copy pending st
-      → StateLaid s st present kinds values workList top → pops ≡ st .count → Sizes present kinds values top pops
-  sizes copy pending st present kinds values workList top pops g l e =
+  sizes : (copy : Row) (pending : List ℕ) (st : State) (t : TableSlices) (workList : List ℕ) (top pops : ℕ) → Good a copy pending st
+      → StateLies s st t workList top → pops ≡ st .count → TurnSizes t top pops
+  sizes copy pending st t workList top pops g l e =
       let z : length (st .rows) ≡ n = g .size in record {
         fits = omega (arith, g .fits, l .listed .top-is);
-        present-length = ap length (l .rows-laid .present-are) ∙ length-present (st .rows) ∙ z;
-        kinds-length = ap length (l .rows-laid .kinds-are) ∙ length-cells kind s (st .rows) (g .row-length) ∙ rw z;
-        values-length = ap length (l .rows-laid .values-are) ∙ length-cells value s (st .rows) (g .row-length) ∙ rw z;
+        present-length = ap length (l .rows-lie .present-are) ∙ length-present (st .rows) ∙ z;
+        kinds-length = ap length (l .rows-lie .kinds-are) ∙ length-cells kind s (st .rows) (g .row-length) ∙ rw z;
+        values-length = ap length (l .rows-lie .values-are) ∙ length-cells value s (st .rows) (g .row-length) ∙ rw z;
       }
 
   -- ---- inside a turn: the entry p is taken, and its step is to come
 
-  pub record Taken (left : ℕ) (present kinds values workList : List ℕ) (top pops rest p : ℕ) : Type 0 where
+  pub record Taken (left : ℕ) (t : TableSlices) (workList : List ℕ) (top pops rest p : ℕ) : Type 0 where
     pub st : State
     pub row : Row
     pub stands : rowAt (st .rows) p ≡ some row
     pub visited : Visited a left (carry a p (some row) st)
-    pub laid : StateLaid s st present kinds values workList top
+    pub lies : StateLies s st t workList top
     pub count-is : pops ≡ st .count
     pub left-is : rest ≡ st .left
 
@@ -80,19 +79,19 @@ module _ (a : Analysis) (law : Lawful a) where
     good : (st : State) → Visited a left st → Good a [] [] st
     good st v = visited-good a law left hn st v
 
-    module _ (present kinds values workList : List ℕ) (top pops rest : ℕ) (r : Running a left present kinds values workList top pops rest) where
-      pub running-sizes : Sizes present kinds values top pops
-      running-sizes = sizes [] [] (r .st) present kinds values workList top pops (good (r .st) (r .visited)) (r .laid) (r .count-is)
+    module _ (t : TableSlices) (workList : List ℕ) (top pops rest : ℕ) (r : Running a left t workList top pops rest) where
+      pub running-sizes : TurnSizes t top pops
+      running-sizes = sizes [] [] (r .st) t workList top pops (good (r .st) (r .visited)) (r .lies) (r .count-is)
 
       -- the empty list ends the run
       pub ends-empty : 0 < s → top ≤ 0 → run a left ≡ finished (r .st .rows) pops rest
       ends-empty hs h =
-          let e : r .st .list ≡ [] = listed-empty (r .st .list) workList top (r .laid .listed) h .0 in
+          let e : r .st .list ≡ [] = listed-empty (r .st .list) workList top (r .lies .listed) h .0 in
           rw (r .count-is, r .left-is) (run-is a law left hn hs (r .st) (finished (r .st .rows) (r .st .count) (r .st .left)) (r .visited) (step-empty a (r .st) e))
 
       -- with zeros in the list
       pub empty-list : top ≤ 0 → workList ≡ zeros workList
-      empty-list h = listed-empty (r .st .list) workList top (r .laid .listed) h .1
+      empty-list h = listed-empty (r .st .list) workList top (r .lies .listed) h .1
 
       -- where there is room for the bound
       module _ (room : bound a ≤ length workList) (some-top : 0 < top) where
@@ -100,7 +99,7 @@ module _ (a : Analysis) (law : Lawful a) where
         on-top : (ps : List ℕ) × (r .st .list ≡ getD workList (top - 1) 0 ∷ ps) × Listed ps (set workList (top - 1) 0) (top - 1)
         on-top =
             let g : Good a [] [] (r .st) = good (r .st) (r .visited) in
-            listed-take (r .st .list) workList top (r .laid .listed) (omega (arith, g .fits)) some-top
+            listed-take (r .st .list) workList top (r .lies .listed) (omega (arith, g .fits)) some-top
 
         -- has a row
         entry-present : Present (r .st .rows) (getD workList (top - 1) 0)
@@ -116,51 +115,51 @@ module _ (a : Analysis) (law : Lawful a) where
         -- a refused charge ends the run
         pub ends-refused : 0 < s → rest < s → run a left ≡ overdrawn s rest
         ends-refused hs low =
-            let t = on-top in
+            let taken = on-top in
             rw (r .left-is) (run-is a law left hn hs (r .st) (overdrawn s (r .st .left)) (r .visited)
-            (step-refused a (r .st) (getD workList (top - 1) 0) (t .0) (t .1) (omega (arith, r .left-is))))
+            (step-refused a (r .st) (getD workList (top - 1) 0) (taken .0) (taken .1) (omega (arith, r .left-is))))
 
         -- a covered one goes on with what was taken
-        pub taken : s ≤ rest → Taken left present kinds values (set workList (top - 1) 0) (top - 1) (pops + 1) (rest - s) (getD workList (top - 1) 0)
+        pub taken : s ≤ rest → Taken left t (set workList (top - 1) 0) (top - 1) (pops + 1) (rest - s) (getD workList (top - 1) 0)
         unfolding popped carry
         taken enough =
-            let t = on-top in
+            let last = on-top in
             let x = entry-present in record {
-              st = popped a (t .0) (r .st);
+              st = popped a (last .0) (r .st);
               row = x .0;
               stands = x .1;
-              visited = then (r .visited) (step-next a (r .st) (getD workList (top - 1) 0) (t .0) (t .1) (omega (arith, r .left-is)) (x .0) (x .1));
-              laid = record { rows-laid = r .laid .rows-laid; listed = t .2 };
+              visited = then (r .visited) (step-next a (r .st) (getD workList (top - 1) 0) (last .0) (last .1) (omega (arith, r .left-is)) (x .0) (x .1));
+              lies = record { rows-lie = r .lies .rows-lie; listed = last .2 };
               count-is = rw (r .count-is);
               left-is = rw (r .left-is);
             }
 
-  module _ (hn : 0 < n) (left : ℕ) (present kinds values workList : List ℕ) (top pops rest p : ℕ) (t : Taken left present kinds values workList top pops rest p) where
+  module _ (hn : 0 < n) (left : ℕ) (slices : TableSlices) (workList : List ℕ) (top pops rest p : ℕ) (t : Taken left slices workList top pops rest p) where
     -- the successors that have news
-    abbrev pub fresh : List ℕ
-    fresh = newsOf same (transfer p (t .row)) (successors p) (t .st .rows)
+    abbrev pub had-news : List ℕ
+    had-news = newsOf same (transfer p (t .row)) (successors p) (t .st .rows)
 
     -- the state behind the step: its rows, and its list with what had news
     behind : carry a p (some (t .row)) (t .st)
-        ≡ record { rows = rowsAfter same (transfer p (t .row)) (successors p) (t .st .rows); list = entered fresh (t .st .list); count = t .st .count; left = t .st .left }
+        ≡ record { rows = rowsAfter same (transfer p (t .row)) (successors p) (t .st .rows); list = entered had-news (t .st .list); count = t .st .count; left = t .st .left }
     unfolding carry
     behind = visits-parts same (transfer p (t .row)) (successors p) (t .st)
 
     -- behind the step there is room for them
-    pub taken-room : pops + length (entered fresh (t .st .list)) ≤ bound a
+    pub taken-room : pops + length (entered had-news (t .st .list)) ≤ bound a
     taken-room =
         let g : Good a [] [] (carry a p (some (t .row)) (t .st)) = good hn left (carry a p (some (t .row)) (t .st)) (t .visited) in
         let b : bound a ≡ bound a = refl in
         omega (arith, rw behind at (g .fits), t .count-is)
 
     -- and the turn is over
-    pub taken-end : (present′ kinds′ values′ workList′ : List ℕ) (top′ : ℕ)
-        → RowsLaid s (rowsAfter same (transfer p (t .row)) (successors p) (t .st .rows)) present′ kinds′ values′ → Listed (entered fresh (t .st .list)) workList′ top′
-        → Running a left present′ kinds′ values′ workList′ top′ pops rest
-    taken-end present′ kinds′ values′ workList′ top′ l w = record {
-      st = record { rows = rowsAfter same (transfer p (t .row)) (successors p) (t .st .rows); list = entered fresh (t .st .list); count = t .st .count; left = t .st .left };
+    pub taken-end : (slices′ : TableSlices) (workList′ : List ℕ) (top′ : ℕ)
+        → RowsLie s (rowsAfter same (transfer p (t .row)) (successors p) (t .st .rows)) slices′ → Listed (entered had-news (t .st .list)) workList′ top′
+        → Running a left slices′ workList′ top′ pops rest
+    taken-end slices′ workList′ top′ l w = record {
+      st = record { rows = rowsAfter same (transfer p (t .row)) (successors p) (t .st .rows); list = entered had-news (t .st .list); count = t .st .count; left = t .st .left };
       visited = rw behind at (t .visited);
-      laid = record { rows-laid = l; listed = w };
+      lies = record { rows-lie = l; listed = w };
       count-is = t .count-is;
       left-is = t .left-is;
     }
@@ -168,8 +167,8 @@ module _ (a : Analysis) (law : Lawful a) where
   -- ---- the start
 
   -- no row lies there yet
-  pub none-laid : RowsLaid s (replicate n none) (replicate n 0) (replicate (n * s) 0) (replicate (n * s) 0)
-  none-laid = record {
+  pub none-lie : RowsLie s (replicate n none) (tableSlices (replicate n 0) (replicate (n * s) 0) (replicate (n * s) 0))
+  none-lie = record {
     sized = λ p r e. absurd (none-some r (sym (rowAt-replicate n p) ∙ e));
     present-are = sym (no-present n);
     kinds-are = sym (no-cells kind s n);
@@ -185,20 +184,20 @@ module _ (a : Analysis) (law : Lawful a) where
   unfolding news
   first-news = rw (rowAt-replicate n 0)
 
-  pub started : (left : ℕ) (present kinds values workList : List ℕ) (top : ℕ) → RowsLaid s (rowsVisited same entry 0 (replicate n none)) present kinds values → Listed (0 ∷ []) workList top
-      → Running a left present kinds values workList top 0 left
+  pub started : (left : ℕ) (t : TableSlices) (workList : List ℕ) (top : ℕ) → RowsLie s (rowsVisited same entry 0 (replicate n none)) t → Listed (0 ∷ []) workList top
+      → Running a left t workList top 0 left
   unfolding start
-  started left present kinds values workList top l w = record {
+  started left t workList top l w = record {
     st = start a left;
     visited = begun refl;
-    laid = record { rows-laid = rw first-visit at l; listed = w };
+    lies = record { rows-lie = rw first-visit at l; listed = w };
     count-is = refl;
     left-is = refl;
   }
 
   -- instruction 0 then has the first row
-  pub started-row : (present kinds values : List ℕ) → 0 < n → RowsLaid s (rowsVisited same entry 0 (replicate n none)) present kinds values → tableRow s kinds values 0 ≡ entry
-  started-row present kinds values hn l =
-      let t : RowsLaid s (set (replicate n none) 0 (some entry)) present kinds values = rw first-visit at l in
-      ap₂ (λ (ks vs : List ℕ). tableRow s ks vs 0) (t .kinds-are ∙ sym (append-nil (cells kind s (set (replicate n none) 0 (some entry))))) (t .values-are ∙ sym (append-nil (cells value s (set (replicate n none) 0 (some entry)))))
-      ∙ row-part s (set (replicate n none) 0 (some entry)) (t .sized) [] [] 0 entry (getD-set-same (replicate n none) 0 (some entry) none (rw (length-replicate {A = Option Row} n none) hn))
+  pub started-row : (t : TableSlices) → 0 < n → RowsLie s (rowsVisited same entry 0 (replicate n none)) t → tableRow s (t .kinds) (t .values) 0 ≡ entry
+  started-row t hn l =
+      let x : RowsLie s (set (replicate n none) 0 (some entry)) t = rw first-visit at l in
+      ap₂ (λ (ks vs : List ℕ). tableRow s ks vs 0) (x .kinds-are ∙ sym (append-nil (cells kind s (set (replicate n none) 0 (some entry))))) (x .values-are ∙ sym (append-nil (cells value s (set (replicate n none) 0 (some entry)))))
+      ∙ row-part s (set (replicate n none) 0 (some entry)) (x .sized) [] [] 0 entry (getD-set-same (replicate n none) 0 (some entry) none (rw (length-replicate {A = Option Row} n none) hn))

@@ -6,6 +6,7 @@ use denote.Ref.{now}
 use denote.Triple.Both.{Both}
 use Rattle.model.specs.Call.{zeros}
 use Rattle.model.specs.Promise.{Slice}
+use Rattle.model.specs.Tables.{TableSlices, tableSlices, RowSlices, rowSlices}
 
 -- "present bytes .., and n × s kind bytes and 64-bit values", "the row scratch", "the work list"
 pub record RunMemory : Type 0 where
@@ -20,6 +21,13 @@ pub record RunMemory : Type 0 where
 abbrev pub runMemory : List ℕ → List ℕ → List ℕ → List ℕ → List ℕ → List ℕ → RunMemory
 runMemory present kinds values rowKinds rowValues workList =
     record { present = present; kinds = kinds; values = values; rowKinds = rowKinds; rowValues = rowValues; workList = workList }
+
+-- its tables, and its row
+abbrev pub runTables : RunMemory → TableSlices
+runTables m = tableSlices (m .present) (m .kinds) (m .values)
+
+abbrev pub runRow : RunMemory → RowSlices
+runRow m = rowSlices (m .rowKinds) (m .rowValues)
 
 -- before and after the call
 abbrev pub lentRun : Slice → Slice → Slice → Slice → Slice → Slice → Both RunMemory RunMemory

@@ -6,11 +6,11 @@ use mathlib.Core.List.{List}
 use mathlib.Core.Option.{Option, some}
 use Prim.Native.Nat.{ℕ, _*_, _≤_, _<_}
 use lib.ListN.{length}
-use Rattle.model.specs.Fact.{Row, equalKnown}
+use Rattle.model.specs.Fact.{Fact, Row, equalKnown}
 use Rattle.model.specs.Sheet.{codeCount, firstRange}
 use Rattle.model.specs.Successors.{sheetSuccessors, asRecord}
 use Rattle.model.specs.Run.{rowAt}
-use Rattle.model.specs.Tables.{lengthTable}
+use Rattle.model.specs.Tables.{TableSlices, RowsLie, RowSlices, RowLies}
 use Rattle.model.specs.Transfer.{transferRow}
 use Rattle.model.specs.Lookup.{ascends}
 use Rattle.model.specs.declared.AnalysisKind.{AnalysisKind}
@@ -19,7 +19,6 @@ use Rattle.memory.specs.Front.{Holds}
 use Rattle.sheet.specs.Measured.{Accepted}
 use Rattle.sheet.specs.declared.Sizes.{Sizes}
 use Rattle.sheet_layouts.specs.Classes.{Classes}
-use Rattle.fixpoint_visit.specs.Laid.{RowsLaid, RowLaid}
 use Rattle.fixpoint_visit.specs.News.{rowsAfter, newsOf}
 
 -- What is found once a call: the first range of each instruction, the class of each layout, and room for the length facts.
@@ -38,31 +37,28 @@ pub record TrackedSlots (sheet slots : List ℕ) : Type 0 where
   pub some-code : 0 < codeCount sheet
   pub little : codeCount sheet ≤ 4096
 
--- What a step of p asks: tables in which rows lie, with a row for p. (The lengths follow from what lies there; arithmetic reads them.)
-pub record StepRequires (which : AnalysisKind) (sheet : List ℕ) (sizes : Sizes) (firsts classes slots lengthKinds lengthValues : List ℕ) (p : ℕ)
-    (present kinds values rowKinds rowValues : List ℕ) : Type 0 where
-  pub index : SheetIndex sheet sizes firsts classes lengthKinds lengthValues
-  pub tracked : TrackedSlots sheet slots
-  pub below : p < codeCount sheet
+-- What a step of p asks, of n instructions and s slots: tables in which rows lie, with a row for p. (The lengths follow from what lies there; arithmetic reads them.)
+pub record StepRequires (n s p : ℕ) (t : TableSlices) (row : RowSlices) : Type 0 where
+  pub below : p < n
   pub rows : List (Option Row)
-  pub row : Row
-  pub laid : RowsLaid (length slots) rows present kinds values
-  pub stands : rowAt rows p ≡ some row
-  pub present-length : length present ≡ codeCount sheet
-  pub kinds-length : length kinds ≡ codeCount sheet * length slots
-  pub values-length : length values ≡ codeCount sheet * length slots
-  pub row-kinds-length : length rowKinds ≡ length slots
-  pub row-values-length : length rowValues ≡ length slots
+  pub row-there : Row
+  pub rows-lie : RowsLie s rows t
+  pub stands : rowAt rows p ≡ some row-there
+  pub present-length : length (t .present) ≡ n
+  pub kinds-length : length (t .kinds) ≡ n * s
+  pub values-length : length (t .values) ≡ n * s
+  pub row-kinds-length : length (row .kinds) ≡ s
+  pub row-values-length : length (row .values) ≡ s
 
 -- What a step of p makes of whatever rows lie there, and which successors had news.
-unfoldable pub StepEnsures : AnalysisKind → List ℕ → List ℕ → List ℕ → List ℕ → ℕ → List ℕ → List ℕ → List ℕ → List ℕ → List ℕ → List ℕ → InstructionSuccessors → Type 0
-StepEnsures which sheet slots lengthKinds lengthValues p present kinds values present′ kinds′ values′ r =
-    (rows : List (Option Row)) (row : Row) → RowsLaid (length slots) rows present kinds values → rowAt rows p ≡ some row
-    → RowsLaid (length slots) (rowsAfter (equalKnown which sheet) (transferRow which sheet slots (lengthTable lengthKinds lengthValues) p row) (sheetSuccessors sheet p) rows) present′ kinds′ values′
-    × (r ≡ asRecord (newsOf (equalKnown which sheet) (transferRow which sheet slots (lengthTable lengthKinds lengthValues) p row) (sheetSuccessors sheet p) rows))
+unfoldable pub StepEnsures : AnalysisKind → List ℕ → List ℕ → (ℕ → Fact) → ℕ → TableSlices → TableSlices → InstructionSuccessors → Type 0
+StepEnsures which sheet slots lengthFact p old new r =
+    (rows : List (Option Row)) (row : Row) → RowsLie (length slots) rows old → rowAt rows p ≡ some row
+    → RowsLie (length slots) (rowsAfter (equalKnown which sheet) (transferRow which sheet slots lengthFact p row) (sheetSuccessors sheet p) rows) new
+    × (r ≡ asRecord (newsOf (equalKnown which sheet) (transferRow which sheet slots lengthFact p row) (sheetSuccessors sheet p) rows))
 
 -- The row scratch behind it: the copy of p's row, whatever row stands there, behind the transfer.
-unfoldable pub CopyEnsures : AnalysisKind → List ℕ → List ℕ → List ℕ → List ℕ → ℕ → List ℕ → List ℕ → List ℕ → List ℕ → List ℕ → Type 0
-CopyEnsures which sheet slots lengthKinds lengthValues p present kinds values rowKinds′ rowValues′ =
-    (rows : List (Option Row)) (row : Row) → RowsLaid (length slots) rows present kinds values → rowAt rows p ≡ some row
-    → RowLaid (length slots) (transferRow which sheet slots (lengthTable lengthKinds lengthValues) p row) rowKinds′ rowValues′
+unfoldable pub CopyEnsures : AnalysisKind → List ℕ → List ℕ → (ℕ → Fact) → ℕ → TableSlices → RowSlices → Type 0
+CopyEnsures which sheet slots lengthFact p t copy =
+    (rows : List (Option Row)) (row : Row) → RowsLie (length slots) rows t → rowAt rows p ≡ some row
+    → (length (transferRow which sheet slots lengthFact p row) ≡ length slots) × RowLies (transferRow which sheet slots lengthFact p row) copy

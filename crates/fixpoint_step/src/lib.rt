@@ -1,5 +1,9 @@
 // One step of a run, from the entry that was taken: "A copy of that instruction's row goes through its transfer. Then each successor in order".
-ghost use Rattle.fixpoint_step.specs.Stepped.{StepRequires, StepEnsures, CopyEnsures};
+ghost use lib.ListN.{length};
+ghost use Rattle.model.specs.Promise.{lentRow, lentRows};
+ghost use Rattle.model.specs.Sheet.{codeCount};
+ghost use Rattle.model.specs.Tables.{rowSlices, tableSlices, lengthTable};
+ghost use Rattle.fixpoint_step.specs.Stepped.{SheetIndex, TrackedSlots, StepRequires, StepEnsures, CopyEnsures};
 use fixpoint_visit::visit_successors;
 use model::AnalysisKind;
 use model::FactCell;
@@ -25,8 +29,18 @@ pub fn step(
     row_kinds: &mut [u8],
     row_values: &mut [u64],
 ) -> InstructionSuccessors
-    requires { ⌜ StepRequires which (now sheet) sizes (now firsts) (now classes) (now slots) (now «length_kinds») (now «length_values») p (now present) (now kinds) (now values) (now «row_kinds») (now «row_values») ⌝ }
-    ensures { λ r. ⌜ StepEnsures which (now (sheet .entry)) (now (slots .entry)) (now («length_kinds» .entry)) (now («length_values» .entry)) p (now (present .entry)) (now (kinds .entry)) (now (values .entry)) (now (present .exit)) (now (kinds .exit)) (now (values .exit)) r × CopyEnsures which (now (sheet .entry)) (now (slots .entry)) (now («length_kinds» .entry)) (now («length_values» .entry)) p (now (present .entry)) (now (kinds .entry)) (now (values .entry)) (now («row_kinds» .exit)) (now («row_values» .exit)) ⌝ }
+    requires { ⌜ SheetIndex (now sheet) sizes (now firsts) (now classes) (now «length_kinds») (now «length_values») × TrackedSlots (now sheet) (now slots) ⌝ }
+    requires { ⌜ (
+        let t = tableSlices (now present) (now kinds) (now values) in
+        StepRequires (codeCount (now sheet)) (length (now slots)) p t (rowSlices (now «row_kinds») (now «row_values»))
+        ) ⌝ }
+    ensures { λ r. ⌜ (
+        let t = lentRows present kinds values in
+        let row = lentRow «row_kinds» «row_values» in
+        let lengths = lengthTable (now («length_kinds» .entry)) (now («length_values» .entry)) in
+        StepEnsures which (now (sheet .entry)) (now (slots .entry)) lengths p (t .entry) (t .exit) r
+        × CopyEnsures which (now (sheet .entry)) (now (slots .entry)) lengths p (t .entry) (row .exit)
+        ) ⌝ }
 {
     let s = slots.len();
     let at = p * s;

@@ -2,7 +2,7 @@
 -- Assumes nothing.
 use mathlib.Core.Path.{_≡_, refl, sym, ap, ap₂, _∙_}
 use mathlib.Core.Logic.{_≢_, _⊎_, inl, inr}
-use mathlib.Core.Bool.{Bool, true, false}
+use mathlib.Core.Bool.{Bool, true}
 use mathlib.Core.List.{List, map}
 use mathlib.Core.Option.{Option, none, some}
 use Prim.Native.Nat.{ℕ, _+_, _*_, _-_, _≤_, _<_}
@@ -13,23 +13,22 @@ use lib.Seq.{set-getD}
 use borrow.Rule.Slice.PartMut.{midOf, putMid, post-is, mid-len}
 use Rattle.model.specs.Fact.{Fact, kind, value, Row, joinRow}
 use Rattle.model.specs.Run.{rowAt, merged, news}
-use Rattle.model.specs.Tables.{presentByte, presentBytes, rowCells, cells, factsOf}
+use Rattle.model.specs.Tables.{presentByte, presentBytes, rowCells, cells, TableSlices, tableSlices, RowsLie, RowSlices, rowSlices, RowLies, factsIn}
 use Rattle.finality.proofs.Joins.{length-joinRow}
-use Rattle.finality.proofs.Cells.{length-present, present-at, present-set, cells-part, cells-set}
+use Rattle.finality.proofs.Cells.{Sized, length-present, present-at, present-set, cells-part, cells-set}
 use Rattle.finality.proofs.Invariant.{stored}
-use Rattle.join.specs.Rows.{Encoded, JoinedRow}
-use Rattle.fixpoint_visit.specs.Laid.{Sized, RowsLaid, RowLaid}
+use Rattle.join.specs.Rows.{JoinedRow}
 use Rattle.fixpoint_visit.specs.News.{rowsVisited}
 use Rattle.fixpoint_visit.specs.Visits.{JoinRequires, JoinEnsures}
-use Rattle.model.proofs.Facts.{facts-back}
+use Rattle.model.proofs.Facts.{read-back, lies-back, lies-kinds, row-below}
 
 -- the row of q ends within the table
 pub row-end : {n q : ℕ} (s : ℕ) → q < n → q * s + s ≤ n * s
 row-end {n} {q} s h = omega (arith, mul-le-mul-right s h)
 
 -- as many rows as present bytes
-pub rows-are : (s : ℕ) (rows : List (Option Row)) (present kinds values : List ℕ) → RowsLaid s rows present kinds values → length present ≡ length rows
-rows-are s rows present kinds values t = ap length (t .present-are) ∙ length-present rows
+pub rows-are : {s : ℕ} {rows : List (Option Row)} {t : TableSlices} → RowsLie s rows t → length (t .present) ≡ length rows
+rows-are {rows = rows} l = ap length (l .present-are) ∙ length-present rows
 
 -- ---- a part of the tables
 
@@ -52,22 +51,32 @@ sized-set s q rows x z h l p r e = go (stored rows q x p r h e)
     go (inl w) = rw (w .1) l
     go (inr k) = z p r k
 
-absent : (o : Option Row) → presentByte o ≡ 0 → o ≡ none
+not-there : (o : Option Row) → presentByte o ≡ 0 → o ≡ none
 unfolding presentByte
-absent none e = refl
-absent (some r) e = absurd (omega arith)
+not-there none e = refl
+not-there (some r) e = absurd (omega arith)
 
 there : (o : Option Row) → presentByte o ≢ 0 → (r : Row) × (o ≡ some r)
 unfolding presentByte
 there none e = absurd (e refl)
 there (some r) e = (r, refl)
 
--- a row's kinds and values are cells in which facts lie
-encoded-row : (r : Row) (kinds values : List ℕ) → kinds ≡ map kind r → values ≡ map value r → Encoded kinds values
-encoded-row r kinds values k v = record {
-  level = ap length v ∙ length-map r value ∙ sym (ap length k ∙ length-map r kind);
-  values-are = v ∙ ap (map value) (sym (ap₂ factsOf k v ∙ facts-back r));
-}
+-- the row of q, as a part of both tables
+abbrev pub rowPart : ℕ → ℕ → TableSlices → RowSlices
+rowPart s q t = rowSlices (midOf (q * s) (q * s + s - q * s) (t .kinds)) (midOf (q * s) (q * s + s - q * s) (t .values))
+
+pub part-lies : (s q : ℕ) {rows : List (Option Row)} {t : TableSlices} → RowsLie s rows t → {row : Row} → rowAt rows q ≡ some row → RowLies row (rowPart s q t)
+unfolding rowCells
+part-lies s q {rows} l {row} e =
+    let h = row-below rows q row e in record {
+      kinds-are = ap (midOf (q * s) (q * s + s - q * s)) (l .kinds-are) ∙ mid-row kind s q rows (l .sized) h ∙ ap (rowCells kind s) e;
+      values-are = ap (midOf (q * s) (q * s + s - q * s)) (l .values-are) ∙ mid-row value s q rows (l .sized) h ∙ ap (rowCells value s) e;
+    }
+
+-- and the tables with another row there
+abbrev withRow : ℕ → ℕ → TableSlices → List ℕ → RowSlices → TableSlices
+withRow s q t present row =
+    tableSlices present (putMid (q * s) (q * s + s - q * s) (t .kinds) (row .kinds)) (putMid (q * s) (q * s + s - q * s) (t .values) (row .values))
 
 -- ---- the two ways of a visit
 
@@ -77,16 +86,19 @@ module _ (same : ℕ → ℕ → ℕ → ℕ → Bool) where
   length-merged s none copy h k = h
   length-merged s (some old) copy h k = length-joinRow same old copy ∙ k old refl
 
-  module _ (s q : ℕ) (rowKinds rowValues present kinds values kinds′ values′ : List ℕ) where
-    pub visit-absent : getD present q 0 ≡ 0 → kinds′ ≡ rowKinds → values′ ≡ rowValues
-        → JoinEnsures same s q rowKinds rowValues present kinds values (set present q 1) (putMid (q * s) (q * s + s - q * s) kinds kinds′) (putMid (q * s) (q * s + s - q * s) values values′) true
+  module _ (q : ℕ) (row : RowSlices) (t : TableSlices) (new : RowSlices) where
+    abbrev s : ℕ
+    s = length (row .kinds)
+
+    pub visit-absent : getD (t .present) q 0 ≡ 0 → new .kinds ≡ row .kinds → new .values ≡ row .values
+        → JoinEnsures same q row t (withRow (length (row .kinds)) q t (set (t .present) q 1) new) true
     unfolding JoinEnsures rowsVisited merged news presentByte
-    visit-absent e k v rows copy t c h = (
+    visit-absent e k v rows copy l c h = (
       record {
-        sized = sized-set s q rows x (t .sized) h (length-merged s (rowAt rows q) copy (c .sized) (t .sized q));
-        present-are = rw (t .present-are) (sym (present-set rows q (some x)));
-        kinds-are = put-part kind s q rows (t .sized) h kinds kinds′ x (t .kinds-are) (k ∙ c .kinds-are ∙ ap (map kind) (sym is-copy));
-        values-are = put-part value s q rows (t .sized) h values values′ x (t .values-are) (v ∙ c .values-are ∙ ap (map value) (sym is-copy));
+        sized = sized-set s q rows x (l .sized) h (length-merged s (rowAt rows q) copy (sym (lies-kinds c)) (l .sized q));
+        present-are = rw (l .present-are) (sym (present-set rows q (some x)));
+        kinds-are = put-part kind s q rows (l .sized) h (t .kinds) (new .kinds) x (l .kinds-are) (k ∙ c .kinds-are ∙ ap (map kind) (sym is-copy));
+        values-are = put-part value s q rows (l .sized) h (t .values) (new .values) x (l .values-are) (v ∙ c .values-are ∙ ap (map value) (sym is-copy));
       },
       rw m,
     )
@@ -95,73 +107,53 @@ module _ (same : ℕ → ℕ → ℕ → ℕ → Bool) where
         x = merged same (rowAt rows q) copy
 
         m : rowAt rows q ≡ none
-        m = absent (rowAt rows q) (sym (present-at rows q) ∙ (rw (t .present-are) at e))
+        m = not-there (rowAt rows q) (sym (present-at rows q) ∙ (rw (l .present-are) at e))
 
         is-copy : x ≡ copy
         is-copy = rw m
 
     -- where the row stands
-    module _ (r : Bool) (j : JoinedRow same (midOf (q * s) (q * s + s - q * s) kinds) (midOf (q * s) (q * s + s - q * s) values) rowKinds rowValues kinds′ values′ r)
-        (rows : List (Option Row)) (copy : Row) (t : RowsLaid s rows present kinds values) (c : RowLaid s copy rowKinds rowValues) (h : q < length rows)
-        (old : Row) (m : rowAt rows q ≡ some old) where
-      old-is : factsOf (midOf (q * s) (q * s + s - q * s) kinds) (midOf (q * s) (q * s + s - q * s) values) ≡ old
-      unfolding rowCells
-      old-is = rw (t .kinds-are, t .values-are, mid-row kind s q rows (t .sized) h, mid-row value s q rows (t .sized) h, m) (facts-back old)
+    module _ (r : Bool) (j : JoinedRow same (rowPart (length (row .kinds)) q t) row new r) (rows : List (Option Row)) (copy : Row)
+        (l : RowsLie (length (row .kinds)) rows t) (c : RowLies copy row) (h : q < length rows) (old : Row) (m : rowAt rows q ≡ some old) where
+      old-is : factsIn (rowPart (length (row .kinds)) q t) ≡ old
+      old-is = read-back (part-lies s q l m)
 
-      new-is : factsOf rowKinds rowValues ≡ copy
-      new-is = rw (c .kinds-are, c .values-are) (facts-back copy)
-
-      visit-there : RowsLaid s (set rows q (some (merged same (rowAt rows q) copy))) present (putMid (q * s) (q * s + s - q * s) kinds kinds′) (putMid (q * s) (q * s + s - q * s) values values′)
+      visit-there : RowsLie (length (row .kinds)) (set rows q (some (merged same (rowAt rows q) copy))) (withRow (length (row .kinds)) q t (t .present) new)
           × (r ≡ news same (rowAt rows q) copy)
       unfolding merged news presentByte
       visit-there = (
         record {
-          sized = sized-set s q rows (merged same (rowAt rows q) copy) (t .sized) h (length-merged s (rowAt rows q) copy (c .sized) (t .sized q));
-          present-are = t .present-are ∙ sym (set-getD (presentBytes rows) q 0) ∙ rw (present-at rows q, m) (sym (present-set rows q (some (joinRow same old copy))));
-          kinds-are = rw m (put-part kind s q rows (t .sized) h kinds kinds′ (joinRow same old copy) (t .kinds-are) (rw (old-is, new-is) at (j .kinds-are)));
-          values-are = rw m (put-part value s q rows (t .sized) h values values′ (joinRow same old copy) (t .values-are) (rw (old-is, new-is) at (j .values-are)));
+          sized = sized-set s q rows (merged same (rowAt rows q) copy) (l .sized) h (length-merged s (rowAt rows q) copy (sym (lies-kinds c)) (l .sized q));
+          present-are = l .present-are ∙ sym (set-getD (presentBytes rows) q 0) ∙ rw (present-at rows q, m) (sym (present-set rows q (some (joinRow same old copy))));
+          kinds-are = rw m (put-part kind s q rows (l .sized) h (t .kinds) (new .kinds) (joinRow same old copy) (l .kinds-are) (rw (old-is, read-back c) at (j .lies .kinds-are)));
+          values-are = rw m (put-part value s q rows (l .sized) h (t .values) (new .values) (joinRow same old copy) (l .values-are) (rw (old-is, read-back c) at (j .lies .values-are)));
         },
-        rw m (rw (old-is, new-is) at (j .changed-is)),
+        rw m (rw (old-is, read-back c) at (j .changed-is)),
       )
 
-    pub visit-present : (r : Bool) → getD present q 0 ≢ 0
-        → JoinedRow same (midOf (q * s) (q * s + s - q * s) kinds) (midOf (q * s) (q * s + s - q * s) values) rowKinds rowValues kinds′ values′ r
-        → JoinEnsures same s q rowKinds rowValues present kinds values present (putMid (q * s) (q * s + s - q * s) kinds kinds′) (putMid (q * s) (q * s + s - q * s) values values′) r
+    pub visit-present : (r : Bool) → getD (t .present) q 0 ≢ 0 → JoinedRow same (rowPart (length (row .kinds)) q t) row new r
+        → JoinEnsures same q row t (withRow (length (row .kinds)) q t (t .present) new) r
     unfolding JoinEnsures rowsVisited
-    visit-present r e j rows copy t c h =
-        let found : (o : Row) × (rowAt rows q ≡ some o) = there (rowAt rows q) (λ z. e (rw (t .present-are) (present-at rows q ∙ z))) in
-        visit-there r j rows copy t c h (found .0) (found .1)
+    visit-present r e j rows copy l c h =
+        let found : (o : Row) × (rowAt rows q ≡ some o) = there (rowAt rows q) (λ z. e (rw (l .present-are) (present-at rows q ∙ z))) in
+        visit-there r j rows copy l c h (found .0) (found .1)
 
 -- ---- what a visit asks, put to use
 
--- a row that stands there is a row of facts
-encoded : (s q : ℕ) (rows : List (Option Row)) (present kinds values : List ℕ) → RowsLaid s rows present kinds values → q < length rows → (old : Row) → rowAt rows q ≡ some old
-    → Encoded (midOf (q * s) (q * s + s - q * s) kinds) (midOf (q * s) (q * s + s - q * s) values)
-unfolding rowCells
-encoded s q rows present kinds values t h old m =
-    encoded-row old _ _
-    (ap (midOf (q * s) (q * s + s - q * s)) (t .kinds-are) ∙ mid-row kind s q rows (t .sized) h ∙ ap (rowCells kind s) m)
-    (ap (midOf (q * s) (q * s + s - q * s)) (t .values-are) ∙ mid-row value s q rows (t .sized) h ∙ ap (rowCells value s) m)
-
-module _ {q : ℕ} {rowKinds rowValues present kinds values : List ℕ} where
+module _ {q : ℕ} {row : RowSlices} {t : TableSlices} (v : JoinRequires q row t) where
   -- the row of q lies within both tables
-  pub visiting-end : JoinRequires q rowKinds rowValues present kinds values
-      → (q * length rowKinds + length rowKinds ≤ length kinds) × (q * length rowKinds + length rowKinds ≤ length values)
-  visiting-end v = let h = row-end (length rowKinds) (v .below) in (omega (arith, h, v .visitable .kinds-length), omega (arith, h, v .visitable .values-length))
+  pub visiting-end : (q * length (row .kinds) + length (row .kinds) ≤ length (t .kinds)) × (q * length (row .kinds) + length (row .kinds) ≤ length (t .values))
+  visiting-end = let h = row-end (length (row .kinds)) (v .below) in (omega (arith, h, v .visitable .kinds-length), omega (arith, h, v .visitable .values-length))
 
-  pub visiting-row : JoinRequires q rowKinds rowValues present kinds values → getD present q 0 ≢ 0
-      → Encoded (midOf (q * length rowKinds) (q * length rowKinds + length rowKinds - q * length rowKinds) kinds)
-      (midOf (q * length rowKinds) (q * length rowKinds + length rowKinds - q * length rowKinds) values)
-  visiting-row v e =
-      let t = v .visitable .laid in
-      let found : (o : Row) × (rowAt (v .visitable .rows) q ≡ some o) = there (rowAt (v .visitable .rows) q) (λ z. e (rw (t .present-are) (present-at (v .visitable .rows) q ∙ z))) in
-      let h : q < length (v .visitable .rows) = omega (arith, v .below, rows-are (length rowKinds) (v .visitable .rows) present kinds values t) in
-      encoded (length rowKinds) q (v .visitable .rows) present kinds values t h (found .0) (found .1)
+  -- a row that stands there is a row of facts
+  pub visiting-row : getD (t .present) q 0 ≢ 0 → RowLies (factsIn (rowPart (length (row .kinds)) q t)) (rowPart (length (row .kinds)) q t)
+  visiting-row e =
+      let l = v .visitable .rows-lie in
+      let found : (o : Row) × (rowAt (v .visitable .rows) q ≡ some o) = there (rowAt (v .visitable .rows) q) (λ z. e (rw (l .present-are) (present-at (v .visitable .rows) q ∙ z))) in
+      lies-back (part-lies (length (row .kinds)) q l (found .1))
 
   -- and as long as the row to join
-  pub visiting-lengths : JoinRequires q rowKinds rowValues present kinds values
-      → (length rowKinds ≡ length (midOf (q * length rowKinds) (q * length rowKinds + length rowKinds - q * length rowKinds) kinds))
-      × (length rowValues ≡ length (midOf (q * length rowKinds) (q * length rowKinds + length rowKinds - q * length rowKinds) kinds))
-  visiting-lengths v =
-      let k = mid-len (q * length rowKinds) (q * length rowKinds + length rowKinds) kinds (visiting-end v .0) in
+  pub visiting-lengths : let old = rowPart (length (row .kinds)) q t in (length (row .kinds) ≡ length (old .kinds)) × (length (row .values) ≡ length (old .kinds))
+  visiting-lengths =
+      let k = mid-len (q * length (row .kinds)) (q * length (row .kinds) + length (row .kinds)) (t .kinds) (visiting-end .0) in
       (omega (arith, k), omega (arith, k, v .visitable .row-values-length))

@@ -3,7 +3,7 @@
 use mathlib.Core.Path.{_≡_, refl, sym, ap, ap₂, _∙_, subst}
 use mathlib.Core.Bool.{Bool, true, false, cond}
 use mathlib.Core.List.{List, [], _∷_, _++_, List·Memᴰ as Member, List·Memᴰ·head as head, List·Memᴰ·tail as tail}
-use mathlib.Core.Option.{Option, some}
+use mathlib.Core.Option.{Option}
 use Prim.Native.Nat.{ℕ, zero, suc, _+_, _*_, _-_, _≤_, _<_}
 use native.Mathlib.Omega.{arith}
 use lib.Dec.{ltb}
@@ -14,6 +14,7 @@ use Rattle.model.specs.Sheet.{instruction, codeCount}
 use Rattle.model.specs.Successors.{Branch, fallThrough, jump, conditional, forLoop, leave, branch, contains, push, pushValid, pushFallthrough, jumpTarget, forLoopTarget, branchSuccessors, successors, sheetSuccessors, asRecord}
 use Rattle.model.specs.Fact.{Row}
 use Rattle.model.specs.Run.{State, rowAt, news, visit, visits}
+use Rattle.model.specs.Tables.{TableSlices, RowsLie, RowSlices, RowLies}
 use Rattle.model.specs.declared.Instruction.{Instruction}
 use Rattle.model.specs.declared.InstructionSuccessors.{InstructionSuccessors}
 use Rattle.finality.proofs.Lawful.{successors-below}
@@ -23,9 +24,8 @@ use Rattle.sheet.proofs.Counted.{counted}
 use Rattle.sheet.proofs.Asked.{measured}
 use Rattle.sheet.proofs.Inside.{code-inside}
 use Rattle.fixpoint_list.specs.Listed.{entered}
-use Rattle.fixpoint_visit.specs.Laid.{RowsLaid, RowLaid}
 use Rattle.fixpoint_visit.specs.News.{rowsVisited, rowsAfter, newsOf, firstNews, successorAt, withNews}
-use Rattle.fixpoint_visit.specs.Visits.{Visitable, JoinRequires, JoinEnsures, NextRequires, NextEnsures, SuccessorsRequires, SuccessorsEnsures}
+use Rattle.fixpoint_visit.specs.Visits.{JoinEnsures, NextRequires, NextEnsures, SuccessorsRequires, SuccessorsEnsures}
 use Rattle.fixpoint_visit.proofs.Laying.{rows-are}
 
 -- ---- at most two
@@ -167,14 +167,13 @@ module _ (same : ℕ → ℕ → ℕ → ℕ → Bool) (copy : Row) where
 
 -- ---- one of at most two
 
-module _ (same : ℕ → ℕ → ℕ → ℕ → Bool) (successors : InstructionSuccessors) (k : ℕ) (rowKinds rowValues present kinds values present′ kinds′ values′ : List ℕ) (r : Bool) where
-  pub next-joined : NextRequires successors k rowKinds rowValues present kinds values → k < successors .len
-      → JoinEnsures same (length rowKinds) (getD (successors .pcs) k 0) rowKinds rowValues present kinds values present′ kinds′ values′ r
-      → NextEnsures same successors k rowKinds rowValues present kinds values present′ kinds′ values′ r
+module _ (same : ℕ → ℕ → ℕ → ℕ → Bool) (successors : InstructionSuccessors) (k : ℕ) (row : RowSlices) (t : TableSlices) where
+  pub next-joined : (t′ : TableSlices) (r : Bool) → NextRequires successors k row t → k < successors .len → JoinEnsures same (getD (successors .pcs) k 0) row t t′ r
+      → NextEnsures same successors k row t t′ r
   unfolding JoinEnsures NextEnsures successorAt rowsAfter firstNews
-  next-joined n h j rows copy l c = rw (lt-ltb k (successors .len) h) (j rows copy l c (omega (arith, n .below h, rows-are (length rowKinds) rows present kinds values l)))
+  next-joined t′ r n h j rows copy l c = rw (lt-ltb k (successors .len) h) (j rows copy l c (omega (arith, n .below h, rows-are l)))
 
-  pub next-none : successors .len ≤ k → NextEnsures same successors k rowKinds rowValues present kinds values present kinds values false
+  pub next-none : successors .len ≤ k → NextEnsures same successors k row t t false
   unfolding NextEnsures successorAt rowsAfter firstNews
   next-none h rows copy l c = rw (le-ltb k (successors .len) h) (l, refl)
 
@@ -186,7 +185,7 @@ pub next-is : {sheet : List ℕ} {sizes : Sizes} (p : ℕ) (inst : Instruction) 
 unfolding sheetSuccessors
 next-is p inst next a e k = k ∙ ap₂ (λ (n : ℕ) (i : Instruction). asRecord (successors n p i)) (counted (a .are) .code-count) e
 
-module _ {sheet : List ℕ} {sizes : Sizes} {p : ℕ} {rowKinds rowValues present kinds values : List ℕ} (f : SuccessorsRequires sheet sizes p rowKinds rowValues present kinds values) where
+module _ {sheet : List ℕ} {sizes : Sizes} {p : ℕ} {row : RowSlices} {t : TableSlices} (f : SuccessorsRequires sheet sizes p row t) where
   -- what reading the instruction and its successors asks
   pub following-inside : 40 + 8 * p + 8 ≤ length sheet
   following-inside = code-inside (measured (f .accepted)) p (rw (counted (f .accepted .are) .code-count) (f .below))
@@ -201,37 +200,36 @@ module _ {sheet : List ℕ} {sizes : Sizes} {p : ℕ} {rowKinds rowValues presen
         subst (λ (x : InstructionSuccessors). (k : ℕ) → k < x .len → getD (x .pcs) k 0 < codeCount sheet) (sym e)
         (λ k h. successors-below sheet p _ (list-at (sheetSuccessors sheet p) k h))
 
-    pub first-next : NextRequires next 0 rowKinds rowValues present kinds values
+    pub first-next : NextRequires next 0 row t
     first-next = record { among = omega arith; below = λ i. rw (f .present-length) (target-below 0 i); visitable = f .visitable }
 
-    module _ (same : ℕ → ℕ → ℕ → ℕ → Bool) (first : Bool) (present′ kinds′ values′ : List ℕ)
-        (n₁ : NextEnsures same next 0 rowKinds rowValues present kinds values present′ kinds′ values′ first) where
-      first-laid : (rows : List (Option Row)) (copy : Row) → RowsLaid (length rowKinds) rows present kinds values → RowLaid (length rowKinds) copy rowKinds rowValues
-          → RowsLaid (length rowKinds) (rowsAfter same copy (at (sheetSuccessors sheet p) 0) rows) present′ kinds′ values′ × (first ≡ firstNews same copy (at (sheetSuccessors sheet p) 0) rows)
+    module _ (same : ℕ → ℕ → ℕ → ℕ → Bool) (first : Bool) (t′ : TableSlices) (n₁ : NextEnsures same next 0 row t t′ first) where
+      first-lie : (rows : List (Option Row)) (copy : Row) → RowsLie (length (row .kinds)) rows t → RowLies copy row
+          → RowsLie (length (row .kinds)) (rowsAfter same copy (at (sheetSuccessors sheet p) 0) rows) t′ × (first ≡ firstNews same copy (at (sheetSuccessors sheet p) 0) rows)
       unfolding NextEnsures
-      first-laid rows copy l c = rw (ap (λ (x : InstructionSuccessors). successorAt x 0) e ∙ successor-first (sheetSuccessors sheet p)) at (n₁ rows copy l c)
+      first-lie rows copy l c = rw (ap (λ (x : InstructionSuccessors). successorAt x 0) e ∙ successor-first (sheetSuccessors sheet p)) at (n₁ rows copy l c)
 
-      pub second-next : length present′ ≡ length present → length kinds′ ≡ length kinds → length values′ ≡ length values → NextRequires next 1 rowKinds rowValues present′ kinds′ values′
-      second-next hp hk hv = record {
-        among = omega arith;
-        below = λ i. rw (hp, f .present-length) (target-below 1 i);
-        visitable = record {
-          row-values-length = f .visitable .row-values-length;
-          kinds-length = rw (hk, hp) (f .visitable .kinds-length);
-          values-length = rw (hv, hp) (f .visitable .values-length);
-          rows = rowsAfter same (f .visitable .copy) (at (sheetSuccessors sheet p) 0) (f .visitable .rows);
-          copy = f .visitable .copy;
-          laid = first-laid (f .visitable .rows) (f .visitable .copy) (f .visitable .laid) (f .visitable .row-laid) .0;
-          row-laid = f .visitable .row-laid;
-        };
-      }
+      pub second-next : length (t′ .present) ≡ length (t .present) → length (t′ .kinds) ≡ length (t .kinds) → length (t′ .values) ≡ length (t .values) → NextRequires next 1 row t′
+      second-next hp hk hv =
+          let v = f .visitable in record {
+            among = omega arith;
+            below = λ i. rw (hp, f .present-length) (target-below 1 i);
+            visitable = record {
+              row-values-length = v .row-values-length;
+              kinds-length = rw (hk, hp) (v .kinds-length);
+              values-length = rw (hv, hp) (v .values-length);
+              rows = rowsAfter same (v .copy) (at (sheetSuccessors sheet p) 0) (v .rows);
+              copy = v .copy;
+              rows-lie = first-lie (v .rows) (v .copy) (v .rows-lie) (v .copy-lies) .0;
+              copy-lies = v .copy-lies;
+            };
+          }
 
-      pub followed : (second : Bool) (present″ kinds″ values″ : List ℕ) (r : InstructionSuccessors)
-          → NextEnsures same next 1 rowKinds rowValues present′ kinds′ values′ present″ kinds″ values″ second → r ≡ withNews next first second
-          → SuccessorsEnsures same (sheetSuccessors sheet p) rowKinds rowValues present kinds values present″ kinds″ values″ r
+      pub followed : (second : Bool) (t″ : TableSlices) (r : InstructionSuccessors) → NextEnsures same next 1 row t′ t″ second → r ≡ withNews next first second
+          → SuccessorsEnsures same (sheetSuccessors sheet p) row t t″ r
       unfolding NextEnsures SuccessorsEnsures
-      followed second present″ kinds″ values″ r n₂ is rows copy l c =
-          let one = first-laid rows copy l c in
+      followed second t″ r n₂ is rows copy l c =
+          let one = first-lie rows copy l c in
           let two = (rw (ap (λ (x : InstructionSuccessors). successorAt x 1) e ∙ successor-second (sheetSuccessors sheet p)) at (n₂ (rowsAfter same copy (at (sheetSuccessors sheet p) 0) rows) copy (one .0) c)) in (
             rw (rows-both same copy (sheetSuccessors sheet p) (list-length sheet p) rows) at (two .0),
             rw (is, e, one .1, two .1) (news-both same copy (sheetSuccessors sheet p) (list-length sheet p) rows),

@@ -1,4 +1,3 @@
--- How rows lie in the lent slices, and what visits make of them
-pub mod Laid
+-- What visits ask, and what they make of the rows that lie in the lent slices
 pub mod News
 pub mod Visits

@@ -1,7 +1,8 @@
 // The successors of an instruction, at most two.
 ghost use mathlib.Core.Path.{_≡_};
-ghost use lib.ListN.{length};
+ghost use Rattle.model.specs.Promise.{lentRow, lentRows};
 ghost use Rattle.model.specs.Successors.{sheetSuccessors};
+ghost use Rattle.model.specs.Tables.{rowSlices, tableSlices};
 ghost use Rattle.sheet_layouts.specs.Classes.{equalBy};
 ghost use Rattle.fixpoint_visit.specs.News.{withNews};
 ghost use Rattle.fixpoint_visit.specs.Visits.{NextRequires, NextEnsures, SuccessorsRequires, SuccessorsEnsures};
@@ -24,8 +25,12 @@ fn join_next(
     kinds: &mut [u8],
     values: &mut [u64],
 ) -> bool
-    requires { ⌜ NextRequires successors k (now «row_kinds») (now «row_values») (now present) (now kinds) (now values) ⌝ }
-    ensures { λ r. ⌜ NextEnsures (equalBy which (now (classes .entry))) successors k (now («row_kinds» .entry)) (now («row_values» .entry)) (now (present .entry)) (now (kinds .entry)) (now (values .entry)) (now (present .exit)) (now (kinds .exit)) (now (values .exit)) r ⌝ }
+    requires { ⌜ NextRequires successors k (rowSlices (now «row_kinds») (now «row_values»)) (tableSlices (now present) (now kinds) (now values)) ⌝ }
+    ensures { λ r. ⌜ (
+        let row = lentRow «row_kinds» «row_values» in
+        let t = lentRows present kinds values in
+        NextEnsures (equalBy which (now (classes .entry))) successors k (row .entry) (t .entry) (t .exit) r
+        ) ⌝ }
 {
     let len = successors.len as usize;
     if k < len {
@@ -84,8 +89,12 @@ pub fn visit_successors(
     kinds: &mut [u8],
     values: &mut [u64],
 ) -> InstructionSuccessors
-    requires { ⌜ SuccessorsRequires (now sheet) sizes p (now «row_kinds») (now «row_values») (now present) (now kinds) (now values) ⌝ }
-    ensures { λ r. ⌜ SuccessorsEnsures (equalBy which (now (classes .entry))) (sheetSuccessors (now (sheet .entry)) p) (now («row_kinds» .entry)) (now («row_values» .entry)) (now (present .entry)) (now (kinds .entry)) (now (values .entry)) (now (present .exit)) (now (kinds .exit)) (now (values .exit)) r ⌝ }
+    requires { ⌜ SuccessorsRequires (now sheet) sizes p (rowSlices (now «row_kinds») (now «row_values»)) (tableSlices (now present) (now kinds) (now values)) ⌝ }
+    ensures { λ r. ⌜ (
+        let row = lentRow «row_kinds» «row_values» in
+        let t = lentRows present kinds values in
+        SuccessorsEnsures (equalBy which (now (classes .entry))) (sheetSuccessors (now (sheet .entry)) p) (row .entry) (t .entry) (t .exit) r
+        ) ⌝ }
 {
     let next = instruction_successors(sizes.code_count, p, instruction_at(sheet, p));
     let first = join_next(

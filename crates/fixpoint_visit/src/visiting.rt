@@ -1,6 +1,6 @@
 // One successor of a step: its row gets the copy or is joined with it.
-ghost use Prim.Native.Nat.{_+_, _*_, _<_};
-ghost use lib.ListN.{length};
+ghost use Rattle.model.specs.Promise.{lentRow, lentRows};
+ghost use Rattle.model.specs.Tables.{rowSlices, tableSlices};
 ghost use Rattle.sheet_layouts.specs.Classes.{equalBy};
 ghost use Rattle.fixpoint_visit.specs.Visits.{JoinRequires, JoinEnsures};
 use join::join_row;
@@ -19,8 +19,12 @@ pub fn join_into(
     kinds: &mut [u8],
     values: &mut [u64],
 ) -> bool
-    requires { ⌜ JoinRequires q (now «row_kinds») (now «row_values») (now present) (now kinds) (now values) ⌝ }
-    ensures { λ r. ⌜ JoinEnsures (equalBy which (now (classes .entry))) (length (now («row_kinds» .entry))) q (now («row_kinds» .entry)) (now («row_values» .entry)) (now (present .entry)) (now (kinds .entry)) (now (values .entry)) (now (present .exit)) (now (kinds .exit)) (now (values .exit)) r ⌝ }
+    requires { ⌜ JoinRequires q (rowSlices (now «row_kinds») (now «row_values»)) (tableSlices (now present) (now kinds) (now values)) ⌝ }
+    ensures { λ r. ⌜ (
+        let row = lentRow «row_kinds» «row_values» in
+        let t = lentRows present kinds values in
+        JoinEnsures (equalBy which (now (classes .entry))) q (row .entry) (t .entry) (t .exit) r
+        ) ⌝ }
 {
     let s = row_kinds.len();
     let at = q * s;

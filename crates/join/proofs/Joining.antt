@@ -10,19 +10,20 @@ use native.Mathlib.Omega.{arith}
 use lib.ListN.{length, getD, set, take, drop, length-map, length-set}
 use lib.Seq.{take-all, set-getD}
 use Rattle.model.specs.Fact.{Fact, kind, value, differs, rowDiffers, join}
-use Rattle.model.specs.Tables.{factOf, factsOf, factIn, cellOf}
+use Rattle.model.specs.Tables.{rowSlices, RowLies, factOf, factsOf, factIn, cellOf}
 use Rattle.model.specs.declared.FactCell.{FactCell}
-use Rattle.join.specs.Rows.{Encoded, JoinedRow}
+use Rattle.join.specs.Rows.{JoinedRow}
 use Rattle.join.proofs.Cells.{cell}
 use Rattle.join.proofs.Fill.{fill-get, fill-set, fill-done}
 use Rattle.join.proofs.Changes.{kept, same-kind, other-kind}
-use Rattle.model.proofs.Facts.{length-facts}
+use Rattle.model.proofs.Facts.{length-facts, lies-kinds, lies-values}
 use Rattle.join.proofs.Joined.{factsOf-get, or-false, joined, joinAt, changedTo, length-joinRow, joined-get, changedTo-suc}
 use mathlib.Core.Bool.{or-true}
 
 pub record Partly (same : ℕ → ℕ → ℕ → ℕ → Bool) (ok ov nk nv kinds values : List ℕ) (changed : Bool) (i : ℕ) : Type 0 where
   pub within : i ≤ length ok
-  pub encoded : Encoded ok ov
+  pub lies : RowLies (factsOf ok ov) (rowSlices ok ov)
+  pub level : length ov ≡ length ok
   pub nk-long : length nk ≡ length ok
   pub nv-long : length nv ≡ length ok
   pub kinds-long : length kinds ≡ length ok
@@ -37,15 +38,16 @@ module _ {same : ℕ → ℕ → ℕ → ℕ → Bool} {ok ov nk nv : List ℕ} 
       → Partly same ok ov nk nv k v ch i → Partly same ok ov nk nv kinds values changed i
   carried a b c p = rw (a, b, c) p
 
-  pub partly-start : Encoded ok ov → length nk ≡ length ok → length nv ≡ length ok → Partly same ok ov nk nv ok ov false 0
+  pub partly-start : RowLies (factsOf ok ov) (rowSlices ok ov) → length nk ≡ length ok → length nv ≡ length ok → Partly same ok ov nk nv ok ov false 0
   unfolding changedTo rowDiffers
   partly-start e a b = record {
     within = omega arith;
-    encoded = e;
+    lies = e;
+    level = lies-values e ∙ sym (lies-kinds e);
     nk-long = a;
     nv-long = b;
     kinds-long = refl;
-    values-long = e .level;
+    values-long = lies-values e ∙ sym (lies-kinds e);
     kinds-are = refl;
     values-are = refl;
     changed-is = refl;
@@ -53,17 +55,19 @@ module _ {same : ℕ → ℕ → ℕ → ℕ → Bool} {ok ov nk nv : List ℕ} 
 
   module _ {kinds values : List ℕ} {changed : Bool} {i : ℕ} (p : Partly same ok ov nk nv kinds values changed i) where
     long : (f : Fact → ℕ) → length (map f (joined same ok ov nk nv)) ≡ length ok
-    long f = length-map (joined same ok ov nk nv) f ∙ length-joinRow same (factsOf ok ov) (factsOf nk nv) ∙ length-facts ok ov (p .encoded .level)
+    long f = length-map (joined same ok ov nk nv) f ∙ length-joinRow same (factsOf ok ov) (factsOf nk nv) ∙ length-facts ok ov (p .level)
 
-    pub partly-end : length kinds ≤ i → JoinedRow same ok ov nk nv kinds values changed
+    pub partly-end : length kinds ≤ i → JoinedRow same (rowSlices ok ov) (rowSlices nk nv) (rowSlices kinds values) changed
     unfolding changedTo
     partly-end h =
         let end : i ≡ length ok = omega (arith, p .within, p .kinds-long) in
-        let all : length (joined same ok ov nk nv) ≡ i = length-joinRow same (factsOf ok ov) (factsOf nk nv) ∙ length-facts ok ov (p .encoded .level) ∙ sym end in
+        let all : length (joined same ok ov nk nv) ≡ i = length-joinRow same (factsOf ok ov) (factsOf nk nv) ∙ length-facts ok ov (p .level) ∙ sym end in
         record {
-          kinds-are = p .kinds-are ∙ fill-done (map kind (joined same ok ov nk nv)) ok i (sym (long kind)) (omega (arith, long kind));
-          values-are = p .values-are ∙ fill-done (map value (joined same ok ov nk nv)) ov i (p .encoded .level ∙ sym (long value)) (omega (arith, long value));
-          changed-is = rw (take-all i (factsOf ok ov) (omega (arith, length-facts ok ov (p .encoded .level))), take-all i (joined same ok ov nk nv) (omega (arith, all))) at (p .changed-is);
+          lies = record {
+            kinds-are = p .kinds-are ∙ fill-done (map kind (joined same ok ov nk nv)) ok i (sym (long kind)) (omega (arith, long kind));
+            values-are = p .values-are ∙ fill-done (map value (joined same ok ov nk nv)) ov i (p .level ∙ sym (long value)) (omega (arith, long value));
+          };
+          changed-is = rw (take-all i (factsOf ok ov) (omega (arith, length-facts ok ov (p .level))), take-all i (joined same ok ov nk nv) (omega (arith, all))) at (p .changed-is);
         }
 
     module _ (h : i < length kinds) where
@@ -74,7 +78,7 @@ module _ {same : ℕ → ℕ → ℕ → ℕ → Bool} {ok ov nk nv : List ℕ} 
       at-kind = rw (p .kinds-are) (fill-get (map kind (joined same ok ov nk nv)) ok i (sym (long kind)))
 
       at-value : getD values i 0 ≡ getD ov i 0
-      at-value = rw (p .values-are) (fill-get (map value (joined same ok ov nk nv)) ov i (p .encoded .level ∙ sym (long value)))
+      at-value = rw (p .values-are) (fill-get (map value (joined same ok ov nk nv)) ov i (p .level ∙ sym (long value)))
 
       here : Fact
       here = joinAt same ok ov nk nv i
@@ -83,18 +87,19 @@ module _ {same : ℕ → ℕ → ℕ → ℕ → Bool} {ok ov nk nv : List ℕ} 
       unfolding here
       step ch e = record {
         within = omega (arith, below);
-        encoded = p .encoded;
+        lies = p .lies;
+        level = p .level;
         nk-long = p .nk-long;
         nv-long = p .nv-long;
         kinds-long = length-set kinds i (kind here) ∙ p .kinds-long;
         values-long = length-set values i (value here) ∙ p .values-long;
         kinds-are =
-            rw (add-one i, p .kinds-are, ← (joined-get same kind ok ov nk nv i (p .encoded .level) (p .nk-long) (p .nv-long) below))
+            rw (add-one i, p .kinds-are, ← (joined-get same kind ok ov nk nv i (p .level) (p .nk-long) (p .nv-long) below))
             (fill-set (map kind (joined same ok ov nk nv)) ok i (rw (long kind) below) (sym (long kind)));
         values-are =
-            rw (add-one i, p .values-are, ← (joined-get same value ok ov nk nv i (p .encoded .level) (p .nk-long) (p .nv-long) below))
-            (fill-set (map value (joined same ok ov nk nv)) ov i (rw (long value) below) (p .encoded .level ∙ sym (long value)));
-        changed-is = e ∙ rw (add-one i, changedTo-suc same ok ov nk nv i (p .encoded .level) (p .nk-long) (p .nv-long) below, p .changed-is);
+            rw (add-one i, p .values-are, ← (joined-get same value ok ov nk nv i (p .level) (p .nk-long) (p .nv-long) below))
+            (fill-set (map value (joined same ok ov nk nv)) ov i (rw (long value) below) (p .level ∙ sym (long value)));
+        changed-is = e ∙ rw (add-one i, changedTo-suc same ok ov nk nv i (p .level) (p .nk-long) (p .nv-long) below, p .changed-is);
       }
 
       -- the cell at i, joined by the code
@@ -112,7 +117,7 @@ module _ {same : ℕ → ℕ → ℕ → ℕ → Bool} {ok ov nk nv : List ℕ} 
         value-is = ap (λ (x : FactCell). x .value) is
 
         encoded-here : getD ov i 0 ≡ value (factOf (getD ok i 0) (getD ov i 0))
-        encoded-here = ap (λ (l : List ℕ). getD l i 0) (p .encoded .values-are) ∙ factsOf-get value ok ov i (p .encoded .level) below
+        encoded-here = ap (λ (l : List ℕ). getD l i 0) (p .lies .values-are) ∙ factsOf-get value ok ov i (p .level) below
 
         -- what the code stores where the kind is another
         pub partly-changed : c .kind ≢ getD kinds i 0 → Partly same ok ov nk nv (set kinds i (c .kind)) (set values i (c .value)) true (i + 1)

@@ -7,5 +7,3 @@ pub mod Fill
 pub mod Changes
 pub mod Joined
 pub mod Joining
--- For callers: rows that lie in the tables
-pub mod Encoding

@@ -1,20 +1,12 @@
--- Rows as they lie in kinds and values.
+-- What the join of a row leaves.
 -- Assumes nothing.
 use mathlib.Core.Path.{_≡_}
 use mathlib.Core.Bool.{Bool}
-use mathlib.Core.List.{List, map}
 use Prim.Native.Nat.{ℕ}
-use lib.ListN.{length}
-use Rattle.model.specs.Fact.{kind, value, rowDiffers, joinRow}
-use Rattle.model.specs.Tables.{factsOf}
+use Rattle.model.specs.Fact.{rowDiffers, joinRow}
+use Rattle.model.specs.Tables.{RowSlices, RowLies, factsIn}
 
--- Cells in which facts lie: as many values as kinds, and "value 0" for Unknown and Conflict.
-pub record Encoded (kinds values : List ℕ) : Type 0 where
-  pub level : length values ≡ length kinds
-  pub values-are : values ≡ map value (factsOf kinds values)
-
--- What the join of a row leaves in kinds and values, and what it answers.
-pub record JoinedRow (same : ℕ → ℕ → ℕ → ℕ → Bool) (oldKinds oldValues newKinds newValues kinds values : List ℕ) (changed : Bool) : Type 0 where
-  pub kinds-are : kinds ≡ map kind (joinRow same (factsOf oldKinds oldValues) (factsOf newKinds newValues))
-  pub values-are : values ≡ map value (joinRow same (factsOf oldKinds oldValues) (factsOf newKinds newValues))
-  pub changed-is : changed ≡ rowDiffers (factsOf oldKinds oldValues) (joinRow same (factsOf oldKinds oldValues) (factsOf newKinds newValues))
+-- "joined into it slot by slot, the old fact first": the joined row, and whether "a kind or value changed"
+pub record JoinedRow (same : ℕ → ℕ → ℕ → ℕ → Bool) (old new after : RowSlices) (changed : Bool) : Type 0 where
+  pub lies : RowLies (joinRow same (factsIn old) (factsIn new)) after
+  pub changed-is : changed ≡ rowDiffers (factsIn old) (joinRow same (factsIn old) (factsIn new))

@@ -2,9 +2,10 @@
 ghost use mathlib.Core.Path.{_≡_};
 ghost use lib.ListN.{length};
 ghost use Rattle.model.specs.Fact.{join};
-ghost use Rattle.model.specs.Tables.{factIn, cellOf};
+ghost use Rattle.model.specs.Promise.{lentRow};
+ghost use Rattle.model.specs.Tables.{rowSlices, RowLies, factIn, cellOf, factsIn};
 ghost use Rattle.sheet_layouts.specs.Classes.{equalBy};
-ghost use Rattle.join.specs.Rows.{Encoded, JoinedRow};
+ghost use Rattle.join.specs.Rows.{JoinedRow};
 use crate::containers::merge_container_fact;
 use crate::facts::merge_constant_fact;
 use crate::facts::merge_index_check_fact;
@@ -32,9 +33,13 @@ pub fn join_row(
     new_kinds: &[u8],
     new_values: &[u64],
 ) -> bool
-    requires { ⌜ Encoded (now kinds) (now values) ⌝ }
+    requires { ⌜ (let row = rowSlices (now kinds) (now values) in RowLies (factsIn row) row) ⌝ }
     requires { ⌜ (length (now «new_kinds») ≡ length (now kinds)) × (length (now «new_values») ≡ length (now kinds)) ⌝ }
-    ensures { λ r. ⌜ JoinedRow (equalBy which (now (classes .entry))) (now (kinds .entry)) (now (values .entry)) (now («new_kinds» .entry)) (now («new_values» .entry)) (now (kinds .exit)) (now (values .exit)) r ⌝ }
+    ensures { λ r. ⌜ (
+        let row = lentRow kinds values in
+        let new = lentRow «new_kinds» «new_values» in
+        JoinedRow (equalBy which (now (classes .entry))) (row .entry) (new .entry) (row .exit) r
+        ) ⌝ }
 {
     let mut changed = false;
     let mut i = 0;

@@ -1,14 +1,14 @@
 -- Facts and rows as kinds and values, and rows in tables.
 -- Assumes nothing.
-use mathlib.Core.Path.{_≡_, refl, ap, ap₂}
+use mathlib.Core.Path.{_≡_, refl, sym, ap, ap₂, _∙_}
 use mathlib.Core.List.{List, [], _∷_, map}
 use mathlib.Core.Option.{Option, some}
 use Prim.Native.Nat.{ℕ, zero, suc, _<_, suc-le-suc}
 use native.Mathlib.Omega.{arith}
-use lib.ListN.{length}
+use lib.ListN.{length, length-map}
 use Rattle.model.specs.Fact.{Fact, unknown, conflict, known, Row, kind, value}
 use Rattle.model.specs.Run.{rowAt}
-use Rattle.model.specs.Tables.{factOf, factsOf}
+use Rattle.model.specs.Tables.{RowSlices, RowLies, factOf, factsOf, factsIn}
 
 -- a fact is what its kind and value stand for
 pub fact-back : (f : Fact) → factOf (kind f) (value f) ≡ f
@@ -22,6 +22,22 @@ pub facts-back : (r : Row) → factsOf (map kind r) (map value r) ≡ r
 unfolding factsOf
 facts-back [] = refl
 facts-back (f ∷ fs) = ap₂ _∷_ (fact-back f) (facts-back fs)
+
+-- a row that lies in its slices
+module _ {row : Row} {r : RowSlices} (l : RowLies row r) where
+  -- is read back from them
+  pub read-back : factsIn r ≡ row
+  read-back = ap₂ factsOf (l .kinds-are) (l .values-are) ∙ facts-back row
+
+  pub lies-back : RowLies (factsIn r) r
+  lies-back = record { kinds-are = l .kinds-are ∙ ap (map kind) (sym read-back); values-are = l .values-are ∙ ap (map value) (sym read-back) }
+
+  -- and is as long as each of them
+  pub lies-kinds : length (r .kinds) ≡ length row
+  lies-kinds = ap length (l .kinds-are) ∙ length-map row kind
+
+  pub lies-values : length (r .values) ≡ length row
+  lies-values = ap length (l .values-are) ∙ length-map row value
 
 -- a present row is one of the rows
 pub row-below : (rows : List (Option Row)) (p : ℕ) (r : Row) → rowAt rows p ≡ some r → p < length rows

@@ -5,10 +5,25 @@ use Prim.Native.Nat.{ℕ}
 use denote.Ref.{RefT, now}
 use denote.Triple.Both.{Both}
 use Rattle.model.specs.Call.{Table, Scratch, Lent, lent}
+use Rattle.model.specs.Tables.{RowSlices, rowSlices, TableSlices, tableSlices}
 
 -- a lent slice, as a promise has it
 abbrev pub Slice : Type 0
 Slice = Both (RefT (List ℕ)) (RefT (List ℕ))
+
+-- the kinds and the values of a row
+abbrev pub lentRow : Slice → Slice → Both RowSlices RowSlices
+lentRow kinds values = record {
+  entry = rowSlices (now (kinds .entry)) (now (values .entry));
+  exit = rowSlices (now (kinds .exit)) (now (values .exit));
+}
+
+-- the tables of a run
+abbrev pub lentRows : Slice → Slice → Slice → Both TableSlices TableSlices
+lentRows present kinds values = record {
+  entry = tableSlices (now (present .entry)) (now (kinds .entry)) (now (values .entry));
+  exit = tableSlices (now (present .exit)) (now (kinds .exit)) (now (values .exit));
+}
 
 -- the output of an analysis
 abbrev pub lentTable : Slice → Slice → Slice → Slice → Both Table Table

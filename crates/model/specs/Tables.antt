@@ -1,10 +1,12 @@
 -- "Tables": how the rows of a run, and its work list, lie in lent memory.
 -- Assumes nothing.
+use mathlib.Core.Path.{_≡_}
 use mathlib.Core.List.{List, [], _∷_, _++_, map, reverse}
 use mathlib.Core.Option.{Option, none, some}
 use Prim.Native.Nat.{ℕ, zero, suc, _*_, _-_}
 use lib.ListN.{length, getD, replicate, take, drop}
 use Rattle.model.specs.Fact.{Fact, unknown, conflict, known, kind, value, Row}
+use Rattle.model.specs.Run.{rowAt}
 use Rattle.model.specs.declared.FactCell.{FactCell}
 
 -- ---- from rows to tables
@@ -28,6 +30,35 @@ rowCells f s (some r) = map f r
 unfoldable pub cells : (Fact → ℕ) → ℕ → List (Option Row) → List ℕ
 cells f s [] = []
 cells f s (o ∷ os) = rowCells f s o ++ cells f s os
+
+-- "present bytes (n, 0 or 1), and n × s kind bytes and 64-bit values"
+pub record TableSlices : Type 0 where
+  pub present : List ℕ
+  pub kinds : List ℕ
+  pub values : List ℕ
+
+abbrev pub tableSlices : List ℕ → List ℕ → List ℕ → TableSlices
+tableSlices present kinds values = record { present = present; kinds = kinds; values = values }
+
+-- the rows lie in the tables, each of s facts
+pub record RowsLie (s : ℕ) (rows : List (Option Row)) (t : TableSlices) : Type 0 where
+  pub sized : (p : ℕ) (row : Row) → rowAt rows p ≡ some row → length row ≡ s
+  pub present-are : t .present ≡ presentBytes rows
+  pub kinds-are : t .kinds ≡ cells kind s rows
+  pub values-are : t .values ≡ cells value s rows
+
+-- "the row of an instruction is handed on as a part of both": the kinds and the values of a row
+pub record RowSlices : Type 0 where
+  pub kinds : List ℕ
+  pub values : List ℕ
+
+abbrev pub rowSlices : List ℕ → List ℕ → RowSlices
+rowSlices kinds values = record { kinds = kinds; values = values }
+
+-- the row lies in them
+pub record RowLies (row : Row) (r : RowSlices) : Type 0 where
+  pub kinds-are : r .kinds ≡ map kind row
+  pub values-are : r .values ≡ map value row
 
 -- The work list in its buffer of `room` numbers: the entry added last lies highest, and zeros above it.
 unfoldable pub stacked : ℕ → List ℕ → List ℕ
@@ -54,6 +85,10 @@ unfoldable pub factsOf : List ℕ → List ℕ → Row
 factsOf [] values = []
 factsOf (k ∷ kinds) [] = []
 factsOf (k ∷ kinds) (v ∷ values) = factOf k v ∷ factsOf kinds values
+
+-- the facts of a row's slices
+abbrev pub factsIn : RowSlices → Row
+factsIn r = factsOf (r .kinds) (r .values)
 
 -- "the row of an instruction is handed on as a part of both": the s cells of kinds and of values from p × s
 unfoldable pub tableRow : ℕ → List ℕ → List ℕ → ℕ → Row

@@ -3,12 +3,13 @@ ghost use mathlib.Core.Path.{_≡_};
 ghost use Prim.Native.Nat.{_<_};
 ghost use lib.ListN.{length};
 ghost use Rattle.model.specs.Fact.{Row};
+ghost use Rattle.model.specs.Promise.{lentRow};
 ghost use Rattle.model.specs.Sheet.{codeCount, firstRange};
-ghost use Rattle.model.specs.Tables.{factIn, factsOf};
+ghost use Rattle.model.specs.Tables.{RowLies, factIn, factsIn};
 ghost use Rattle.model.specs.Transfer.{checkedFrom, indexChecked, transferRow};
 ghost use Rattle.memory.specs.Front.{Holds};
 ghost use Rattle.sheet.specs.Measured.{Accepted};
-ghost use Rattle.fact_row.specs.Rows.{ReadableRow, WritableRow, Lies};
+ghost use Rattle.fact_row.specs.Rows.{ReadableRow, WritableRow};
 ghost use Rattle.transfer.specs.Analysis.{checksIndex};
 use fact_row::checked_cell;
 use fact_row::set_fact;
@@ -45,7 +46,11 @@ fn set_checked(
     values: &mut [u64],
 )
     requires { ⌜ WritableRow (now slots) (now kinds) (now values) ⌝ }
-    ensures { λ r. ⌜ ((row : Row) → Lies row (now (kinds .entry)) (now (values .entry)) → Lies (indexChecked (checksIndex which (inst .op)) inst (now (slots .entry)) (checkedFrom (factIn «length_fact»)) row) (now (kinds .exit)) (now (values .exit))) ⌝ }
+    ensures { λ r. ⌜ (
+        let out = lentRow kinds values in
+        let fact = checkedFrom (factIn «length_fact») in
+        (row : Row) → RowLies row (out .entry) → RowLies (indexChecked (checksIndex which (inst .op)) inst (now (slots .entry)) fact row) (out .exit)
+        ) ⌝ }
 {
     if checks_index(which, inst.op) {
         set_fact(
@@ -74,8 +79,15 @@ pub fn transfer_row(
     out_values: &mut [u64],
 )
     requires { ⌜ Accepted (now sheet) sizes × Holds (firstRange (now sheet)) (codeCount (now sheet)) (now firsts) × (pc < sizes .«code_count») ⌝ }
-    requires { ⌜ ReadableRow (now slots) (now kinds) (now values) × (length (now «out_kinds») ≡ length (now slots)) × (length (now «out_values») ≡ length (now slots)) ⌝ }
-    ensures { λ r. ⌜ Lies (transferRow which (now (sheet .entry)) (now (slots .entry)) (λ p. factIn «length_fact») pc (factsOf (now (kinds .entry)) (now (values .entry)))) (now («out_kinds» .exit)) (now («out_values» .exit)) ⌝ }
+    requires { ⌜ (
+        ReadableRow (now slots) (now kinds) (now values)
+        × (length (now «out_kinds») ≡ length (now slots)) × (length (now «out_values») ≡ length (now slots))
+        ) ⌝ }
+    ensures { λ r. ⌜ (
+        let old = lentRow kinds values in
+        let out = lentRow «out_kinds» «out_values» in
+        RowLies (transferRow which (now (sheet .entry)) (now (slots .entry)) (λ p. factIn «length_fact») pc (factsIn (old .entry))) (out .exit)
+        ) ⌝ }
 {
     let inst = sheet_fields::instruction_at(sheet, pc);
     let effect = effect_of(which, sheet, sizes, slots, kinds, values, pc, inst);

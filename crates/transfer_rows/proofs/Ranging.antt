@@ -11,6 +11,7 @@ use native.Mathlib.Omega.{arith}
 use lib.ListN.{length, getD, set}
 use borrow.Author.Tests.{lt-ltb, le-ltb}
 use Rattle.model.specs.Lookup.{ascends}
+use Rattle.model.specs.Tables.{rowSlices}
 use Rattle.model.specs.Written.{inRange}
 use Rattle.model.specs.declared.FactCell.{FactCell}
 use Rattle.transfer_written.specs.Ranges.{holdsSlot, slotRangeCount, slotRange}
@@ -64,7 +65,7 @@ module _ (slots : List ℕ) (start count : ℕ) (cell : ℕ → FactCell) (kinds
           values-partly = pv;
         }
 
-    done : ((k : ℕ) → j ≤ k → k < length slots → inRange (getD slots k 0) start count ≡ false) → Wrote slots (λ slot. inRange slot start count) cell kinds values kinds′ values′
+    done : ((k : ℕ) → j ≤ k → k < length slots → inRange (getD slots k 0) start count ≡ false) → Wrote slots (λ slot. inRange slot start count) cell (rowSlices kinds values) (rowSlices kinds′ values′)
     done h =
         wrote slots (λ slot. inRange slot start count) cell kinds values (w .long .0) (w .long .1) kinds′ values′
         (w .kinds-partly .long)
@@ -72,10 +73,10 @@ module _ (slots : List ℕ) (start count : ℕ) (cell : ℕ → FactCell) (kinds
         (front-written-all _ _ kinds (w .kinds-partly) (λ k m u. h k m (omega (arith, w .long))))
         (front-written-all _ _ values (w .values-partly) (λ k m u. h k m (omega (arith, w .long))))
 
-    pub written-all : length slots ≤ j → Wrote slots (λ slot. inRange slot start count) cell kinds values kinds′ values′
+    pub written-all : length slots ≤ j → Wrote slots (λ slot. inRange slot start count) cell (rowSlices kinds values) (rowSlices kinds′ values′)
     written-all h = done (λ k m u. absurd (omega arith))
 
-    pub written-range : ascends slots ≡ true → j < length slots → count ≤ getD slots j 0 - start → Wrote slots (λ slot. inRange slot start count) cell kinds values kinds′ values′
+    pub written-range : ascends slots ≡ true → j < length slots → count ≤ getD slots j 0 - start → Wrote slots (λ slot. inRange slot start count) cell (rowSlices kinds values) (rowSlices kinds′ values′)
     written-range asc h l = done (λ k m u. sym (from-start (getD slots k 0) start count (w .from k m u)) ∙ le-ltb _ _ (later k u (eq-or-lt-of-le m)))
       where
         later : (k : ℕ) → k < length slots → (j ≡ k) ⊎ (j < k) → count ≤ getD slots k 0 - start
@@ -85,7 +86,7 @@ module _ (slots : List ℕ) (start count : ℕ) (cell : ℕ → FactCell) (kinds
 -- a range behind all slots
 pub wrote-beyond : (slots : List ℕ) (start count : ℕ) (cell : ℕ → FactCell) (kinds values : List ℕ)
     → length kinds ≡ length slots → length values ≡ length slots → ((k : ℕ) → k < length slots → getD slots k 0 < start)
-    → Wrote slots (λ slot. inRange slot start count) cell kinds values kinds values
+    → Wrote slots (λ slot. inRange slot start count) cell (rowSlices kinds values) (rowSlices kinds values)
 wrote-beyond slots start count cell kinds values nk nv h =
     wrote slots (λ slot. inRange slot start count) cell kinds values nk nv kinds values refl refl
     (λ k l. rw (← before (getD slots k 0) start count (h k (omega arith))))
@@ -93,7 +94,7 @@ wrote-beyond slots start count cell kinds values nk nv h =
 
 -- no slots at all
 pub wrote-nowhere : (slots : List ℕ) (writes : ℕ → Bool) (cell : ℕ → FactCell) (kinds values : List ℕ) → length slots ≡ 0 → length kinds ≡ length slots → length values ≡ length slots
-    → Wrote slots writes cell kinds values kinds values
+    → Wrote slots writes cell (rowSlices kinds values) (rowSlices kinds values)
 wrote-nowhere slots writes cell kinds values none nk nv =
     wrote slots writes cell kinds values nk nv kinds values refl refl (λ k l. absurd (omega arith)) (λ k l. absurd (omega arith))
 
@@ -111,7 +112,7 @@ last-below slots start asc h k l = let m : k ≤ length slots - 1 = omega arith 
 pub record Ranging (w : Written) (sheet slots : List ℕ) (cell : ℕ → FactCell) (kinds values kinds′ values′ : List ℕ) (i : ℕ) : Type 0 where
   pub within : i ≤ slotRangeCount w
   pub kinds-long : length kinds ≡ length slots
-  pub is : Wrote slots (among w sheet i) cell kinds values kinds′ values′
+  pub is : Wrote slots (among w sheet i) cell (rowSlices kinds values) (rowSlices kinds′ values′)
 
 module _ (w : Written) (sheet slots : List ℕ) (cell : ℕ → FactCell) (kinds values : List ℕ) where
   pub ranging-start : length kinds ≡ length slots → length values ≡ length slots → Ranging w sheet slots cell kinds values kinds values 0
@@ -124,7 +125,7 @@ module _ (w : Written) (sheet slots : List ℕ) (cell : ℕ → FactCell) (kinds
 
   module _ {kinds′ values′ : List ℕ} {i : ℕ} (r : Ranging w sheet slots cell kinds values kinds′ values′ i) where
     pub ranging-more : {kinds″ values″ : List ℕ} {range : SlotRange} → i < slotRangeCount w → range ≡ slotRange w sheet i
-        → Wrote slots (λ slot. inRange slot (range .start) (range .count)) cell kinds′ values′ kinds″ values″ → Ranging w sheet slots cell kinds values kinds″ values″ (i + 1)
+        → Wrote slots (λ slot. inRange slot (range .start) (range .count)) cell (rowSlices kinds′ values′) (rowSlices kinds″ values″) → Ranging w sheet slots cell kinds values kinds″ values″ (i + 1)
     unfolding among
     ranging-more h e u = record {
       within = omega arith;
@@ -132,5 +133,5 @@ module _ (w : Written) (sheet slots : List ℕ) (cell : ℕ → FactCell) (kinds
       is = wrote-both (among w sheet (i + 1)) (λ slot. rw (add-one i, e)) (r .is) u;
     }
 
-    pub ranging-all : slotRangeCount w ≤ i → Wrote slots (holdsSlot w sheet) cell kinds values kinds′ values′
+    pub ranging-all : slotRangeCount w ≤ i → Wrote slots (holdsSlot w sheet) cell (rowSlices kinds values) (rowSlices kinds′ values′)
     ranging-all h = let e : i ≡ slotRangeCount w = omega (arith, r .within) in wrote-as (λ slot. rw e (among-all w sheet slot)) (r .is)

@@ -12,10 +12,9 @@ use borrow.Author.Tests.{ltb-true, ltb-false}
 use lib.ListN.{length, getD, set, length-set, length-map, List·getD-map}
 use lib.Seq.{getD-set-same, getD-set-other, ext-getD}
 use Rattle.model.specs.Fact.{Fact, unknown, kind, value, Row}
-use Rattle.model.specs.Tables.{cellOf}
+use Rattle.model.specs.Tables.{RowSlices, rowSlices, RowLies, cellOf}
 use Rattle.model.specs.Transfer.{eachCell, replaced}
 use Rattle.model.specs.declared.FactCell.{FactCell}
-use Rattle.fact_row.specs.Rows.{Lies}
 use Rattle.transfer_rows.specs.Wrote.{Wrote}
 
 -- ---- places written from the front on, where the test holds
@@ -117,7 +116,7 @@ module _ (slots : List ℕ) (writes : ℕ → Bool) (cell : ℕ → FactCell) (k
   pub wrote : (kinds′ values′ : List ℕ) → length kinds′ ≡ length kinds → length values′ ≡ length values
       → ((k : ℕ) → k < length kinds → getD kinds′ k 0 ≡ cond (writes (getD slots k 0)) (cell (getD slots k 0) .kind) (getD kinds k 0))
       → ((k : ℕ) → k < length values → getD values′ k 0 ≡ cond (writes (getD slots k 0)) (cell (getD slots k 0) .value) (getD values k 0))
-      → Wrote slots writes cell kinds values kinds′ values′
+      → Wrote slots writes cell (rowSlices kinds values) (rowSlices kinds′ values′)
   wrote kinds′ values′ mk mv hk hv = record {
     kinds-long = mk ∙ nk;
     values-long = mv ∙ nv;
@@ -126,28 +125,28 @@ module _ (slots : List ℕ) (writes : ℕ → Bool) (cell : ℕ → FactCell) (k
   }
 
   -- nothing
-  pub wrote-none : ((slot : ℕ) → writes slot ≡ false) → Wrote slots writes cell kinds values kinds values
+  pub wrote-none : ((slot : ℕ) → writes slot ≡ false) → Wrote slots writes cell (rowSlices kinds values) (rowSlices kinds values)
   wrote-none h = wrote kinds values refl refl (λ k l. rw (h (getD slots k 0))) (λ k l. rw (h (getD slots k 0)))
 
   -- Whatever facts the cells stand for, and whatever test holds of the same slots, this is the row that `eachCell` gives. No slot lies past 65,535.
-  pub wrote-row : {kinds′ values′ : List ℕ} → Wrote slots writes cell kinds values kinds′ values′ → ((k : ℕ) → k < length slots → getD slots k 0 < 65536)
-      → (row : Row) (test : ℕ → Bool) (fact : ℕ → Fact) → Lies row kinds values → ((slot : ℕ) → slot < 65536 → writes slot ≡ test slot)
-      → ((slot : ℕ) → cell slot ≡ cellOf (fact slot)) → Lies (eachCell (λ slot f. replaced (test slot) f (fact slot)) slots row) kinds′ values′
+  pub wrote-row : {new : RowSlices} → Wrote slots writes cell (rowSlices kinds values) new → ((k : ℕ) → k < length slots → getD slots k 0 < 65536)
+      → (row : Row) (test : ℕ → Bool) (fact : ℕ → Fact) → RowLies row (rowSlices kinds values) → ((slot : ℕ) → slot < 65536 → writes slot ≡ test slot)
+      → ((slot : ℕ) → cell slot ≡ cellOf (fact slot)) → RowLies (eachCell (λ slot f. replaced (test slot) f (fact slot)) slots row) new
   unfolding kind value cellOf
-  wrote-row {kinds′} {values′} w below row test fact l same cells = record {
+  wrote-row {new} w below row test fact l same cells = record {
     kinds-are =
-        table-is kind refl (λ c. c .kind) (λ x. refl) slots writes cell row test fact below same cells kinds kinds′ (l .kinds-are) nk
+        table-is kind refl (λ c. c .kind) (λ x. refl) slots writes cell row test fact below same cells kinds (new .kinds) (l .kinds-are) nk
         (w .kinds-long ∙ sym nk)
         (λ k h. w .kinds-are k (omega arith));
     values-are =
-        table-is value refl (λ c. c .value) (λ x. refl) slots writes cell row test fact below same cells values values′ (l .values-are) nv
+        table-is value refl (λ c. c .value) (λ x. refl) slots writes cell row test fact below same cells values (new .values) (l .values-are) nv
         (w .values-long ∙ sym nv)
         (λ k h. w .values-are k (omega arith));
   }
 
 -- where another test holds of the same slots
-pub wrote-as : {slots : List ℕ} {writes test : ℕ → Bool} {cell : ℕ → FactCell} {kinds values kinds′ values′ : List ℕ} → ((slot : ℕ) → writes slot ≡ test slot)
-    → Wrote slots writes cell kinds values kinds′ values′ → Wrote slots test cell kinds values kinds′ values′
+pub wrote-as : {slots : List ℕ} {writes test : ℕ → Bool} {cell : ℕ → FactCell} {old new : RowSlices} → ((slot : ℕ) → writes slot ≡ test slot)
+    → Wrote slots writes cell old new → Wrote slots test cell old new
 wrote-as {slots} e w = record {
   kinds-long = w .kinds-long;
   values-long = w .values-long;
@@ -161,9 +160,8 @@ both true true x y = refl
 both true false x y = refl
 both false t x y = refl
 
-pub wrote-both : {slots : List ℕ} {first second : ℕ → Bool} {cell : ℕ → FactCell} {kinds values kinds′ values′ kinds″ values″ : List ℕ} (all : ℕ → Bool)
-    → ((slot : ℕ) → all slot ≡ first slot || second slot)
-    → Wrote slots first cell kinds values kinds′ values′ → Wrote slots second cell kinds′ values′ kinds″ values″ → Wrote slots all cell kinds values kinds″ values″
+pub wrote-both : {slots : List ℕ} {first second : ℕ → Bool} {cell : ℕ → FactCell} {old mid new : RowSlices} (all : ℕ → Bool)
+    → ((slot : ℕ) → all slot ≡ first slot || second slot) → Wrote slots first cell old mid → Wrote slots second cell mid new → Wrote slots all cell old new
 wrote-both {slots} {first} {second} all is u w = record {
   kinds-long = w .kinds-long;
   values-long = w .values-long;

@@ -2,7 +2,8 @@
 ghost use mathlib.Core.Path.{_≡_};
 ghost use Prim.Native.Nat.{_-_, _≤_};
 ghost use lib.ListN.{length, getD};
-ghost use Rattle.model.specs.Tables.{factsOf};
+ghost use Rattle.model.specs.Promise.{lentRow};
+ghost use Rattle.model.specs.Tables.{factsIn};
 ghost use Rattle.model.specs.Written.{inRange};
 ghost use Rattle.sheet.specs.Measured.{Measured};
 ghost use Rattle.transfer_facts.specs.Effect.{effectCell};
@@ -30,8 +31,17 @@ fn write_range(
     out_kinds: &mut [u8],
     out_values: &mut [u64],
 )
-    requires { ⌜ ReadableRow (now slots) (now kinds) (now values) × (length (now «out_kinds») ≡ length (now slots)) × (length (now «out_values») ≡ length (now slots)) × (last ≡ getD (now slots) (length (now slots) - 1) 0) ⌝ }
-    ensures { λ r. ⌜ Wrote (now (slots .entry)) (λ slot. inRange slot start count) (effectCell effect (now (slots .entry)) (factsOf (now (kinds .entry)) (now (values .entry)))) (now («out_kinds» .entry)) (now («out_values» .entry)) (now («out_kinds» .exit)) (now («out_values» .exit)) ⌝ }
+    requires { ⌜ (
+        ReadableRow (now slots) (now kinds) (now values)
+        × (length (now «out_kinds») ≡ length (now slots)) × (length (now «out_values») ≡ length (now slots))
+        × (last ≡ getD (now slots) (length (now slots) - 1) 0)
+        ) ⌝ }
+    ensures { λ r. ⌜ (
+        let old = lentRow kinds values in
+        let out = lentRow «out_kinds» «out_values» in
+        let cell = effectCell effect (now (slots .entry)) (factsIn (old .entry)) in
+        Wrote (now (slots .entry)) (λ slot. inRange slot start count) cell (out .entry) (out .exit)
+        ) ⌝ }
 {
     // most ranges that a call writes lie beyond what is tracked
     if last < start {
@@ -63,8 +73,16 @@ pub fn write_slots(
     out_values: &mut [u64],
 )
     requires { ⌜ Measured (now sheet) sizes × (rangesEnd written ≤ sizes .«range_count») ⌝ }
-    requires { ⌜ ReadableRow (now slots) (now kinds) (now values) × (length (now «out_kinds») ≡ length (now slots)) × (length (now «out_values») ≡ length (now slots)) ⌝ }
-    ensures { λ r. ⌜ Wrote (now (slots .entry)) (holdsSlot written (now (sheet .entry))) (effectCell effect (now (slots .entry)) (factsOf (now (kinds .entry)) (now (values .entry)))) (now («out_kinds» .entry)) (now («out_values» .entry)) (now («out_kinds» .exit)) (now («out_values» .exit)) ⌝ }
+    requires { ⌜ (
+        ReadableRow (now slots) (now kinds) (now values)
+        × (length (now «out_kinds») ≡ length (now slots)) × (length (now «out_values») ≡ length (now slots))
+        ) ⌝ }
+    ensures { λ r. ⌜ (
+        let old = lentRow kinds values in
+        let out = lentRow «out_kinds» «out_values» in
+        let cell = effectCell effect (now (slots .entry)) (factsIn (old .entry)) in
+        Wrote (now (slots .entry)) (holdsSlot written (now (sheet .entry))) cell (out .entry) (out .exit)
+        ) ⌝ }
 {
     let len = slots.len();
     if len == 0 {

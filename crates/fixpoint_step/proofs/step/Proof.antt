@@ -1,100 +1,44 @@
 -- `step` meets its contract: the copy goes through the transfer, then to each successor.
 -- Assumes nothing.
 use native.Mathlib.Omega.{arith}
-use Rattle.fixpoint_step.proofs.Stepping.{step-end, transfer-asks, visiting, stepped, copied}
-use borrow.Author.Needs.{needs}
+use Rattle.fixpoint_step.proofs.Stepping.{step-end, step-length, transfer-asks, visiting, step-visits, step-copies}
 use Rattle.fixpoint_step.proofs.step.Statement.{statement}
 use Rattle.fixpoint_step.proofs.step.Tie as tie
-use Rattle.fixpoint_step.proofs.step.Reads as reads
-use Rattle.fixpoint_step.proofs.step.Lts as lts
-use Rattle.fixpoint_visit.proofs.visit_successors.Reads as visit-successors-reads
-use Rattle.transfer.proofs.transfer_row.Reads as transfer-row-reads
 
-mul-at : tie.Need-mul-at
-mul-at c = omega (arith, step-end (c .before .before .before .before .before .before .before .before .before .before .before .pre))
+-- the places, each from a later one
 
-add-end : tie.Need-add-end
-add-end c = omega (arith, step-end (c .before .before .before .before .before .before .before .before .before .before .before .pre))
+abbrev at-start : tie.After-slice-known5 → tie.Start
+at-start c = c .before .before .before .before .before .before .before .before .before .before .before
 
-shared-slice-read-t20 : tie.Need-shared-slice-read-t20
-shared-slice-read-t20 c = omega (arith, c .before .before .before .before .before .before .before .before .before .before .before .before .pre .below, c .before .before .before .before .before .before .before .before .before .before .before .before .pre .index .length-kinds-length)
+abbrev at-parts : tie.After-kinds → tie.Start
+at-parts c = at-start (c .before .before .before)
 
-mul-t21 : tie.Need-mul-t21
-mul-t21 c = omega (arith, c .before .before .before .before .before .before .before .before .before .before .before .before .pre .below, c .before .before .before .before .before .before .before .before .before .before .before .before .pre .tracked .little)
+abbrev at-call : tie.After-transfer-row-arg4 → tie.Start
+at-call c = at-parts (c .before .before .before .before .before)
 
-shared-slice-read-t23 : tie.Need-shared-slice-read-t23
-shared-slice-read-t23 c = omega (arith, c .before .before .before .before .before .before .before .before .before .before .before .before .before .pre .below, c .before .before .before .before .before .before .before .before .before .before .before .before .before .pre .index .length-values-length)
+abbrev at-transfer : tie.After-visit-successors-arg5 → tie.After-transfer-row
+at-transfer c = c .before .before .before .before .before .before .before .before .before
 
-cast-t24 : tie.Need-cast-t24
-cast-t24 c = omega (arith, c .shared-slice-known8 .given (c .before .before .before .before .before .before .before .before .before .before .before .before .before .args .p))
-
-sub-transfer-row : tie.Need-sub-transfer-row
-sub-transfer-row c = omega arith
-
-part-transfer-row-start : tie.Need-part-transfer-row-start
-part-transfer-row-start c = omega arith
-
-part-transfer-row-end : tie.Need-part-transfer-row-end
-part-transfer-row-end c = omega (arith, step-end (c .before .before .before .before .before .before .before .before .before .before .before .before .before .before .pre))
-
-mul-transfer-row : tie.Need-mul-transfer-row
-mul-transfer-row c = omega (arith, step-end (c .before .before .before .before .before .before .before .before .before .before .before .before .before .before .before .pre))
-
-sub-transfer-row-2 : tie.Need-sub-transfer-row-2
-sub-transfer-row-2 c = omega arith
-
-part-transfer-row-start-2 : tie.Need-part-transfer-row-start-2
-part-transfer-row-start-2 c = omega arith
-
-part-transfer-row-end-2 : tie.Need-part-transfer-row-end-2
-part-transfer-row-end-2 c = omega (arith, step-end (c .before .before .before .before .before .before .before .before .before .before .before .before .before .before .before .before .pre))
-
-transfer-row-requires : tie.Need-transfer-row-requires
-transfer-row-requires c κs = transfer-asks (c .before .before .before .before .before .before .before .before .before .before .before .before .before .before .before .before .before .before .before .pre)
+abbrev at-visits : tie.After-slice-known10 → tie.After-visit-successors
+at-visits c = c .before .before .before .before .before .before
 
 visit-successors-requires : tie.Need-visit-successors-requires
-visit-successors-requires c κs = visiting (c .before .before .before .before .before .before .before .before .before .before .before .before .before .before .before .before .before .before .before .before .before .before .before .before .before .before .before .before .before .pre) _ _ (c .before .before .before .before .before .before .before .before .before .transfer-row .ensures)
-
-same-length : tie.Need-same-length
-same-length c = c .before .before .before .before .before .before .visit-successors .kept .1 .1 .1 .1 .1 .1 .1 .0
-
-same-length-2 : tie.Need-same-length-2
-same-length-2 c = c .before .before .before .before .before .before .visit-successors .kept .1 .1 .1 .1 .1 .1 .1 .1 .0
-
-same-length-3 : tie.Need-same-length-3
-same-length-3 c = c .before .before .before .before .before .before .visit-successors .kept .1 .1 .1 .1 .1 .1 .1 .1 .1 .0
-
-same-length-4 : tie.Need-same-length-4
-same-length-4 c = c .before .before .before .before .before .before .before .before .before .before .before .before .before .before .before .before .transfer-row .kept .1 .1 .1 .1 .1 .1 .1 .1 .1 .0
-
-same-length-5 : tie.Need-same-length-5
-same-length-5 c = c .before .before .before .before .before .before .before .before .before .before .before .before .before .before .before .before .transfer-row .kept .1 .1 .1 .1 .1 .1 .1 .1 .1 .1 .0
+visit-successors-requires c κs = let transfer = at-transfer c in visiting (at-call (transfer .before) .pre) _ _ (transfer .transfer-row .ensures)
 
 returns : tie.Need-returns
-returns c = (stepped (c .before .before .before .before .before .before .before .before .before .before .before .before .before .before .before .before .before .before .before .before .before .before .before .before .before .before .before .before .before .before .before .before .before .before .before .before .pre) _ _ (c .before .before .before .before .before .before .before .before .before .before .before .before .before .before .before .before .transfer-row .ensures) _ _ _ _ (c .before .before .before .before .before .before .visit-successors .ensures), copied (c .before .before .before .before .before .before .before .before .before .before .before .before .before .before .before .before .before .before .before .before .before .before .before .before .before .before .before .before .before .before .before .before .before .before .before .before .pre) _ _ (c .before .before .before .before .before .before .before .before .before .before .before .before .before .before .before .before .transfer-row .ensures))
+returns c =
+    let visits = at-visits c in
+    let transfer = at-transfer (visits .before) in
+    let asked = at-call (transfer .before) .pre in
+    (step-visits asked _ _ (transfer .transfer-row .ensures) _ _ (visits .visit-successors .ensures), step-copies asked _ _ (transfer .transfer-row .ensures))
 
 pub step-spec : {M : Type 1} → statement M
 step-spec =
-    tie.close
-    (tie.spec
-    mul-at
-    add-end
-    shared-slice-read-t20
-    mul-t21
-    shared-slice-read-t23
-    cast-t24
-    sub-transfer-row
-    part-transfer-row-start
-    part-transfer-row-end
-    mul-transfer-row
-    sub-transfer-row-2
-    part-transfer-row-start-2
-    part-transfer-row-end-2
-    transfer-row-requires
-    visit-successors-requires
-    same-length
-    same-length-2
-    same-length-3
-    same-length-4
-    same-length-5
-    returns)
+    tie.close (tie.spec (λ c. omega (arith, step-end (at-start c .pre))) (λ c. omega (arith, step-end (at-start c .pre)))
+    (λ c. omega (arith, step-length (at-start (c .before) .pre))) (λ c. omega (arith, step-length (at-start (c .before) .pre)))
+    (λ c. omega (arith, step-length (at-start (c .before .before) .pre))) (λ c. omega (arith, c .shared-slice-known8 .given (at-start (c .before .before) .args .p)))
+    (λ c. omega arith) (λ c. omega arith) (λ c. omega (arith, step-end (at-parts c .pre))) (λ c. omega (arith, step-end (at-parts (c .before) .pre)))
+    (λ c. omega arith) (λ c. omega arith) (λ c. omega (arith, step-end (at-parts (c .before .before) .pre))) (λ c κs. transfer-asks (at-call c .pre)) visit-successors-requires
+    (λ c. at-visits c .visit-successors .kept .1 .1 .1 .1 .1 .1 .1 .0) (λ c. at-visits c .visit-successors .kept .1 .1 .1 .1 .1 .1 .1 .1 .0)
+    (λ c. at-visits c .visit-successors .kept .1 .1 .1 .1 .1 .1 .1 .1 .1 .0) (λ c. at-transfer (at-visits c .before) .transfer-row .kept .1 .1 .1 .1 .1 .1 .1 .1 .1 .0)
+    (λ c. at-transfer (at-visits c .before) .transfer-row .kept .1 .1 .1 .1 .1 .1 .1 .1 .1 .1 .0) returns)

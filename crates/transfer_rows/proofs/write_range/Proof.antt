@@ -23,9 +23,6 @@ returns c =
     wrote-beyond (start .args .slots .now) _ _ _ _ _ (asked .1) (asked .2)
     (last-below (start .args .slots .now) _ (asked .0 .ascending) (omega (arith, asked .3, c .if1 .taken)))
 
-wide-requires : tie.Need-wide-requires Inv-loop μ-loop
-wide-requires c κs = search needs
-
 lower-bound-requires : tie.Need-lower-bound-requires Inv-loop μ-loop
 lower-bound-requires c κs =
     let start = c .before .before .before .before .before .before .before in
@@ -36,23 +33,11 @@ loop-holds c =
     let start = c .before .before .before .before .before .before .before .before in
     writing-start _ _ _ _ _ _ _ (start .pre .1) (start .pre .2) (rw (c .before .wide .ensures .0) at (c .lower-bound .ensures))
 
-mul-slot : tie.Need-mul-slot Inv-loop μ-loop
-mul-slot c = omega arith
-
-shared-slice-read-slot : tie.Need-shared-slice-read-slot Inv-loop μ-loop
-shared-slice-read-slot c = omega arith
-
 sub-if2 : tie.Need-sub-if2 Inv-loop μ-loop
 sub-if2 c = omega (arith, c .before .before .loop .inv .from (c .before .before .loop .j) (omega arith) (c .before .loop-test .taken))
 
 cast-if2 : tie.Need-cast-if2 Inv-loop μ-loop
 cast-if2 c = omega (arith, c .shared-slice-known4 .given (c .before .before .loop .j))
-
-same-length : tie.Need-same-length Inv-loop μ-loop
-same-length c = omega arith
-
-same-length-2 : tie.Need-same-length-2 Inv-loop μ-loop
-same-length-2 c = omega arith
 
 returns-2 : tie.Need-returns-2 Inv-loop μ-loop
 returns-2 c =
@@ -61,63 +46,17 @@ returns-2 c =
     written-range _ _ _ _ _ _ (at-loop .loop .inv) (start .pre .0 .ascending)
     (c .before .before .loop-test .taken) (c .if2 .taken)
 
-effect-on-slot-requires : tie.Need-effect-on-slot-requires Inv-loop μ-loop
-effect-on-slot-requires c κs = search needs
-
-slice-write-out-kinds : tie.Need-slice-write-out-kinds Inv-loop μ-loop
-slice-write-out-kinds c = omega arith
-
-mul-out-values : tie.Need-mul-out-values Inv-loop μ-loop
-mul-out-values c = omega arith
-
-slice-write-out-values : tie.Need-slice-write-out-values Inv-loop μ-loop
-slice-write-out-values c = omega arith
-
-add-j : tie.Need-add-j Inv-loop μ-loop
-add-j c = omega arith
-
-loop-less : tie.Need-loop-less Inv-loop μ-loop
-loop-less c = omega arith
-
 loop-again : tie.Need-loop-again Inv-loop μ-loop
 loop-again c =
     let in-loop = c .before .before .before in
     let at-loop = in-loop .before in
     writing-more _ _ _ _ _ _ (at-loop .loop .inv) (in-loop .loop-test .taken) (c .before .if2 .left) (c .effect-on-slot .ensures)
 
-same-length-3 : tie.Need-same-length-3 Inv-loop μ-loop
-same-length-3 c = omega arith
-
-same-length-4 : tie.Need-same-length-4 Inv-loop μ-loop
-same-length-4 c = omega arith
-
 returns-3 : tie.Need-returns-3 Inv-loop μ-loop
 returns-3 c = written-all _ _ _ _ _ _ (c .before .loop .inv) (c .loop-test .left)
 
 pub write-range-spec : {M : Type 1} → statement M
 write-range-spec =
-    tie.close
-    (tie.spec
-    Inv-loop
-    μ-loop
-    returns
-    wide-requires
-    lower-bound-requires
-    loop-holds
-    mul-slot
-    shared-slice-read-slot
-    sub-if2
-    cast-if2
-    same-length
-    same-length-2
-    returns-2
-    effect-on-slot-requires
-    slice-write-out-kinds
-    mul-out-values
-    slice-write-out-values
-    add-j
-    loop-less
-    loop-again
-    same-length-3
-    same-length-4
-    returns-3)
+    tie.close (tie.spec Inv-loop μ-loop returns (λ c κs. search needs) lower-bound-requires loop-holds (λ c. omega arith) (λ c. omega arith) sub-if2
+    cast-if2 (λ c. omega arith) (λ c. omega arith) returns-2 (λ c κs. search needs) (λ c. omega arith) (λ c. omega arith) (λ c. omega arith)
+    (λ c. omega arith) (λ c. omega arith) loop-again (λ c. omega arith) (λ c. omega arith) returns-3)

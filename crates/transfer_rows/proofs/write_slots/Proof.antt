@@ -21,18 +21,6 @@ returns c =
     let start = c .before .before .before .before .before .before .before in
     wrote-nowhere (start .args .slots .now) _ _ _ _ (c .if1 .taken) (start .pre .1 .1) (start .pre .1 .2)
 
-sub-last : tie.Need-sub-last Inv-loop μ-loop
-sub-last c = omega arith
-
-mul-last : tie.Need-mul-last Inv-loop μ-loop
-mul-last c = omega arith
-
-shared-slice-read-last : tie.Need-shared-slice-read-last Inv-loop μ-loop
-shared-slice-read-last c = omega arith
-
-range-count-requires : tie.Need-range-count-requires Inv-loop μ-loop
-range-count-requires c κs = search needs
-
 loop-holds : tie.Need-loop-holds Inv-loop μ-loop
 loop-holds c =
     let s = c .before .before .before .before .before .before .before .before .before in
@@ -90,21 +78,5 @@ returns-2 c =
 
 pub write-slots-spec : {M : Type 1} → statement M
 write-slots-spec =
-    tie.close
-    (tie.spec
-    Inv-loop
-    μ-loop
-    returns
-    sub-last
-    mul-last
-    shared-slice-read-last
-    range-count-requires
-    loop-holds
-    range-of-requires
-    write-range-requires
-    add-i
-    loop-less
-    loop-again
-    same-length
-    same-length-2
-    returns-2)
+    tie.close (tie.spec Inv-loop μ-loop returns (λ c. omega arith) (λ c. omega arith) (λ c. omega arith) (λ c κs. search needs) loop-holds
+    range-of-requires write-range-requires add-i loop-less loop-again same-length same-length-2 returns-2)

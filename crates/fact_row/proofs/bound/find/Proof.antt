@@ -6,20 +6,8 @@ use Rattle.fact_row.proofs.Places.{place-found, place-past, place-betwe
 use Rattle.fact_row.proofs.bound.find.Statement.{statement}
 use Rattle.fact_row.proofs.bound.find.Tie as tie
 
-lower-bound-requires : tie.Need-lower-bound-requires
-lower-bound-requires c κs = search needs
-
 returns : tie.Need-returns
 returns c = place-past (c .before .lower-bound .ensures) (c .if1 .taken)
-
-mul-wide : tie.Need-mul-wide
-mul-wide c = search needs
-
-shared-slice-read-wide : tie.Need-shared-slice-read-wide
-shared-slice-read-wide c = search needs
-
-wide-requires : tie.Need-wide-requires
-wide-requires c κs = search needs
 
 returns-2 : tie.Need-returns-2
 returns-2 c =
@@ -29,6 +17,4 @@ returns-3 : tie.Need-returns-3
 returns-3 c = place-found (c .before .before .before .before .lower-bound .ensures) (omega arith) (sym (c .before .wide .ensures .0) ∙ c .if2 .left)
 
 pub find-spec : {M : Type 1} → statement M
-find-spec =
-    tie.close
-    (tie.spec lower-bound-requires returns mul-wide shared-slice-read-wide wide-requires returns-2 returns-3)
+find-spec = tie.close (tie.spec (λ c κs. search needs) returns (λ c. search needs) (λ c. search needs) (λ c κs. search needs) returns-2 returns-3)

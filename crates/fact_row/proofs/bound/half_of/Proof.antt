@@ -6,9 +6,6 @@ use Rattle.fact_row.proofs.Ascending.{times-le, half-stepped}
 use Rattle.fact_row.proofs.bound.half_of.Statement.{statement}
 use Rattle.fact_row.proofs.bound.half_of.Tie as tie
 
-cast-up : tie.Need-cast-up
-cast-up c = search needs
-
 mul-result : tie.Need-mul-result
 mul-result c = omega (arith, times-le (c .args .half) (leb (c .args .t) (c .args .slot)))
 
@@ -19,4 +16,4 @@ returns : tie.Need-returns
 returns c = half-stepped (c .args .slot) (c .args .t) (c .args .base) (c .args .half)
 
 pub half-of-spec : {M : Type 1} → statement M
-half-of-spec = tie.close (tie.spec cast-up mul-result add-result returns)
+half-of-spec = tie.close (tie.spec (λ c. search needs) mul-result add-result returns)

@@ -11,9 +11,6 @@ use Rattle.fact_row.proofs.bound.set_fact.Tie as tie
 find-requires : tie.Need-find-requires
 find-requires c κs = c .before .before .before .pre .ascending
 
-enum-known-j : tie.Need-enum-known-j
-enum-known-j c = search needs
-
 enum-told : tie.Need-enum-told
 enum-told c = search needs
 
@@ -32,26 +29,10 @@ slice-write-values : tie.Need-slice-write-values
 slice-write-values c =
     omega (arith, place-inside _ (c .before .before .before .before .before .before .before .args .slot) (sym (c .before .before .before .find .ensures) ∙ ap placed (c .before .j .given .1)))
 
-same-length : tie.Need-same-length
-same-length c = search needs
-
-same-length-2 : tie.Need-same-length-2
-same-length-2 c = search needs
-
 returns-2 : tie.Need-returns-2
 returns-2 c = let p = sym (c .before .before .before .find .ensures) ∙ ap placed (c .before .j .given .1) in (set-some p _ _, set-some p _ _)
 
 pub set-fact-spec : {M : Type 1} → statement M
 set-fact-spec =
-    tie.close
-    (tie.spec
-    find-requires
-    enum-known-j
-    enum-told
-    returns
-    slice-write-kinds
-    mul-values
-    slice-write-values
-    same-length
-    same-length-2
-    returns-2)
+    tie.close (tie.spec find-requires (λ c. search needs) enum-told returns slice-write-kinds mul-values slice-write-values (λ c. search needs)
+    (λ c. search needs) returns-2)

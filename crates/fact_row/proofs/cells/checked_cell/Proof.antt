@@ -7,22 +7,13 @@ use Rattle.fact_row.proofs.Checks.{checked-unknown, checked-other, chec
 use Rattle.fact_row.proofs.cells.checked_cell.Statement.{statement}
 use Rattle.fact_row.proofs.cells.checked_cell.Tie as tie
 
-unknown-cell-requires : tie.Need-unknown-cell-requires
-unknown-cell-requires c κs = search needs
-
 returns : tie.Need-returns
 unfolding factIn
 returns c = c .unknown-cell .ensures ∙ ap cellOf (checked-unknown _ (c .before .before .before .args .length .value) (c .before .if1 .taken))
 
-conflict-cell-requires : tie.Need-conflict-cell-requires
-conflict-cell-requires c κs = search needs
-
 returns-2 : tie.Need-returns-2
 unfolding factIn
 returns-2 c = c .conflict-cell .ensures ∙ ap cellOf (checked-other _ (c .before .before .before .before .before .args .length .value) (c .before .before .before .if1 .left) (c .before .if2 .taken))
-
-conflict-cell-requires-2 : tie.Need-conflict-cell-requires-2
-conflict-cell-requires-2 c κs = search needs
 
 returns-3 : tie.Need-returns-3
 unfolding factIn
@@ -33,13 +24,4 @@ unfolding factIn cellOf kind value
 returns-4 c = ap cellOf (checked-in _ (c .before .before .before .before .before .before .args .length .value) (c .before .before .if2 .left) (c .if3 .left))
 
 pub checked-cell-spec : {M : Type 1} → statement M
-checked-cell-spec =
-    tie.close
-    (tie.spec
-    unknown-cell-requires
-    returns
-    conflict-cell-requires
-    returns-2
-    conflict-cell-requires-2
-    returns-3
-    returns-4)
+checked-cell-spec = tie.close (tie.spec (λ c κs. search needs) returns (λ c κs. search needs) returns-2 (λ c κs. search needs) returns-3 returns-4)

@@ -7,15 +7,9 @@ use Rattle.model.specs.Transfer.{mapFact}
 use Rattle.fact_row.proofs.cells.map_cell.Statement.{statement}
 use Rattle.fact_row.proofs.cells.map_cell.Tie as tie
 
-mul-t4 : tie.Need-mul-t4
-mul-t4 c = search needs
-
-add-t6 : tie.Need-add-t6
-add-t6 c = search needs
-
 returns : tie.Need-returns
 unfolding cellOf kind value mapFact
 returns c = refl
 
 pub map-cell-spec : {M : Type 1} → statement M
-map-cell-spec = tie.close (tie.spec mul-t4 add-t6 returns)
+map-cell-spec = tie.close (tie.spec (λ c. search needs) (λ c. search needs) returns)

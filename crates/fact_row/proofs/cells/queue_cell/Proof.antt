@@ -7,12 +7,9 @@ use Rattle.model.specs.Transfer.{queueFact}
 use Rattle.fact_row.proofs.cells.queue_cell.Statement.{statement}
 use Rattle.fact_row.proofs.cells.queue_cell.Tie as tie
 
-mul-t3 : tie.Need-mul-t3
-mul-t3 c = search needs
-
 returns : tie.Need-returns
 unfolding cellOf kind value queueFact
 returns c = refl
 
 pub queue-cell-spec : {M : Type 1} → statement M
-queue-cell-spec = tie.close (tie.spec mul-t3 returns)
+queue-cell-spec = tie.close (tie.spec (λ c. search needs) returns)

@@ -5,36 +5,15 @@ use Rattle.fact_row.proofs.Noted.{first-fails, second-fails, map-noted,
 use Rattle.fact_row.proofs.notes.instruction_fact.Statement.{statement}
 use Rattle.fact_row.proofs.notes.instruction_fact.Tie as tie
 
-note-kind-at-requires : tie.Need-note-kind-at-requires
-note-kind-at-requires c κs = search needs
-
-note-a-at-requires : tie.Need-note-a-at-requires
-note-a-at-requires c κs = search needs
-
-note-b-at-requires : tie.Need-note-b-at-requires
-note-b-at-requires c κs = search needs
-
-map-cell-requires : tie.Need-map-cell-requires
-map-cell-requires c κs = search needs
-
 returns : tie.Need-returns
 returns c =
     let s = c .before .before .before .before .before .before .before in
     map-noted (s .args .sheet .now) (s .args .pc) (s .pre .2) (c .before .before .before .before .before .note-kind-at .ensures) (c .before .before .before .before .if1 .taken) (c .before .before .before .if2 .taken) (c .before .before .note-a-at .ensures) (c .before .note-b-at .ensures) (c .map-cell .ensures)
 
-note-a-at-requires-2 : tie.Need-note-a-at-requires-2
-note-a-at-requires-2 c κs = search needs
-
-queue-cell-requires : tie.Need-queue-cell-requires
-queue-cell-requires c κs = search needs
-
 returns-2 : tie.Need-returns-2
 returns-2 c =
     let s = c .before .before .before .before .before .before .before in
     queue-noted (s .args .sheet .now) (s .args .pc) (s .pre .2) (c .before .before .before .before .before .note-kind-at .ensures) (c .before .before .before .if3 .taken) (c .before .before .if4 .taken) (c .before .note-a-at2 .ensures) (c .queue-cell .ensures)
-
-unknown-cell-requires : tie.Need-unknown-cell-requires
-unknown-cell-requires c κs = search needs
 
 returns-3 : tie.Need-returns-3
 returns-3 c =
@@ -45,15 +24,5 @@ returns-3 c =
 
 pub instruction-fact-spec : {M : Type 1} → statement M
 instruction-fact-spec =
-    tie.close
-    (tie.spec
-    note-kind-at-requires
-    note-a-at-requires
-    note-b-at-requires
-    map-cell-requires
-    returns
-    note-a-at-requires-2
-    queue-cell-requires
-    returns-2
-    unknown-cell-requires
-    returns-3)
+    tie.close (tie.spec (λ c κs. search needs) (λ c κs. search needs) (λ c κs. search needs) (λ c κs. search needs) returns (λ c κs. search needs)
+    (λ c κs. search needs) returns-2 (λ c κs. search needs) returns-3)

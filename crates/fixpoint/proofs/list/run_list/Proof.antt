@@ -1,15 +1,14 @@
 -- `run_list` meets its contract: the loop passes through the states of the defined run.
 -- Assumes nothing.
-use mathlib.Core.Path.{sym, ap, _∙_}
+use mathlib.Core.Path.{ap, _∙_}
 use Prim.Native.Nat.{_+_, _*_, _-_}
 use native.Mathlib.Omega.{arith}
-use borrow.Author.Needs.{needs}
 use lib.ListN.{length}
 use Rattle.model.specs.Sheet.{codeCount}
 use Rattle.finality.proofs.Lengths.{zeros-length, zeros-same}
 use Rattle.fixpoint.specs.Memory.{runMemory}
 use Rattle.fixpoint.specs.Turn.{firstOf, Turn}
-use Rattle.fixpoint.proofs.Loop.{kept-lengths, turn-little, ends-empty, ends-refused, stepping, enter-first, enter-second, stepped}
+use Rattle.fixpoint.proofs.Loop.{kept-lengths, turn-little, turn-ends, turn-refused, stepping, enter-first, enter-second, stepped}
 use Rattle.fixpoint.proofs.list.run_list.Statement.{statement}
 use Rattle.fixpoint.proofs.list.run_list.Tie as tie
 
@@ -73,7 +72,7 @@ returns c =
     let take = taken-before test in
     let inv = at-loop take .loop .inv in
     let start = at-start (at-loop take) in (
-      ends-refused (start .args .resources) (start .pre .0 .0) (start .pre .0 .1) inv (take .before .before .loop-test .taken) (test .if1 .taken) _ (c .refused .ensures) _,
+      turn-refused (start .args .resources) (start .pre .0 .0) (start .pre .0 .1) inv (take .before .before .loop-test .taken) (test .if1 .taken) _ (c .refused .ensures) _,
       clear .clear .ensures ∙ zeros-same _ _ (take .take .kept .1 .0 ∙ inv .list-length),
     )
 
@@ -88,7 +87,7 @@ step-requires c κs =
     let test = c .before .before .before .before .before in
     let take = at-take test in
     let start = at-start (at-loop take) in
-    stepping (start .args .resources) (start .pre .0 .0) (start .pre .0 .1) (at-loop take .loop .inv) (take .before .before .loop-test .taken) (test .if1 .left) (take .take .ensures .0)
+    (start .pre .0, stepping (start .args .resources) (start .pre .0 .0) (start .pre .0 .1) (at-loop take .loop .inv) (take .before .before .loop-test .taken) (test .if1 .left) (take .take .ensures .0))
 
 enter-requires : tie.Need-enter-requires Inv-loop μ-loop
 enter-requires c κs =
@@ -97,7 +96,7 @@ enter-requires c κs =
     let take = at-take test in
     let start = at-start (at-loop take) in
     enter-first (start .args .resources) (start .pre .0 .0) (start .pre .0 .1) (at-loop take .loop .inv) (take .before .before .loop-test .taken) (test .if1 .left) (take .take .ensures .0)
-    _ _ _ _ (step .step .ensures .0) (take .take .ensures .1)
+    _ _ (step .step .ensures .0) (take .take .ensures .1)
 
 enter-requires-2 : tie.Need-enter-requires-2 Inv-loop μ-loop
 enter-requires-2 c κs =
@@ -107,7 +106,7 @@ enter-requires-2 c κs =
     let take = at-take test in
     let start = at-start (at-loop take) in
     enter-second (start .args .resources) (start .pre .0 .0) (start .pre .0 .1) (at-loop take .loop .inv) (take .before .before .loop-test .taken) (test .if1 .left) (take .take .ensures .0)
-    _ _ _ _ (step .step .ensures .0) (take .take .ensures .1) (enter .enter .ensures .0) (enter .enter .ensures .1)
+    _ _ (step .step .ensures .0) (take .take .ensures .1) (enter .enter .ensures .0) (enter .enter .ensures .1)
 
 loop-less : tie.Need-loop-less Inv-loop μ-loop
 loop-less c =
@@ -123,7 +122,7 @@ loop-again c =
     let take = at-take test in
     let start = at-start (at-loop take) in
     stepped (start .args .resources) (start .pre .0 .0) (start .pre .0 .1) (at-loop take .loop .inv) (take .before .before .loop-test .taken) (test .if1 .left) (take .take .ensures .0)
-    _ _ _ _ (step .step .ensures .0) (take .take .ensures .1) (enter .enter .ensures .0) (enter .enter .ensures .1)
+    _ _ (step .step .ensures .0) (take .take .ensures .1) (enter .enter .ensures .0) (enter .enter .ensures .1)
     (step .step .kept .1 .1 .1 .1 .1 .1 .1 .1 .1 .1 .1 .1 .0) (step .step .kept .1 .1 .1 .1 .1 .1 .1 .1 .1 .1 .1 .1 .1 .0)
     (last .enter2 .kept .1 .1 .1 .0 ∙ enter .enter .kept .1 .1 .1 .0 ∙ take .take .kept .1 .0) (last .enter2 .ensures .0) (last .enter2 .ensures .1)
 
@@ -131,17 +130,21 @@ returns-2 : tie.Need-returns-2 Inv-loop μ-loop
 returns-2 c =
     let loop = c .before .before in
     let start = at-start loop in
-    let done = ends-empty (start .args .resources) (start .pre .0 .0) (start .pre .0 .1) (loop .loop .inv) (c .before .loop-test .left) _ (c .ended .ensures) in
+    let done = turn-ends (start .args .resources) (start .pre .0 .0) (start .pre .0 .1) (loop .loop .inv) (c .before .loop-test .left) _ (c .ended .ensures) in
     (done .0, done .1 ∙ zeros-same _ _ (loop .loop .inv .list-length))
 
 pub run-list-spec : {M : Type 1} → statement M
 run-list-spec =
-    tie.close
-    (tie.spec Inv-loop μ-loop loop-holds take-requires sub-top (λ c κs. tt) (λ c κs. tt)
-    (λ c. kept-lengths (at-turn c .loop .inv) (at-start (at-turn c) .pre .1) .present) (λ c. kept-lengths (at-turn c .loop .inv) (at-start (at-turn c) .pre .1) .kinds)
-    (λ c. kept-lengths (at-turn c .loop .inv) (at-start (at-turn c) .pre .1) .values) (λ c. kept-lengths (at-turn c .loop .inv) (at-start (at-turn c) .pre .1) .rowKinds)
-    (λ c. kept-lengths (at-turn c .loop .inv) (at-start (at-turn c) .pre .1) .rowValues) same-length-6 returns add-pops step-requires (λ c. omega arith) enter-requires
-    (λ c. omega arith) enter-requires-2 loop-less loop-again (λ c κs. tt)
-    (λ c. kept-lengths (c .before .before .loop .inv) (at-start (c .before .before) .pre .1) .present) (λ c. kept-lengths (c .before .before .loop .inv) (at-start (c .before .before) .pre .1) .kinds)
-    (λ c. kept-lengths (c .before .before .loop .inv) (at-start (c .before .before) .pre .1) .values) (λ c. kept-lengths (c .before .before .loop .inv) (at-start (c .before .before) .pre .1) .rowKinds)
-    (λ c. kept-lengths (c .before .before .loop .inv) (at-start (c .before .before) .pre .1) .rowValues) (λ c. c .before .before .loop .inv .list-length) returns-2)
+    tie.close (tie.spec Inv-loop μ-loop loop-holds take-requires sub-top (λ c κs. tt) (λ c κs. tt)
+    (λ c. kept-lengths (at-turn c .loop .inv) (at-start (at-turn c) .pre .1) .present)
+    (λ c. kept-lengths (at-turn c .loop .inv) (at-start (at-turn c) .pre .1) .kinds)
+    (λ c. kept-lengths (at-turn c .loop .inv) (at-start (at-turn c) .pre .1) .values)
+    (λ c. kept-lengths (at-turn c .loop .inv) (at-start (at-turn c) .pre .1) .rowKinds)
+    (λ c. kept-lengths (at-turn c .loop .inv) (at-start (at-turn c) .pre .1) .rowValues) same-length-6 returns add-pops step-requires
+    (λ c. omega arith) enter-requires (λ c. omega arith) enter-requires-2 loop-less loop-again (λ c κs. tt)
+    (λ c. kept-lengths (c .before .before .loop .inv) (at-start (c .before .before) .pre .1) .present)
+    (λ c. kept-lengths (c .before .before .loop .inv) (at-start (c .before .before) .pre .1) .kinds)
+    (λ c. kept-lengths (c .before .before .loop .inv) (at-start (c .before .before) .pre .1) .values)
+    (λ c. kept-lengths (c .before .before .loop .inv) (at-start (c .before .before) .pre .1) .rowKinds)
+    (λ c. kept-lengths (c .before .before .loop .inv) (at-start (c .before .before) .pre .1) .rowValues)
+    (λ c. c .before .before .loop .inv .list-length) returns-2)

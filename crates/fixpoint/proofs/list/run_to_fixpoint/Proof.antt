@@ -34,7 +34,7 @@ run-list-requires c κs =
     let enter = at-enter c in
     let join = at-join (enter .before) in
     let start = at-start (join .before) in
-    (start .pre .0, start-turn (start .args .which) (start .args .resources) (start .pre .0 .0) (start .pre .0 .1) (start .pre .1) _ _ _ _ (join .join-into .ensures) (enter .enter .ensures .0) (enter .enter .ensures .1))
+    (start .pre .0, start-turn (start .args .which) (start .args .resources) (start .pre .0 .0) (start .pre .0 .1) (start .pre .1) _ _ (join .join-into .ensures) (enter .enter .ensures .0) (enter .enter .ensures .1))
 
 returns : tie.Need-returns
 returns c =
@@ -52,7 +52,7 @@ returns c =
       rowValues = list .run-list .kept .1 .1 .1 .1 .1 .1 .1 .1 .1 .1 .1 .1 .1 .1 .0;
     })
     (list .run-list .ensures .1 ∙ zeros-same _ _ (enter .enter .kept .1 .1 .1 .0)) (finish .finish .ensures)
-    (first-told (start .args .which) (start .args .resources) (start .pre .0 .0) (start .pre .0 .1) (start .pre .1) _ _ _ _ (join .join-into .ensures) (enter .enter .ensures .0) (enter .enter .ensures .1) (list .run-list .ensures .0))
+    (first-told (start .args .which) (start .args .resources) (start .pre .0 .0) (start .pre .0 .1) (start .pre .1) _ _ (join .join-into .ensures) (enter .enter .ensures .0) (enter .enter .ensures .1) (list .run-list .ensures .0))
 
 same-length : tie.Need-same-length
 same-length c =
@@ -71,6 +71,5 @@ same-length-3 c =
 
 pub run-to-fixpoint-spec : {M : Type 1} → statement M
 run-to-fixpoint-spec =
-    tie.close
-    (tie.spec join-into-requires enter-requires run-list-requires (λ c κs. search needs) same-length same-length-2 same-length-3
+    tie.close (tie.spec join-into-requires enter-requires run-list-requires (λ c κs. search needs) same-length same-length-2 same-length-3
     (λ c. search needs) (λ c. search needs) (λ c. search needs) returns)

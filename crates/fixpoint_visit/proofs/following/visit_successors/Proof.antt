@@ -1,54 +1,46 @@
 -- `visit_successors` meets its contract: the first successor, then the second.
 -- Assumes nothing.
+use mathlib.Core.Path.{_≡_}
+use Rattle.model.specs.Successors.{sheetSuccessors, asRecord}
 use Rattle.fixpoint_visit.proofs.Visits.{next-is, following-inside, following-code, first-next, second-next, followed}
-use Rattle.sheet_layouts.specs.Classes.{equalBy}
 use borrow.Author.Needs.{needs}
 use Rattle.fixpoint_visit.proofs.following.visit_successors.Statement.{statement}
 use Rattle.fixpoint_visit.proofs.following.visit_successors.Tie as tie
-use Rattle.fixpoint_visit.proofs.following.visit_successors.Reads as reads
-use Rattle.fixpoint_visit.proofs.following.visit_successors.Lts as lts
-use Rattle.cfg.proofs.instruction_successors.Reads as instruction-successors-reads
-use Rattle.fixpoint_visit.proofs.following.join_next.Reads as join-next-reads
-use Rattle.fixpoint_visit.proofs.following.with_news.Reads as with-news-reads
-use Rattle.sheet_fields.proofs.instruction_at.Reads as instruction-at-reads
 
-instruction-at-requires : tie.Need-instruction-at-requires
-instruction-at-requires c κs = following-inside (c .before .before .before .before .before .before .before .pre)
+abbrev at-start : tie.After-instruction-at → tie.Start
+at-start c = c .before .before .before .before .before .before .before .before
 
-instruction-successors-requires : tie.Need-instruction-successors-requires
-instruction-successors-requires c κs = following-code (c .before .before .before .before .before .before .before .before .pre)
+abbrev at-next : tie.After-join-next-arg3 → tie.After-instruction-successors
+at-next c = c .before .before .before
+
+abbrev at-first : tie.After-join-next-arg6 → tie.After-join-next
+at-first c = c .before .before .before .before .before .before .before .before .before
+
+abbrev at-second : tie.After-with-news → tie.After-join-next2
+at-second c = c .before .before .before .before .before .before .before
+
+next-are : (c : tie.After-instruction-successors)
+    → c .instruction-successors .result ≡ asRecord (sheetSuccessors (at-start (c .before) .args .sheet .now) (at-start (c .before) .args .p))
+next-are c = next-is _ _ _ (at-start (c .before) .pre .accepted) (c .before .instruction-at .ensures) (c .instruction-successors .ensures)
 
 join-next-requires : tie.Need-join-next-requires
-join-next-requires c κs = first-next (c .before .before .before .before .before .before .before .before .before .before .before .before .pre) _ (next-is _ _ _ (c .before .before .before .before .before .before .before .before .before .before .before .before .pre .accepted) (c .before .before .before .before .instruction-at .ensures) (c .before .before .before .instruction-successors .ensures))
+join-next-requires c κs = let next = at-next c in first-next (at-start (next .before) .pre) _ (next-are next)
 
 join-next-requires-2 : tie.Need-join-next-requires-2
-join-next-requires-2 c κs = second-next (c .before .before .before .before .before .before .before .before .before .before .before .before .before .before .before .before .before .before .before .before .before .before .pre) _ (next-is _ _ _ (c .before .before .before .before .before .before .before .before .before .before .before .before .before .before .before .before .before .before .before .before .before .before .pre .accepted) (c .before .before .before .before .before .before .before .before .before .before .before .before .before .before .instruction-at .ensures) (c .before .before .before .before .before .before .before .before .before .before .before .before .before .instruction-successors .ensures)) _ _ _ _ _ (c .before .before .before .before .before .before .before .before .before .join-next .ensures) (c .before .before .before .before .before .before .before .before .before .join-next .kept .1 .1 .1 .1 .1 .1 .0) (c .before .before .before .before .before .before .before .before .before .join-next .kept .1 .1 .1 .1 .1 .1 .1 .0) (c .before .before .before .before .before .before .before .before .before .join-next .kept .1 .1 .1 .1 .1 .1 .1 .1 .0)
-
-with-news-requires : tie.Need-with-news-requires
-with-news-requires c κs = search needs
-
-same-length : tie.Need-same-length
-same-length c = search needs
-
-same-length-2 : tie.Need-same-length-2
-same-length-2 c = search needs
-
-same-length-3 : tie.Need-same-length-3
-same-length-3 c = search needs
+join-next-requires-2 c κs =
+    let first = at-first c in
+    let next = at-next (first .before) in
+    let kept = first .join-next .kept .1 .1 .1 .1 .1 .1 in
+    second-next (at-start (next .before) .pre) _ (next-are next) _ _ _ (first .join-next .ensures) (kept .0) (kept .1 .0) (kept .1 .1 .0)
 
 returns : tie.Need-returns
-returns c = followed (c .before .before .before .before .before .before .before .before .before .before .before .before .before .before .before .before .before .before .before .before .before .before .before .before .before .before .before .before .before .before .pre) _ (next-is _ _ _ (c .before .before .before .before .before .before .before .before .before .before .before .before .before .before .before .before .before .before .before .before .before .before .before .before .before .before .before .before .before .before .pre .accepted) (c .before .before .before .before .before .before .before .before .before .before .before .before .before .before .before .before .before .before .before .before .before .before .instruction-at .ensures) (c .before .before .before .before .before .before .before .before .before .before .before .before .before .before .before .before .before .before .before .before .before .instruction-successors .ensures)) _ _ _ _ _ (c .before .before .before .before .before .before .before .before .before .before .before .before .before .before .before .before .before .join-next .ensures) _ _ _ _ _ (c .before .before .before .before .before .before .before .join-next2 .ensures) (c .with-news .ensures)
+returns c =
+    let second = at-second c in
+    let first = at-first (second .before) in
+    let next = at-next (first .before) in
+    followed (at-start (next .before) .pre) _ (next-are next) _ _ _ (first .join-next .ensures) _ _ _ (second .join-next2 .ensures) (c .with-news .ensures)
 
 pub visit-successors-spec : {M : Type 1} → statement M
 visit-successors-spec =
-    tie.close
-    (tie.spec
-    instruction-at-requires
-    instruction-successors-requires
-    join-next-requires
-    join-next-requires-2
-    with-news-requires
-    same-length
-    same-length-2
-    same-length-3
-    returns)
+    tie.close (tie.spec (λ c κs. following-inside (c .before .before .before .before .before .before .before .pre)) (λ c κs. following-code (at-start c .pre))
+    join-next-requires join-next-requires-2 (λ c κs. search needs) (λ c. search needs) (λ c. search needs) (λ c. search needs) returns)

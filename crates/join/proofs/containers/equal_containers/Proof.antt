@@ -16,22 +16,10 @@ returns-2 c =
     let a = c .before .before .before .before .before .args in
     same-values (now (a .classes)) (a .old .kind) (a .old .value) (a .new .kind) (a .new .value) (c .before .if1 .left) (c .if2 .taken)
 
-class-of-requires : tie.Need-class-of-requires
-class-of-requires c κs = search needs
-
-class-of-requires-2 : tie.Need-class-of-requires-2
-class-of-requires-2 c κs = search needs
-
 returns-3 : tie.Need-returns-3
 returns-3 c =
     let a = c .before .before .before .before .before .before .before .before .args in
     other-first (now (a .classes)) (a .old .kind) (a .old .value) (a .new .kind) (a .new .value) (c .before .before .before .before .if1 .left) (c .before .before .class-of .ensures) (c .before .class-of2 .ensures) (c .if3 .taken)
-
-class-of-requires-3 : tie.Need-class-of-requires-3
-class-of-requires-3 c κs = search needs
-
-class-of-requires-4 : tie.Need-class-of-requires-4
-class-of-requires-4 c κs = search needs
 
 returns-4 : tie.Need-returns-4
 returns-4 c =
@@ -40,13 +28,5 @@ returns-4 c =
 
 pub equal-containers-spec : {M : Type 1} → statement M
 equal-containers-spec =
-    tie.close
-    (tie.spec
-    returns
-    returns-2
-    class-of-requires
-    class-of-requires-2
-    returns-3
-    class-of-requires-3
-    class-of-requires-4
+    tie.close (tie.spec returns returns-2 (λ c κs. search needs) (λ c κs. search needs) returns-3 (λ c κs. search needs) (λ c κs. search needs)
     returns-4)

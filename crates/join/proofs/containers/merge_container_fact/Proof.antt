@@ -8,14 +8,8 @@ use Rattle.join.proofs.Cells.{merged-by, containers-shift}
 use Rattle.join.proofs.containers.merge_container_fact.Statement.{statement}
 use Rattle.join.proofs.containers.merge_container_fact.Tie as tie
 
-equal-containers-requires : tie.Need-equal-containers-requires
-equal-containers-requires c κs = search needs
-
-merge-fact-requires : tie.Need-merge-fact-requires
-merge-fact-requires c κs = search needs
-
 returns : tie.Need-returns
 returns c = c .merge-fact .ensures ∙ merged-by (equalContainersBy (now (c .before .before .before .args .classes))) (containers-shift (now (c .before .before .before .args .classes))) _ _ _ (c .before .equal-containers .ensures)
 
 pub merge-container-fact-spec : {M : Type 1} → statement M
-merge-container-fact-spec = tie.close (tie.spec equal-containers-requires merge-fact-requires returns)
+merge-container-fact-spec = tie.close (tie.spec (λ c κs. search needs) (λ c κs. search needs) returns)

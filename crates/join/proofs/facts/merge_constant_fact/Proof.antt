@@ -7,14 +7,8 @@ use Rattle.join.proofs.Cells.{merged-by, numbers-shift}
 use Rattle.join.proofs.facts.merge_constant_fact.Statement.{statement}
 use Rattle.join.proofs.facts.merge_constant_fact.Tie as tie
 
-equal-numbers-requires : tie.Need-equal-numbers-requires
-equal-numbers-requires c κs = search needs
-
-merge-fact-requires : tie.Need-merge-fact-requires
-merge-fact-requires c κs = search needs
-
 returns : tie.Need-returns
 returns c = c .merge-fact .ensures ∙ merged-by equalNumbers numbers-shift _ _ _ (c .before .equal-numbers .ensures)
 
 pub merge-constant-fact-spec : {M : Type 1} → statement M
-merge-constant-fact-spec = tie.close (tie.spec equal-numbers-requires merge-fact-requires returns)
+merge-constant-fact-spec = tie.close (tie.spec (λ c κs. search needs) (λ c κs. search needs) returns)

@@ -9,12 +9,6 @@ use Rattle.transfer.proofs.row.checks_index.Tie as tie
 enum-told : tie.Need-enum-told
 enum-told c = search needs
 
-enum-told-2 : tie.Need-enum-told-2
-enum-told-2 c = search needs
-
-enum-told-3 : tie.Need-enum-told-3
-enum-told-3 c = search needs
-
 returns : tie.Need-returns
 unfolding checksIndex
 returns c = sym (ap (λ (which : AnalysisKind). checksIndex which (c .before .before .args .op)) (c .enum-told .given .1))
@@ -28,5 +22,4 @@ unfolding checksIndex
 returns-3 c = sym (ap (λ (which : AnalysisKind). checksIndex which (c .before .before .args .op)) (c .enum-told3 .given .1))
 
 pub checks-index-spec : {M : Type 1} → statement M
-checks-index-spec =
-    tie.close (tie.spec enum-told enum-told-2 enum-told-3 returns returns-2 returns-3)
+checks-index-spec = tie.close (tie.spec enum-told (λ c. search needs) (λ c. search needs) returns returns-2 returns-3)

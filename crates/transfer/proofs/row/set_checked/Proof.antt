@@ -4,44 +4,24 @@ use Rattle.transfer.proofs.Through.{index-checked, not-checked}
 use Rattle.transfer.proofs.row.set_checked.Statement.{statement}
 use Rattle.transfer.proofs.row.set_checked.Tie as tie
 
-checks-index-requires : tie.Need-checks-index-requires
-checks-index-requires c κs = search needs
-
-wide-requires : tie.Need-wide-requires
-wide-requires c κs = search needs
-
-checked-cell-requires : tie.Need-checked-cell-requires
-checked-cell-requires c κs = search needs
-
-set-fact-requires : tie.Need-set-fact-requires
-set-fact-requires c κs = search needs
-
-same-length : tie.Need-same-length
-same-length c = search needs
-
-same-length-2 : tie.Need-same-length-2
-same-length-2 c = search needs
+abbrev at-start : tie.After-checks-index → tie.Start
+at-start c = c .before .before .before .before
 
 returns : tie.Need-returns
 returns c row l =
-    let s = c .before .before .before .before .before .before .before .before .before .before .before .before .before .before in
-    let put = c .before .before .before .before .set-fact .ensures in
-    index-checked (s .args .inst) (s .args .slots .now) _ row l (c .before .before .before .before .before .before .before .before .before .before .checks-index .ensures) (c .before .before .before .before .before .before .before .before .before .if1 .taken) (s .pre) (c .before .before .before .before .before .before .before .before .wide .ensures .0) (c .before .before .before .before .before .before .before .checked-cell .ensures) (put .0) (put .1)
+    let put = c .before .before .before .before in
+    let cell = put .before .before .before in
+    let test = cell .before .before in
+    let start = at-start (test .before) in
+    index-checked (start .args .inst) (start .args .slots .now) _ row l (test .before .checks-index .ensures) (test .if1 .taken) (start .pre)
+    (cell .before .wide .ensures .0) (cell .checked-cell .ensures) (put .set-fact .ensures .0) (put .set-fact .ensures .1)
 
 returns-2 : tie.Need-returns-2
 returns-2 c row l =
-    let s = c .before .before .before .before .before in
-    not-checked (s .args .inst) (s .args .slots .now) _ row l (c .before .checks-index .ensures) (c .if1 .left)
+    let start = at-start (c .before) in
+    not-checked (start .args .inst) (start .args .slots .now) _ row l (c .before .checks-index .ensures) (c .if1 .left)
 
 pub set-checked-spec : {M : Type 1} → statement M
 set-checked-spec =
-    tie.close
-    (tie.spec
-    checks-index-requires
-    wide-requires
-    checked-cell-requires
-    set-fact-requires
-    same-length
-    same-length-2
-    returns
-    returns-2)
+    tie.close (tie.spec (λ c κs. search needs) (λ c κs. search needs) (λ c κs. search needs) (λ c κs. search needs) (λ c. search needs)
+    (λ c. search needs) returns returns-2)
