@@ -8,6 +8,7 @@ use Prim.Native.Nat.{ℕ, _<_}
 use native.Mathlib.Omega.{arith}
 use lib.ListN.{length}
 use borrow.Author.Tests.{ne-eqb}
+use Rattle.model.specs.Tables.{RowLies, RowSlices, rowSlices}
 use Rattle.model.specs.Charges.{Spent, give, continue, _>>=_, _>>_}
 use Rattle.model.specs.Fact.{Row}
 use Rattle.model.specs.Sheet.{codeCount, paramCount}
@@ -21,15 +22,14 @@ use Rattle.budget.specs.declared.Outcome.{Outcome}
 use Rattle.budget.specs.declared.Outcome.the-variants.{Covered}
 use Rattle.budget.proofs.Left.{NotCovered, covered-leaves, stopped-then, stopped-leaves, spent-stopped, left-covered, left-stopped}
 use Rattle.budget.proofs.Spending.{covered, then-covered}
-use Rattle.fact_row.specs.Rows.{Lies}
-use Rattle.stage_entry.specs.First.{Blank, RowMemory, rowMemory, rowLaid, rowBlank}
+use Rattle.stage_entry.specs.First.{Blank, rowLaid, rowBlank}
 use Rattle.stage_entry.proofs.Made.{blank-lies, laid}
 
 -- ---- parameters
 
 module _ (sheet slots : List ℕ) (budget : VerifierResources) (row : Row) {o : Option ℕ} (is : o ≡ paramStart sheet) where
-  pub param-none : o ≡ none → {kinds values : List ℕ} → Lies row kinds values
-      → some (leaves (Covered budget) (rowMemory kinds values)) ≡ leavesOf rowLaid (rowBlank (length slots)) (paramRow sheet slots (paramStart sheet) row budget)
+  pub param-none : o ≡ none → {kinds values : List ℕ} → RowLies row (rowSlices kinds values)
+      → some (leaves (Covered budget) (rowSlices kinds values)) ≡ leavesOf rowLaid (rowBlank (length slots)) (paramRow sheet slots (paramStart sheet) row budget)
   unfolding paramRow give
   param-none e l = rw (← is, e) (covered-leaves _ _ refl refl (laid l))
 
@@ -45,10 +45,10 @@ module _ (sheet slots : List ℕ) (budget : VerifierResources) where
   params = paramRow sheet slots (paramStart sheet) (unknownRow slots) budget
 
   -- a container row, as the code leaves it
-  abbrev Entered : Outcome → RowMemory → Type 0
+  abbrev Entered : Outcome → RowSlices → Type 0
   Entered outcome memory = some (leaves outcome memory) ≡ leavesOf rowLaid (rowBlank (length slots)) (containerRow false sheet slots budget)
 
-  module _ (seeded : Outcome) {memory : RowMemory} (came : some (leaves seeded memory) ≡ leavesOf rowLaid (rowBlank (length slots)) params) where
+  module _ (seeded : Outcome) {memory : RowSlices} (came : some (leaves seeded memory) ≡ leavesOf rowLaid (rowBlank (length slots)) params) where
     -- a parameter's charge is refused
     pub params-refused : NotCovered seeded → Entered seeded memory
     unfolding containerRow _>>=_
@@ -56,7 +56,7 @@ module _ (sheet slots : List ℕ) (budget : VerifierResources) where
 
     module _ {left : VerifierResources} (e : seeded ≡ Covered left) (charged : Outcome) (notes : asSpent charged ≡ chargeInstructionFacts sheet left) where
       -- a note's charge is refused
-      pub notes-refused : {cleared : RowMemory} → NotCovered charged → cleared ≡ rowBlank (length slots) → Entered charged cleared
+      pub notes-refused : {cleared : RowSlices} → NotCovered charged → cleared ≡ rowBlank (length slots) → Entered charged cleared
       unfolding containerRow _>>=_ _>>_ continue
       notes-refused h z =
           let r = left-covered _ _ _ came e in
@@ -73,17 +73,17 @@ module _ (sheet slots : List ℕ) (budget : VerifierResources) where
 
 module _ (which : AnalysisKind) (sheet slots : List ℕ) (budget : VerifierResources) where
   -- the first row of an analysis, as the code leaves it
-  abbrev First : Outcome → RowMemory → Type 0
+  abbrev First : Outcome → RowSlices → Type 0
   First outcome memory = some (leaves outcome memory) ≡ leavesOf rowLaid (rowBlank (length slots)) (firstRow which sheet slots budget)
 
-  pub constant-row : {kinds values : List ℕ} → which ≡ Constant → Blank slots kinds values → First (Covered budget) (rowMemory kinds values)
+  pub constant-row : {kinds values : List ℕ} → which ≡ Constant → Blank slots kinds values → First (Covered budget) (rowSlices kinds values)
   unfolding firstRow give
   constant-row e b = rw e (covered-leaves _ _ refl refl (laid (blank-lies b)))
 
-  pub index-row : {kinds values : List ℕ} → which ≡ IndexCheck → Blank slots kinds values → First (Covered budget) (rowMemory kinds values)
+  pub index-row : {kinds values : List ℕ} → which ≡ IndexCheck → Blank slots kinds values → First (Covered budget) (rowSlices kinds values)
   unfolding firstRow give
   index-row e b = rw e (covered-leaves _ _ refl refl (laid (blank-lies b)))
 
-  pub container-row : {outcome : Outcome} {memory : RowMemory} → which ≡ Container → 0 < codeCount sheet → 0 < length slots → Entered sheet slots budget outcome memory → First outcome memory
+  pub container-row : {outcome : Outcome} {memory : RowSlices} → which ≡ Container → 0 < codeCount sheet → 0 < length slots → Entered sheet slots budget outcome memory → First outcome memory
   unfolding firstRow
   container-row e n s came = rw (e, ne-eqb (codeCount sheet) 0 (λ z. omega arith), ne-eqb (length slots) 0 (λ z. omega arith)) came

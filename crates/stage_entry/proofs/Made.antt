@@ -4,11 +4,12 @@ use mathlib.Core.Path.{_≡_, refl, sym, ap, _∙_}
 use mathlib.Core.List.{List, _∷_, map}
 use Prim.Native.Nat.{ℕ, zero, suc}
 use lib.ListN.{length, replicate, length-replicate}
+use Rattle.model.specs.Tables.{RowLies, RowSlices, rowSlices}
 use Rattle.model.specs.Call.{zeros}
 use Rattle.model.specs.Fact.{unknown, kind, value, Row}
 use Rattle.model.specs.Analyses.{unknownRow}
-use Rattle.fact_row.specs.Rows.{Lies, WritableRow}
-use Rattle.stage_entry.specs.First.{Blank, RowMemory, rowMemory, rowLaid, rowBlank}
+use Rattle.fact_row.specs.Rows.{WritableRow}
+use Rattle.stage_entry.specs.First.{Blank, rowLaid, rowBlank}
 
 -- ---- a row in memory
 
@@ -17,7 +18,7 @@ map-replicate f zero x = refl
 map-replicate f (suc n) x = ap (λ r. f x ∷ r) (map-replicate f n x)
 
 -- a blank row is a row of Unknown
-pub blank-lies : {slots kinds values : List ℕ} → Blank slots kinds values → Lies (unknownRow slots) kinds values
+pub blank-lies : {slots kinds values : List ℕ} → Blank slots kinds values → RowLies (unknownRow slots) (rowSlices kinds values)
 unfolding unknownRow kind value
 blank-lies {slots} b = record {
   kinds-are = b .kinds-zero ∙ sym (map-replicate kind (length slots) unknown);
@@ -33,13 +34,13 @@ blank-rowed {slots} b = record {
 
 -- ---- memory and row
 
-pub laid : {row : Row} {kinds values : List ℕ} → Lies row kinds values → rowMemory kinds values ≡ rowLaid row
+pub laid : {row : Row} {kinds values : List ℕ} → RowLies row (rowSlices kinds values) → rowSlices kinds values ≡ rowLaid row
 laid l = rw (l .kinds-are, l .values-are)
 
-pub lies-of : {row : Row} {kinds values : List ℕ} → rowMemory kinds values ≡ rowLaid row → Lies row kinds values
-lies-of e = record { kinds-are = ap (λ (m : RowMemory). m .kinds) e; values-are = ap (λ (m : RowMemory). m .values) e }
+pub lies-of : {row : Row} {kinds values : List ℕ} → rowSlices kinds values ≡ rowLaid row → RowLies row (rowSlices kinds values)
+lies-of e = record { kinds-are = ap (λ (m : RowSlices). m .kinds) e; values-are = ap (λ (m : RowSlices). m .values) e }
 
 -- a row that is cleared is s zeros
-pub blanked : (kinds values : List ℕ) {k v : List ℕ} {s : ℕ} → k ≡ zeros kinds → v ≡ zeros values → length kinds ≡ s → length values ≡ s → rowMemory k v ≡ rowBlank s
+pub blanked : (kinds values : List ℕ) {k v : List ℕ} {s : ℕ} → k ≡ zeros kinds → v ≡ zeros values → length kinds ≡ s → length values ≡ s → rowSlices k v ≡ rowBlank s
 unfolding zeros
 blanked kinds values p q h i = rw (p, q, h, i)

@@ -14,7 +14,7 @@ use Rattle.model.specs.Count.{sum}
 use Rattle.model.specs.Fact.{Fact, Row}
 use Rattle.model.specs.Lookup.{place}
 use Rattle.model.specs.Sheet.{paramCount, paramWidth}
-use Rattle.model.specs.Tables.{factIn, cellOf}
+use Rattle.model.specs.Tables.{RowLies, RowSlices, rowSlices, factIn, cellOf}
 use Rattle.model.specs.Transfer.{put}
 use Rattle.model.specs.Parameters.{paramFact, chargeLayouts, seedParam, seedParams}
 use Rattle.model.specs.declared.FactCell.{FactCell}
@@ -26,18 +26,18 @@ use Rattle.budget.proofs.Left.{Stopped, NotCovered, covered-leaves, stopped-the
 use Rattle.budget.proofs.Spending.{covered, then-covered}
 use Rattle.sheet.proofs.Adding.{SumUpto, added-none, added-more}
 use Rattle.fact_row.specs.Place.{setAt}
-use Rattle.fact_row.specs.Rows.{Lies, WritableRow}
+use Rattle.fact_row.specs.Rows.{WritableRow}
 use Rattle.fact_row.proofs.Facts.{read}
 use Rattle.fact_row.proofs.Setting.{put-lies}
-use Rattle.stage_entry.specs.First.{RowMemory, rowMemory, rowLaid, rowBlank}
+use Rattle.stage_entry.specs.First.{rowLaid, rowBlank}
 use Rattle.stage_entry.proofs.Made.{laid, lies-of}
 
 -- ---- one parameter
 
-module _ (sheet slots : List ℕ) (slot : ℕ) (resources : VerifierResources) {row : Row} {kinds values : List ℕ} (lies : Lies row kinds values) where
+module _ (sheet slots : List ℕ) (slot : ℕ) (resources : VerifierResources) {row : Row} {kinds values : List ℕ} (lies : RowLies row (rowSlices kinds values)) where
   -- without a fact
   pub seed-none : (o : Option Fact) → o ≡ none
-      → some (leaves (Covered resources) (rowMemory kinds values)) ≡ leavesOf rowLaid (rowBlank (length slots)) (seedParam sheet slots slot o row resources)
+      → some (leaves (Covered resources) (rowSlices kinds values)) ≡ leavesOf rowLaid (rowBlank (length slots)) (seedParam sheet slots slot o row resources)
   unfolding seedParam give
   seed-none o e = rw e (covered-leaves _ _ refl refl (laid lies))
 
@@ -47,12 +47,12 @@ module _ (sheet slots : List ℕ) (slot : ℕ) (resources : VerifierResources) {
 
     pub seed-covered : {left : VerifierResources} {k v : List ℕ} → whole ≡ Covered left → WritableRow slots kinds values
         → k ≡ setAt (place slots slot) kinds (cell .kind) → v ≡ setAt (place slots slot) values (cell .value)
-        → some (leaves whole (rowMemory k v)) ≡ leavesOf rowLaid (rowBlank (length slots)) (seedParam sheet slots slot (some fact) row resources)
+        → some (leaves whole (rowSlices k v)) ≡ leavesOf rowLaid (rowBlank (length slots)) (seedParam sheet slots slot (some fact) row resources)
     unfolding seedParam give
     seed-covered e r p q =
         covered-leaves _ _ (then-covered (chargeLayouts sheet fact) (give (put slots row slot fact)) resources (covered came-by e)) e (laid (put-lies lies r slot fact is p q))
 
-    pub seed-refused : {memory : RowMemory} → NotCovered whole → memory ≡ rowBlank (length slots)
+    pub seed-refused : {memory : RowSlices} → NotCovered whole → memory ≡ rowBlank (length slots)
         → some (leaves whole memory) ≡ leavesOf rowLaid (rowBlank (length slots)) (seedParam sheet slots slot (some fact) row resources)
     unfolding seedParam _>>_
     seed-refused h e = stopped-leaves (stopped-then (spent-stopped whole came-by h) (λ _. give (put slots row slot fact))) _ e
@@ -85,7 +85,7 @@ module _ (sheet slots : List ℕ) (start : ℕ) (budget : VerifierResources) whe
       pub added : SumUpto (λ j. paramWidth sheet j) count passed i
       pub kinds-long : length k ≡ length slots
       pub values-long : length v ≡ length slots
-      pub is : (row : Row) → Lies row k₀ v₀ → (out : Row) × (seeded i row ≡ ok out left) × Lies out k v
+      pub is : (row : Row) → RowLies row (rowSlices k₀ v₀) → (out : Row) × (seeded i row ≡ ok out left) × RowLies out (rowSlices k v)
 
     pub seeded-none : WritableRow slots k₀ v₀ → Seeded k₀ v₀ budget 0 0
     unfolding seedParams give
@@ -98,11 +98,11 @@ module _ (sheet slots : List ℕ) (start : ℕ) (budget : VerifierResources) whe
 
     -- what the first i parameters leave in memory
     abbrev SeededTo : ℕ → Outcome → List ℕ → List ℕ → Type 0
-    SeededTo i outcome k v = (row : Row) → Lies row k₀ v₀ → some (leaves outcome (rowMemory k v)) ≡ leavesOf rowLaid (rowBlank (length slots)) (seeded i row)
+    SeededTo i outcome k v = (row : Row) → RowLies row (rowSlices k₀ v₀) → some (leaves outcome (rowSlices k v)) ≡ leavesOf rowLaid (rowBlank (length slots)) (seeded i row)
 
     module _ {k v : List ℕ} {left : VerifierResources} {passed i : ℕ} (s : Seeded k v left passed i) (h : i < count) (outcome : Outcome) {k′ v′ : List ℕ}
-        (came : (row : Row) → Lies row k v
-        → some (leaves outcome (rowMemory k′ v′)) ≡ leavesOf rowLaid (rowBlank (length slots)) (seedParam sheet slots (start + passed) (paramFact sheet i) row left)) where
+        (came : (row : Row) → RowLies row (rowSlices k v)
+        → some (leaves outcome (rowSlices k′ v′)) ≡ leavesOf rowLaid (rowBlank (length slots)) (seedParam sheet slots (start + passed) (paramFact sheet i) row left)) where
       came-next : SeededTo (i + 1) outcome k′ v′
       came-next row l =
           let o = s .is row l in

@@ -5,6 +5,7 @@ use mathlib.Core.Bool.{true}
 use mathlib.Core.List.{List, map}
 use Prim.Native.Nat.{ℕ}
 use lib.ListN.{length, replicate}
+use Rattle.model.specs.Tables.{RowSlices, rowSlices}
 use Rattle.model.specs.Fact.{kind, value, Row}
 use Rattle.model.specs.Lookup.{ascends}
 
@@ -14,19 +15,10 @@ pub record Blank (slots kinds values : List ℕ) : Type 0 where
   pub kinds-zero : kinds ≡ replicate (length slots) 0
   pub values-zero : values ≡ replicate (length slots) 0
 
--- A row in memory: its kinds and its values.
-pub record RowMemory : Type 0 where
-  pub kinds : List ℕ
-  pub values : List ℕ
-
--- from the two slices
-abbrev pub rowMemory : List ℕ → List ℕ → RowMemory
-rowMemory kinds values = record { kinds = kinds; values = values }
-
 -- the memory in which a row lies
-abbrev pub rowLaid : Row → RowMemory
-rowLaid row = rowMemory (map kind row) (map value row)
+abbrev pub rowLaid : Row → RowSlices
+rowLaid row = rowSlices (map kind row) (map value row)
 
 -- s zeros in each: what a refusal leaves
-abbrev pub rowBlank : ℕ → RowMemory
-rowBlank s = rowMemory (replicate s 0) (replicate s 0)
+abbrev pub rowBlank : ℕ → RowSlices
+rowBlank s = rowSlices (replicate s 0) (replicate s 0)

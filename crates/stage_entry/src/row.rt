@@ -4,10 +4,11 @@ ghost use mathlib.Core.Bool.{false};
 ghost use mathlib.Core.Option.{some};
 ghost use Prim.Native.Nat.{_<_};
 ghost use lib.ListN.{length};
+ghost use Rattle.model.specs.Tables.{rowSlices};
 ghost use Rattle.model.specs.Analyses.{containerRow, firstRow};
 ghost use Rattle.budget.specs.Outcome.{leaves, leavesOf};
 ghost use Rattle.sheet.specs.Measured.{Measured};
-ghost use Rattle.stage_entry.specs.First.{Blank, rowMemory, rowLaid, rowBlank};
+ghost use Rattle.stage_entry.specs.First.{Blank, rowLaid, rowBlank};
 use crate::seeds::param_row;
 use budget::Outcome;
 use memory::clear_u8;
@@ -28,7 +29,7 @@ fn container_row(
 ) -> Outcome
     requires { ⌜ Measured (now sheet) sizes × Blank (now slots) (now «row_kinds») (now «row_values») ⌝ }
     ensures { λ r. ⌜ (
-        some (leaves r (rowMemory (now («row_kinds» .exit)) (now («row_values» .exit))))
+        some (leaves r (rowSlices (now («row_kinds» .exit)) (now («row_values» .exit))))
         ≡ leavesOf rowLaid (rowBlank (length (now (slots .entry)))) (containerRow false (now (sheet .entry)) (now (slots .entry)) resources)
         ) ⌝ }
 {
@@ -57,7 +58,7 @@ pub fn first_row(
 ) -> Outcome
     requires { ⌜ Measured (now sheet) sizes × Blank (now slots) (now «row_kinds») (now «row_values») × (0 < sizes .«code_count») × (0 < length (now slots)) ⌝ }
     ensures { λ r. ⌜ (
-        some (leaves r (rowMemory (now («row_kinds» .exit)) (now («row_values» .exit))))
+        some (leaves r (rowSlices (now («row_kinds» .exit)) (now («row_values» .exit))))
         ≡ leavesOf rowLaid (rowBlank (length (now (slots .entry)))) (firstRow which (now (sheet .entry)) (now (slots .entry)) resources)
         ) ⌝ }
 {

@@ -5,13 +5,13 @@ ghost use Prim.Native.Nat.{_<_};
 ghost use lib.ListN.{length};
 ghost use Rattle.model.specs.Fact.{Fact, Row};
 ghost use Rattle.model.specs.Sheet.{paramCount};
-ghost use Rattle.model.specs.Tables.{cellOf};
+ghost use Rattle.model.specs.Tables.{RowLies, rowSlices, cellOf};
 ghost use Rattle.model.specs.Parameters.{paramStart, paramFact, seedParam, seedParams, paramRow};
 ghost use Rattle.model.specs.Analyses.{unknownRow};
 ghost use Rattle.budget.specs.Outcome.{leaves, leavesOf};
 ghost use Rattle.sheet.specs.Measured.{Measured};
-ghost use Rattle.fact_row.specs.Rows.{Lies, WritableRow};
-ghost use Rattle.stage_entry.specs.First.{Blank, rowMemory, rowLaid, rowBlank};
+ghost use Rattle.fact_row.specs.Rows.{WritableRow};
+ghost use Rattle.stage_entry.specs.First.{Blank, rowLaid, rowBlank};
 use crate::params::ParamStart;
 use crate::params::param_fact;
 use crate::params::param_start;
@@ -39,8 +39,8 @@ fn seed_fact(
 ) -> Outcome
     requires { ⌜ Measured (now sheet) sizes × WritableRow (now slots) (now «row_kinds») (now «row_values») ⌝ }
     ensures { λ r. ⌜ (
-        (row : Row) (fact : Fact) → Lies row (now («row_kinds» .entry)) (now («row_values» .entry)) → cell ≡ cellOf fact
-        → some (leaves r (rowMemory (now («row_kinds» .exit)) (now («row_values» .exit))))
+        (row : Row) (fact : Fact) → RowLies row (rowSlices (now («row_kinds» .entry)) (now («row_values» .entry))) → cell ≡ cellOf fact
+        → some (leaves r (rowSlices (now («row_kinds» .exit)) (now («row_values» .exit))))
         ≡ leavesOf rowLaid (rowBlank (length (now (slots .entry))))
         (seedParam (now (sheet .entry)) (now (slots .entry)) slot (some fact) row resources)
         ) ⌝ }
@@ -68,8 +68,8 @@ fn seed_param(
 ) -> Outcome
     requires { ⌜ Measured (now sheet) sizes × (i < sizes .«param_count») × WritableRow (now slots) (now «row_kinds») (now «row_values») ⌝ }
     ensures { λ r. ⌜ (
-        (row : Row) → Lies row (now («row_kinds» .entry)) (now («row_values» .entry))
-        → some (leaves r (rowMemory (now («row_kinds» .exit)) (now («row_values» .exit))))
+        (row : Row) → RowLies row (rowSlices (now («row_kinds» .entry)) (now («row_values» .entry)))
+        → some (leaves r (rowSlices (now («row_kinds» .exit)) (now («row_values» .exit))))
         ≡ leavesOf rowLaid (rowBlank (length (now (slots .entry))))
         (seedParam (now (sheet .entry)) (now (slots .entry)) slot (paramFact (now (sheet .entry)) i) row resources)
         ) ⌝ }
@@ -102,8 +102,8 @@ fn seed_params(
 ) -> Outcome
     requires { ⌜ Measured (now sheet) sizes × WritableRow (now slots) (now «row_kinds») (now «row_values») ⌝ }
     ensures { λ r. ⌜ (
-        (row : Row) → Lies row (now («row_kinds» .entry)) (now («row_values» .entry))
-        → some (leaves r (rowMemory (now («row_kinds» .exit)) (now («row_values» .exit))))
+        (row : Row) → RowLies row (rowSlices (now («row_kinds» .entry)) (now («row_values» .entry)))
+        → some (leaves r (rowSlices (now («row_kinds» .exit)) (now («row_values» .exit))))
         ≡ leavesOf rowLaid (rowBlank (length (now (slots .entry))))
         (seedParams (now (sheet .entry)) (now (slots .entry)) start (paramCount (now (sheet .entry))) row resources)
         ) ⌝ }
@@ -137,7 +137,7 @@ pub fn param_row(
 ) -> Outcome
     requires { ⌜ Measured (now sheet) sizes × Blank (now slots) (now «row_kinds») (now «row_values») ⌝ }
     ensures { λ r. ⌜ (
-        some (leaves r (rowMemory (now («row_kinds» .exit)) (now («row_values» .exit))))
+        some (leaves r (rowSlices (now («row_kinds» .exit)) (now («row_values» .exit))))
         ≡ leavesOf rowLaid (rowBlank (length (now (slots .entry))))
         (paramRow (now (sheet .entry)) (now (slots .entry)) (paramStart (now (sheet .entry))) (unknownRow (now (slots .entry))) resources)
         ) ⌝ }

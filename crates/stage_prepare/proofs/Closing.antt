@@ -10,6 +10,7 @@ use lib.Dec.{leb, ltb}
 use lib.ListN.{length, take, drop, length-append, length-drop}
 use lib.Seq.{take-append-seam}
 use borrow.Author.Tests.{leb-true, ltb-true, le-leb}
+use Rattle.model.specs.Tables.{RowSlices}
 use Rattle.model.specs.Sheet.{codeCount, localSlots}
 use Rattle.model.specs.Charges.{Spent, ok, give, continue, _>>=_}
 use Rattle.model.specs.Closure.{trackedSlots}
@@ -33,7 +34,6 @@ use Rattle.sheet.proofs.Limited.{limited}
 use Rattle.model.proofs.Tests.{both-left, both-right}
 use Rattle.closure_marks.specs.Slots.{fittedIf, fitted}
 use Rattle.stage_room.specs.Room.{roomBy}
-use Rattle.stage_entry.specs.First.{RowMemory}
 use Rattle.closure.specs.Closed.{Closed, closed, closedBy}
 use Rattle.stage_prepare.specs.Begin.{enterIf, Begun, begin, enough, rowFilled, rowZero}
 use Rattle.stage_prepare.specs.Prepare.{something, PrepareEnd, prepared, preparedBy, unprepared}
@@ -75,7 +75,7 @@ module _ (tracked old : List ℕ) where
 
 -- ---- what is begun
 
-prepared-is : (n : ℕ) (slots rowKinds rowValues : List ℕ) (b : Begun) {runs : Bool} {s : ℕ} {slots′ : List ℕ} {memory : RowMemory}
+prepared-is : (n : ℕ) (slots rowKinds rowValues : List ℕ) (b : Begun) {runs : Bool} {s : ℕ} {slots′ : List ℕ} {memory : RowSlices}
     → runs ≡ something n s → s ≡ length (b .slots) → slots′ ≡ filled (b .slots) slots → memory ≡ rowFilled rowKinds rowValues (b .entry)
     → prepared runs s slots′ (memory .kinds) (memory .values) ≡ preparedBy n slots rowKinds rowValues b
 prepared-is n slots rowKinds rowValues b r m t e = rw (r, m, t, e)
@@ -157,7 +157,7 @@ module _ (which : AnalysisKind) (sheet slots rowKinds rowValues : List ℕ) (roo
           closure-tracked which sheet (enough room sheet slots rowKinds rowValues) budget found left (done .1)
           ∙ ap (continue (λ entry. give (record { slots = found; entry = entry }))) (ap (λ (b : Bool). entered b found) (sym asked-same) ∙ sym same-entry)
 
-      module _ {outcome : Outcome} {memory : RowMemory} (row : some (leaves outcome memory) ≡ leavesOf (rowFilled rowKinds rowValues) (rowZero rowKinds rowValues) (entered asked (take s slots′))) where
+      module _ {outcome : Outcome} {memory : RowSlices} (row : some (leaves outcome memory) ≡ leavesOf (rowFilled rowKinds rowValues) (rowZero rowKinds rowValues) (entered asked (take s slots′))) where
         -- question 8, or a charge behind it, is refused
         pub begin-refused : {slots″ : List ℕ} → NotCovered outcome → slots″ ≡ zeros slots′ → some (leaves outcome (prepared false 0 slots″ (memory .kinds) (memory .values))) ≡ goal
         begin-refused h z =

@@ -10,6 +10,7 @@ use native.Mathlib.Omega.{arith}
 use lib.ListN.{length, replicate, take, drop}
 use lib.Seq.{length-take-le}
 use borrow.Author.Tests.{leb-true}
+use Rattle.model.specs.Tables.{RowLies, RowSlices, rowSlices}
 use Rattle.model.specs.Sheet.{codeCount}
 use Rattle.model.specs.Fact.{Fact, unknown, kind, value, Row}
 use Rattle.model.specs.Analyses.{unknownRow}
@@ -26,8 +27,7 @@ use Rattle.sheet.specs.Measured.{Accepted, Measured}
 use Rattle.sheet.specs.declared.Sizes.{Sizes}
 use Rattle.sheet.proofs.Asked.{measured}
 use Rattle.stage_room.specs.Room.{roomBy}
-use Rattle.fact_row.specs.Rows.{Lies}
-use Rattle.stage_entry.specs.First.{Blank, RowMemory, rowMemory, rowLaid, rowBlank}
+use Rattle.stage_entry.specs.First.{Blank, rowLaid, rowBlank}
 use Rattle.stage_entry.proofs.Made.{lies-of}
 use Rattle.stage_prepare.specs.Begin.{entering, enterIf, enough, rowFilled, rowZero}
 use Rattle.stage_prepare.specs.declared.Room.{Room}
@@ -73,10 +73,10 @@ module _ (which : AnalysisKind) (sheet : List ℕ) (n s : ℕ) (all : n ≡ code
   same : asked ≡ enough room sheet slots rowKinds rowValues s
   same = ap (λ (m : ℕ). roomBy m s (length slots) (room .present) (room .kinds) (room .values) (length rowKinds) (length rowValues) (room .«work_list»)) all
 
-  abbrev goal : Option (Leaves RowMemory)
+  abbrev goal : Option (Leaves RowSlices)
   goal = leavesOf (rowFilled rowKinds rowValues) (rowZero rowKinds rowValues) (enterIf (enough room sheet slots rowKinds rowValues s) which sheet (take s slots) left)
 
-  pub refused-room : asked ≡ false → some (leaves (NoRoom left) (rowMemory rowKinds rowValues)) ≡ goal
+  pub refused-room : asked ≡ false → some (leaves (NoRoom left) (rowSlices rowKinds rowValues)) ≡ goal
   unfolding enterIf leavesOf refusedBy
   refused-room e = rw (sym same ∙ e) (cc)
 
@@ -88,14 +88,14 @@ module _ (which : AnalysisKind) (sheet : List ℕ) (n s : ℕ) (all : n ≡ code
     unfolding enterIf
     with-room = rw (sym same ∙ e)
 
-    pub ended-at-once : (n ≡ 0) ⊎ (s ≡ 0) → some (leaves (Covered left) (rowMemory rowKinds rowValues)) ≡ goal
+    pub ended-at-once : (n ≡ 0) ⊎ (s ≡ 0) → some (leaves (Covered left) (rowSlices rowKinds rowValues)) ≡ goal
     ended-at-once none-here = covered-leaves _ _ (enters-at-once which sheet (take s slots) left (here none-here)) refl unknown-is ∙ with-room
       where
         here : (n ≡ 0) ⊎ (s ≡ 0) → (codeCount sheet ≡ 0) ⊎ (length (take s slots) ≡ 0)
         here (inl h) = inl (sym all ∙ h)
         here (inr h) = inr (length-take-le s slots slots-fit ∙ h)
 
-        unknown-is : rowMemory rowKinds rowValues ≡ rowFilled rowKinds rowValues (unknownRow (take s slots))
+        unknown-is : rowSlices rowKinds rowValues ≡ rowFilled rowKinds rowValues (unknownRow (take s slots))
         unknown-is = unfold unknownRow in (
             let fit = room-parts n s _ _ _ _ _ _ _ e in
             rw (length-take-le s slots slots-fit) (
@@ -125,9 +125,9 @@ module _ (which : AnalysisKind) (sheet : List ℕ) (n s : ℕ) (all : n ≡ code
 
     -- what the charges and the entry row leave in the first places is what they leave in the whole
     pub entered-row : {entered : Outcome} (rk rv : List ℕ)
-        → some (leaves entered (rowMemory rk rv)) ≡ leavesOf rowLaid (rowBlank (length (take s slots))) (entering which sheet (take s slots) left)
+        → some (leaves entered (rowSlices rk rv)) ≡ leavesOf rowLaid (rowBlank (length (take s slots))) (entering which sheet (take s slots) left)
         → length (rk ++ drop s rowKinds) ≡ length rowKinds → length (rv ++ drop s rowValues) ≡ length rowValues
-        → some (leaves entered (rowMemory (rk ++ drop s rowKinds) (rv ++ drop s rowValues))) ≡ goal
+        → some (leaves entered (rowSlices (rk ++ drop s rowKinds) (rv ++ drop s rowValues))) ≡ goal
     entered-row {entered} rk rv h lk lv = go (left-by _ _ _ h) ∙ with-room
       where
         fit : (s ≤ length rowKinds) × (s ≤ length rowValues)
@@ -136,17 +136,17 @@ module _ (which : AnalysisKind) (sheet : List ℕ) (n s : ℕ) (all : n ≡ code
         long : length (take s slots) ≡ s
         long = length-take-le s slots slots-fit
 
-        filled-is : (row : Row) → Lies row rk rv → rowMemory (rk ++ drop s rowKinds) (rv ++ drop s rowValues) ≡ rowFilled rowKinds rowValues row
+        filled-is : (row : Row) → RowLies row (rowSlices rk rv) → rowSlices (rk ++ drop s rowKinds) (rv ++ drop s rowValues) ≡ rowFilled rowKinds rowValues row
         filled-is row l = rw (front-filled s rowKinds (fit .0) zk (l .kinds-are) (part-length s rowKinds (fit .0) rk lk), front-filled s rowValues (fit .1) zv (l .values-are) (part-length s rowValues (fit .1) rv lv))
 
-        zero-is : rowMemory rk rv ≡ rowBlank (length (take s slots)) → rowMemory (rk ++ drop s rowKinds) (rv ++ drop s rowValues) ≡ rowZero rowKinds rowValues
+        zero-is : rowSlices rk rv ≡ rowBlank (length (take s slots)) → rowSlices (rk ++ drop s rowKinds) (rv ++ drop s rowValues) ≡ rowZero rowKinds rowValues
         zero-is m =
-            let k = ap (λ (x : RowMemory). x .kinds) m ∙ ap (λ (j : ℕ). replicate j 0) long in
-            let v = ap (λ (x : RowMemory). x .values) m ∙ ap (λ (j : ℕ). replicate j 0) long in
+            let k = ap (λ (x : RowSlices). x .kinds) m ∙ ap (λ (j : ℕ). replicate j 0) long in
+            let v = ap (λ (x : RowSlices). x .values) m ∙ ap (λ (j : ℕ). replicate j 0) long in
             rw (front-cleared s rowKinds (fit .0) zk k, front-cleared s rowValues (fit .1) zv v)
 
-        go : Left rowLaid (rowBlank (length (take s slots))) (entering which sheet (take s slots) left) entered (rowMemory rk rv)
-            → some (leaves entered (rowMemory (rk ++ drop s rowKinds) (rv ++ drop s rowValues)))
+        go : Left rowLaid (rowBlank (length (take s slots))) (entering which sheet (take s slots) left) entered (rowSlices rk rv)
+            → some (leaves entered (rowSlices (rk ++ drop s rowKinds) (rv ++ drop s rowValues)))
             ≡ leavesOf (rowFilled rowKinds rowValues) (rowZero rowKinds rowValues) (entering which sheet (take s slots) left)
         go (covered row rest c o m) = covered-leaves _ _ c o (filled-is row (lies-of m))
         go (stopped refusal rest c o m) = stopped-leaves (record { refusal = refusal; left = rest; came = c; is = o }) _ (zero-is m)

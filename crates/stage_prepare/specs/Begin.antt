@@ -5,6 +5,7 @@ use mathlib.Core.Bool.{Bool, true, false}
 use mathlib.Core.List.{List, map}
 use Prim.Native.Nat.{ℕ, _≤_}
 use lib.ListN.{length}
+use Rattle.model.specs.Tables.{RowSlices, rowSlices}
 use Rattle.model.specs.Charges.{noRoom, stop, Metered, give, _>>=_, _>>_}
 use Rattle.model.specs.Closure.{trackedSlots}
 use Rattle.model.specs.Fact.{kind, value, Row}
@@ -12,7 +13,6 @@ use Rattle.model.specs.Sheet.{codeCount, localSlots}
 use Rattle.model.specs.Analyses.{askRoom, chargeMatrix, firstRow}
 use Rattle.model.specs.Call.{zeros, filled}
 use Rattle.model.specs.declared.AnalysisKind.{AnalysisKind}
-use Rattle.stage_entry.specs.First.{RowMemory, rowMemory}
 use Rattle.stage_room.specs.Room.{roomBy}
 use Rattle.stage_prepare.specs.declared.Room.{Room}
 
@@ -60,9 +60,9 @@ enough room sheet slots rowKinds rowValues s =
 -- ---- what is left: the row
 
 -- a row in the first places of a row scratch that was zero
-abbrev pub rowFilled : List ℕ → List ℕ → Row → RowMemory
-rowFilled rowKinds rowValues row = rowMemory (filled (map kind row) rowKinds) (filled (map value row) rowValues)
+abbrev pub rowFilled : List ℕ → List ℕ → Row → RowSlices
+rowFilled rowKinds rowValues row = rowSlices (filled (map kind row) rowKinds) (filled (map value row) rowValues)
 
 -- zeros: after 7 and 8
-abbrev pub rowZero : List ℕ → List ℕ → RowMemory
-rowZero rowKinds rowValues = rowMemory (zeros rowKinds) (zeros rowValues)
+abbrev pub rowZero : List ℕ → List ℕ → RowSlices
+rowZero rowKinds rowValues = rowSlices (zeros rowKinds) (zeros rowValues)

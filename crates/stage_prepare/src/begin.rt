@@ -4,12 +4,12 @@ ghost use mathlib.Core.Bool.{true};
 ghost use mathlib.Core.Option.{some};
 ghost use Prim.Native.Nat.{_≤_};
 ghost use lib.ListN.{length, take};
+ghost use Rattle.model.specs.Tables.{rowSlices};
 ghost use Rattle.model.specs.Sheet.{codeCount};
 ghost use Rattle.model.specs.Lookup.{ascends};
 ghost use Rattle.model.specs.Call.{zeros};
 ghost use Rattle.budget.specs.Outcome.{leaves, leavesOf};
 ghost use Rattle.sheet.specs.Measured.{Accepted};
-ghost use Rattle.stage_entry.specs.First.{rowMemory};
 ghost use Rattle.stage_prepare.specs.Begin.{begin, enterIf, enough, Unmarked, rowFilled, rowZero};
 ghost use Rattle.stage_prepare.specs.Prepare.{something, prepared, preparedBy, unprepared};
 use crate::Prepared;
@@ -51,7 +51,7 @@ fn enter_tracked(
         ) ⌝ }
     ensures { λ r. ⌜ (
         let rk = now («row_kinds» .entry) in let rv = now («row_values» .entry) in
-        some (leaves r (rowMemory (now («row_kinds» .exit)) (now («row_values» .exit))))
+        some (leaves r (rowSlices (now («row_kinds» .exit)) (now («row_values» .exit))))
         ≡ leavesOf (rowFilled rk rv) (rowZero rk rv)
         (enterIf (enough room (now (sheet .entry)) (now (slots .entry)) rk rv s) which (now (sheet .entry)) (take s (now (slots .entry))) resources)
         ) ⌝ }

@@ -3,9 +3,10 @@ ghost use mathlib.Core.Path.{_≡_};
 ghost use mathlib.Core.Option.{some};
 ghost use Prim.Native.Nat.{_≤_, _<_};
 ghost use lib.ListN.{length};
+ghost use Rattle.model.specs.Tables.{rowSlices};
 ghost use Rattle.budget.specs.Outcome.{leaves, leavesOf};
 ghost use Rattle.sheet.specs.Measured.{Measured};
-ghost use Rattle.stage_entry.specs.First.{Blank, rowMemory, rowLaid, rowBlank};
+ghost use Rattle.stage_entry.specs.First.{Blank, rowLaid, rowBlank};
 ghost use Rattle.stage_prepare.specs.Begin.{entering};
 use budget::Outcome;
 use model::AnalysisKind;
@@ -29,7 +30,7 @@ pub fn entry_row(
         × (0 < sizes .«code_count») × (0 < length (now slots)) × (length (now slots) ≤ 65535)
         ) ⌝ }
     ensures { λ r. ⌜ (
-        some (leaves r (rowMemory (now («row_kinds» .exit)) (now («row_values» .exit))))
+        some (leaves r (rowSlices (now («row_kinds» .exit)) (now («row_values» .exit))))
         ≡ leavesOf rowLaid (rowBlank (length (now (slots .entry)))) (entering which (now (sheet .entry)) (now (slots .entry)) resources)
         ) ⌝ }
 {
