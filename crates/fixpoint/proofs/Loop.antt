@@ -1,8 +1,8 @@
 -- The loop over one sheet: what a turn asks of what is lent, and how it goes on.
 -- Assumes nothing.
-use mathlib.Core.Path.{_≡_, refl, sym, ap, _∙_}
+use mathlib.Core.Path.{_≡_, sym, _∙_}
 use mathlib.Core.Bool.{true, cond}
-use mathlib.Core.List.{List, [], _∷_, List·Memᴰ as Member}
+use mathlib.Core.List.{List, List·Memᴰ as Member}
 use Prim.Native.Nat.{ℕ, _+_, _*_, _-_, _≤_, _<_}
 use native.Mathlib.Nat.{mul-le-mul-right}
 use native.Mathlib.Omega.{arith}
@@ -21,10 +21,8 @@ use Rattle.model.specs.declared.AnalysisKind.{AnalysisKind}
 use Rattle.model.specs.declared.VerifierResources.{VerifierResources}
 use Rattle.model.specs.declared.InstructionSuccessors.{InstructionSuccessors}
 use Rattle.finality.proofs.Lawful.{lawful, successors-below}
-use Rattle.finality.proofs.Lengths.{zeros-same}
 use Rattle.sheet.specs.declared.Sizes.{Sizes}
-use Rattle.fixpoint_list.specs.Listed.{Listed, entered}
-use Rattle.fixpoint_visit.specs.News.{newsOf}
+use Rattle.fixpoint_list.specs.Listed.{entered}
 use Rattle.fixpoint_visit.proofs.Visits.{news-among, news-length, list-length}
 use Rattle.fixpoint_step.specs.Stepped.{SheetIndex, TrackedSlots, StepRequires, StepEnsures}
 use Rattle.fixpoint.specs.declared.Ran.{Ran}
@@ -32,7 +30,7 @@ use Rattle.fixpoint.specs.Memory.{RunMemory, runMemory}
 use Rattle.fixpoint.specs.Turn.{ranAnalysis, Running, Turn}
 use Rattle.fixpoint.specs.Result.{runEnded, runRefused}
 use Rattle.fixpoint.proofs.Finishing.{RunLengths, RunTold, told-ended, told-refused}
-use Rattle.fixpoint.proofs.Entering.{entered-length, first-asks, second-asks, both-entered}
+use Rattle.fixpoint.proofs.Entering.{first-asks, second-asks, both-entered}
 use Rattle.fixpoint.proofs.Running as T
 use Rattle.fixpoint.proofs.Running.{Sizes as TurnSizes}
 

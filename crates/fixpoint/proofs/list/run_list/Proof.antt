@@ -1,9 +1,8 @@
 -- `run_list` meets its contract: the loop passes through the states of the defined run.
 -- Assumes nothing.
-use mathlib.Core.Path.{sym, ap, _∙_}
+use mathlib.Core.Path.{ap, _∙_}
 use Prim.Native.Nat.{_+_, _*_, _-_}
 use native.Mathlib.Omega.{arith}
-use borrow.Author.Needs.{needs}
 use lib.ListN.{length}
 use Rattle.model.specs.Sheet.{codeCount}
 use Rattle.finality.proofs.Lengths.{zeros-length, zeros-same}
