@@ -1,7 +1,7 @@
 -- What the loop answers and leaves, cleared, is what the defined run gives.
 -- Assumes nothing.
 use mathlib.Core.Path.{_≡_, refl, ap, _∙_}
-use mathlib.Core.Bool.{Bool, true, false}
+use mathlib.Core.Bool.{Bool, true, false, cond}
 use mathlib.Core.List.{List}
 use mathlib.Core.Option.{Option, some}
 use Prim.Native.Nat.{ℕ}
@@ -22,26 +22,24 @@ use Rattle.budget.proofs.Left.{Left, covered, stopped, left-by}
 use Rattle.fixpoint.specs.declared.Ran.{Ran}
 use Rattle.fixpoint.specs.Memory.{RunMemory, runMemory, runTables, zeroRun}
 use Rattle.fixpoint.specs.Turn.{ranAnalysis}
-use Rattle.fixpoint.specs.Result.{RunLeft, ran, ranTables, runEnded, runRefused, zerosIf}
+use Rattle.fixpoint.specs.Result.{RunLeft, ran, ranTables, runEnded, runRefused}
 
 -- ---- what is cleared, by the outcome
 
-pub kept-covered : {outcome : Outcome} {left : VerifierResources} (old : List ℕ) → outcome ≡ Covered left → zerosIf (refusing outcome) old ≡ old
-unfolding zerosIf refusing
+pub kept-covered : {outcome : Outcome} {left : VerifierResources} (old : List ℕ) → outcome ≡ Covered left → cond (refusing outcome) (zeros old) old ≡ old
+unfolding refusing
 kept-covered old e = rw e
 
-pub lost-refused : (refusal : Refusal) {outcome : Outcome} (left : VerifierResources) (old : List ℕ) → outcome ≡ refusedBy refusal left → zerosIf (refusing outcome) old ≡ zeros old
-unfolding zerosIf refusing refusedBy
+pub lost-refused : (refusal : Refusal) {outcome : Outcome} (left : VerifierResources) (old : List ℕ) → outcome ≡ refusedBy refusal left → cond (refusing outcome) (zeros old) old ≡ zeros old
+unfolding refusing refusedBy
 lost-refused (overBudget stage requested remaining) left old e = rw e
 lost-refused noRoom left old e = rw e
 
 module _ {test : Bool} (outcome : Outcome) (is : test ≡ refusing outcome) where
-  pub cleared-where : test ≡ true → {new : List ℕ} (old : List ℕ) → new ≡ zeros old → new ≡ zerosIf (refusing outcome) old
-  unfolding zerosIf
+  pub cleared-where : test ≡ true → {new : List ℕ} (old : List ℕ) → new ≡ zeros old → new ≡ cond (refusing outcome) (zeros old) old
   cleared-where e old h = rw (← is, e) h
 
-  pub kept-where : test ≡ false → (old : List ℕ) → old ≡ zerosIf (refusing outcome) old
-  unfolding zerosIf
+  pub kept-where : test ≡ false → (old : List ℕ) → old ≡ cond (refusing outcome) (zeros old) old
   kept-where e old = rw (← is, e)
 
 -- ---- the answer and the memory of a run
@@ -82,7 +80,7 @@ module _ (which : AnalysisKind) (sheet slots lengthKinds lengthValues : List ℕ
     -- ---- behind the loop
 
     module _ (old m new : RunMemory) (long : RunLengths m old) (no-list : new .workList ≡ zeros (old .workList))
-        (f : let test = refusing (r .outcome) in (new .present ≡ zerosIf test (m .present)) × (new .kinds ≡ zerosIf test (m .kinds)) × (new .values ≡ zerosIf test (m .values))
+        (f : let test = refusing (r .outcome) in (new .present ≡ cond test (zeros (m .present)) (m .present)) × (new .kinds ≡ cond test (zeros (m .kinds)) (m .kinds)) × (new .values ≡ cond test (zeros (m .values)) (m .values))
         × (new .rowKinds ≡ zeros (m .rowKinds)) × (new .rowValues ≡ zeros (m .rowValues))) where
       no-row-kinds : new .rowKinds ≡ zeros (old .rowKinds)
       no-row-kinds = f .3 ∙ zeros-same _ _ (long .rowKinds)

@@ -1,14 +1,11 @@
 -- What the run answers and leaves.
 -- Assumes nothing.
-use mathlib.Core.Bool.{Bool, true, false}
-use mathlib.Core.List.{List}
 use Prim.Native.Nat.{ℕ}
 use lib.ListN.{length}
 use Rattle.model.specs.Closure.{stageNumber}
 use Rattle.model.specs.Fact.{kind, value}
 use Rattle.model.specs.Tables.{presentBytes, cells}
 use Rattle.model.specs.Analyses.{Analysed}
-use Rattle.model.specs.Call.{zeros}
 use Rattle.model.specs.declared.AnalysisKind.{AnalysisKind}
 use Rattle.model.specs.declared.VerifierResources.{VerifierResources}
 use Rattle.budget.specs.declared.Outcome.the-variants.{Covered, Refused}
@@ -37,8 +34,3 @@ runEnded pops resources work = record { pops = pops; outcome = Covered (record {
 unfoldable pub runRefused : AnalysisKind → ℕ → VerifierResources → ℕ → Ran
 runRefused which requested resources remaining =
     record { pops = 0; outcome = Refused (stageNumber which) requested remaining (record { bytes = resources .bytes; work = remaining }) }
-
--- cleared where the test holds
-unfoldable pub zerosIf : Bool → List ℕ → List ℕ
-zerosIf true old = zeros old
-zerosIf false old = old

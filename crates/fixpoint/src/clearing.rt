@@ -1,8 +1,8 @@
 // What is cleared behind the loop.
+ghost use mathlib.Core.Bool.{cond};
 ghost use mathlib.Core.Path.{_≡_};
 ghost use Rattle.model.specs.Call.{zeros};
 ghost use Rattle.budget.specs.Outcome.{refusing};
-ghost use Rattle.fixpoint.specs.Result.{zerosIf};
 use budget::Outcome;
 use budget::refuses;
 use memory::clear_u8;
@@ -19,8 +19,9 @@ pub fn finish(
 )
     ensures { λ r. ⌜ (
         let test = refusing outcome in
-        (now (present .exit) ≡ zerosIf test (now (present .entry))) × (now (kinds .exit) ≡ zerosIf test (now (kinds .entry)))
-        × (now (values .exit) ≡ zerosIf test (now (values .entry)))
+        (now (present .exit) ≡ cond test (zeros (now (present .entry))) (now (present .entry)))
+        × (now (kinds .exit) ≡ cond test (zeros (now (kinds .entry))) (now (kinds .entry)))
+        × (now (values .exit) ≡ cond test (zeros (now (values .entry))) (now (values .entry)))
         × (now («row_kinds» .exit) ≡ zeros (now («row_kinds» .entry))) × (now («row_values» .exit) ≡ zeros (now («row_values» .entry)))
         ) ⌝ }
 {
