@@ -60,7 +60,8 @@ unfolding placeFrom
 stands-from f [] slot j e = let z : _≡_ {A = ℕ} 0 1 = cc in absurd (omega arith)
 stands-from f (x ∷ xs) slot j e = go (eqb slot x) refl e (λ p. stands-from (suc f) xs slot j p)
   where
-    go : (t : Bool) → eqb slot x ≡ t → cond t (some f) (placeFrom (suc f) xs slot) ≡ some j → (placeFrom (suc f) xs slot ≡ some j → Stands (suc f) xs slot j) → Stands f (x ∷ xs) slot j
+    go : (t : Bool) → eqb slot x ≡ t → cond t (some f) (placeFrom (suc f) xs slot) ≡ some j → (placeFrom (suc f) xs slot ≡ some j → Stands (suc f) xs slot j)
+        → Stands f (x ∷ xs) slot j
     go true p q rest = let w : f ≡ j = cc in record { k = 0; is = omega arith; inside = omega arith; slot-is = sym (eqb-true slot x p) }
     go false p q rest = let s = rest q in record { k = suc (s .k); is = omega (arith, s .is); inside = omega (arith, s .inside); slot-is = s .slot-is }
 

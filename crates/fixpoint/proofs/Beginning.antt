@@ -83,7 +83,8 @@ module _ (which : AnalysisKind) {sheet : List ℕ} {sizes : Sizes} {firsts class
     joined : RowsLie (length slots) (rowsVisited (equalKnown which sheet) first 0 (replicate (codeCount sheet) none)) new × (fresh ≡ true)
     unfolding JoinEnsures ranAnalysis analysis
     joined =
-        let x = (rw (row-lengths .0, equal-by (i .classes-are) which) at j) (replicate (codeCount sheet) none) first none-lie (f .row-lies) (rw (length-replicate {A = Option Row} (codeCount sheet) none) (s .some-code)) in
+        let x = (rw (row-lengths .0, equal-by (i .classes-are) which) at j) (replicate (codeCount sheet) none) first none-lie (f .row-lies)
+        (rw (length-replicate {A = Option Row} (codeCount sheet) none) (s .some-code)) in
         (x .0, x .1 ∙ T.first-news a lawful)
 
     listed : Listed (0 ∷ []) lisnew top′

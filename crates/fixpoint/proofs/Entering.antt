@@ -26,7 +26,8 @@ module _ (l : List ℕ) (two : length l ≤ 2) (r : InstructionSuccessors) (e : 
   unfolding asRecord
   first-asks below h = rw e (go l h (omega (arith, entered-length l ps, x .top-is)))
     where
-      go : (l : List ℕ) → ((y : ℕ) → Member y l → y < below) → length l + top ≤ length workList → ltb 0 (asRecord l .len) ≡ true → (top < length workList) × (getD (asRecord l .pcs) 0 0 < below)
+      go : (l : List ℕ) → ((y : ℕ) → Member y l → y < below) → length l + top ≤ length workList → ltb 0 (asRecord l .len) ≡ true
+          → (top < length workList) × (getD (asRecord l .pcs) 0 0 < below)
       go [] h f k = let z : _≡_ {A = ℕ} 0 1 = cc in absurd (omega arith)
       go (q ∷ qs) h f k = (omega arith, h q (head refl))
 

@@ -92,7 +92,8 @@ module _ (which : AnalysisKind) (sheet slots lengthKinds lengthValues : List ℕ
       unfolding leavesOf ranTables zeroRun
       told-cleared told = go (left-by (ranTables m) (ran 0 m) spent told)
         where
-          go : Left (ranTables m) (ran 0 m) spent (r .outcome) (ran (r .pops) m) → some (leaves (r .outcome) (ran (r .pops) new)) ≡ leavesOf (ranTables (zeroRun old)) (ran 0 (zeroRun old)) spent
+          go : Left (ranTables m) (ran 0 m) spent (r .outcome) (ran (r .pops) m)
+              → some (leaves (r .outcome) (ran (r .pops) new)) ≡ leavesOf (ranTables (zeroRun old)) (ran 0 (zeroRun old)) spent
           go (covered a left is o mem) =
               rw is (run-path o (ap (λ (x : RunLeft). x .pops) mem)
               (f .0 ∙ kept-covered (m .present) o ∙ ap (λ (x : RunLeft). x .memory .present) mem) (f .1 ∙ kept-covered (m .kinds) o ∙ ap (λ (x : RunLeft). x .memory .kinds) mem)

@@ -34,7 +34,8 @@ use Rattle.fixpoint.proofs.Entering.{first-asks, second-asks, both-ente
 use Rattle.fixpoint.proofs.Running as T
 
 module _ (which : AnalysisKind) (sheet : List ℕ) (sizes : Sizes) (firsts classes slots lengthKinds lengthValues : List ℕ) (entry : Row) (resources : VerifierResources) (room : ℕ)
-    (i : SheetIndex sheet sizes firsts classes lengthKinds lengthValues) (s : TrackedSlots sheet slots) (long : length entry ≡ length slots) (fit : codeCount sheet * (1 + 2 * length slots) ≤ room) where
+    (i : SheetIndex sheet sizes firsts classes lengthKinds lengthValues) (s : TrackedSlots sheet slots) (long : length entry ≡ length slots)
+    (fit : codeCount sheet * (1 + 2 * length slots) ≤ room) where
   abbrev left : ℕ
   left = resources .work
 
@@ -77,7 +78,8 @@ module _ (which : AnalysisKind) (sheet : List ℕ) (sizes : Sizes) (firsts class
 
 -- two turns have the same lengths
 pub kept-lengths : {which : AnalysisKind} {sheet slots lengthKinds lengthValues : List ℕ} {entry : Row} {left room : ℕ} {m m′ : RunMemory} {top pops rest top′ pops′ rest′ : ℕ}
-    → Turn which sheet slots lengthKinds lengthValues entry left room m top pops rest → Turn which sheet slots lengthKinds lengthValues entry left room m′ top′ pops′ rest′ → RunLengths m m′
+    → Turn which sheet slots lengthKinds lengthValues entry left room m top pops rest → Turn which sheet slots lengthKinds lengthValues entry left room m′ top′ pops′ rest′
+    → RunLengths m m′
 kept-lengths t u = record {
   present = t .present-length ∙ sym (u .present-length);
   kinds = t .kinds-length ∙ sym (u .kinds-length);
@@ -110,7 +112,8 @@ module _ {which : AnalysisKind} {sheet : List ℕ} {sizes : Sizes} {firsts class
   turn-little = let k = mul-le-mul-right (1 + 2 * length slots) (s .little) in omega (arith, t .fits, s .few-slots)
 
   -- the empty list
-  pub turn-ends : top ≤ 0 → (r : Ran) → r ≡ runEnded pops resources rest → RunTold which sheet slots lengthKinds lengthValues entry resources r m × (m .workList ≡ zeros (m .workList))
+  pub turn-ends : top ≤ 0 → (r : Ran) → r ≡ runEnded pops resources rest
+      → RunTold which sheet slots lengthKinds lengthValues entry resources r m × (m .workList ≡ zeros (m .workList))
   unfolding ranAnalysis analysis
   turn-ends h r is = (
     told-ended which sheet slots lengthKinds lengthValues entry resources r (t .running .st .rows) pops rest
@@ -159,25 +162,25 @@ module _ {which : AnalysisKind} {sheet : List ℕ} {sizes : Sizes} {firsts class
 
       module _ (t′ : TableSlices) (r : InstructionSuccessors) (o : StepEnsures which sheet slots (lengthTable lengthKinds lengthValues) p (runTables m) t′ r) where
         -- what had news
-        entries : List ℕ
-        entries = T.had-news of lawful-run n-above (resources .work) (runTables m) others (top - 1) (pops + 1) (rest - length slots) p taken
+        to-enter : List ℕ
+        to-enter = T.had-news of lawful-run n-above (resources .work) (runTables m) others (top - 1) (pops + 1) (rest - length slots) p taken
 
-        entries-is : r ≡ asRecord entries
-        unfolding StepEnsures ranAnalysis analysis entries
-        entries-is = o (taken .st .rows) (taken .row) (taken .lies .rows-lie) (taken .stands) .1
+        to-enter-is : r ≡ asRecord to-enter
+        unfolding StepEnsures ranAnalysis analysis to-enter
+        to-enter-is = o (taken .st .rows) (taken .row) (taken .lies .rows-lie) (taken .stands) .1
 
-        entries-two : length entries ≤ 2
-        unfolding ranAnalysis analysis entries
-        entries-two =
+        to-enter-two : length to-enter ≤ 2
+        unfolding ranAnalysis analysis to-enter
+        to-enter-two =
             omega (arith, news-length (equalKnown which sheet) (transferRow which sheet slots (lengthTable lengthKinds lengthValues) p (taken .row)) (sheetSuccessors sheet p) (taken .st .rows), list-length sheet p)
 
-        entries-below : (y : ℕ) → Member y entries → y < codeCount sheet
-        unfolding ranAnalysis analysis entries
-        entries-below y e = successors-below sheet p y (news-among (equalKnown which sheet) _ (sheetSuccessors sheet p) (taken .st .rows) y e)
+        to-enter-below : (y : ℕ) → Member y to-enter → y < codeCount sheet
+        unfolding ranAnalysis analysis to-enter
+        to-enter-below y e = successors-below sheet p y (news-among (equalKnown which sheet) _ (sheetSuccessors sheet p) (taken .st .rows) y e)
 
-        entries-fits : length (entered entries (taken .st .list)) ≤ length (set (m .workList) (top - 1) 0)
-        unfolding ranAnalysis analysis entries
-        entries-fits =
+        to-enter-fits : length (entered to-enter (taken .st .list)) ≤ length (set (m .workList) (top - 1) 0)
+        unfolding ranAnalysis analysis to-enter
+        to-enter-fits =
             omega (
               arith,
               spacious,
@@ -191,9 +194,10 @@ module _ {which : AnalysisKind} {sheet : List ℕ} {sizes : Sizes} {firsts class
         enter-first e = ((λ k. rw e (asks k .0)), (λ k. omega (arith, asks k .1, s .little)))
           where
             asks : ltb 0 (r .len) ≡ true → (top - 1 < length (set (m .workList) (top - 1) 0)) × (getD (r .pcs) 0 0 < codeCount sheet)
-            asks k = first-asks entries entries-two r entries-is (taken .st .list) others (top - 1) (taken .lies .listed) entries-fits (codeCount sheet) entries-below k
+            asks k = first-asks to-enter to-enter-two r to-enter-is (taken .st .list) others (top - 1) (taken .lies .listed) to-enter-fits (codeCount sheet) to-enter-below k
 
-        module _ {list₀ : List ℕ} (l₀ : list₀ ≡ set (m .workList) (top - 1) 0) {list₁ : List ℕ} {top₁ : ℕ} (l₁ : list₁ ≡ cond (ltb 0 (r .len)) (set list₀ (top - 1) (getD (r .pcs) 0 0)) list₀)
+        module _ {list₀ : List ℕ} (l₀ : list₀ ≡ set (m .workList) (top - 1) 0) {list₁ : List ℕ} {top₁ : ℕ}
+            (l₁ : list₁ ≡ cond (ltb 0 (r .len)) (set list₀ (top - 1) (getD (r .pcs) 0 0)) list₀)
             (t₁ : top₁ ≡ cond (ltb 0 (r .len)) (top - 1 + 1) (top - 1)) where
           first-entered : list₁ ≡ cond (ltb 0 (r .len)) (set (set (m .workList) (top - 1) 0) (top - 1) (getD (r .pcs) 0 0)) (set (m .workList) (top - 1) 0)
           first-entered = rw l₀ at l₁
@@ -202,16 +206,18 @@ module _ {which : AnalysisKind} {sheet : List ℕ} {sizes : Sizes} {firsts class
           enter-second = ((λ k. asks k .0), (λ k. omega (arith, asks k .1, s .little)))
             where
               asks : ltb 1 (r .len) ≡ true → (top₁ < length list₁) × (getD (r .pcs) 1 0 < codeCount sheet)
-              asks k = second-asks entries entries-two r entries-is (taken .st .list) others (top - 1) (taken .lies .listed) entries-fits list₁ top₁ first-entered t₁ (codeCount sheet) entries-below k
+              asks k = second-asks to-enter to-enter-two r to-enter-is (taken .st .list) others (top - 1) (taken .lies .listed) to-enter-fits list₁ top₁ first-entered t₁ (codeCount sheet) to-enter-below k
 
           -- what the step leaves
-          pub stepped : {rowKinds′ rowValues′ list₂ : List ℕ} {top₂ : ℕ} → length rowKinds′ ≡ length (m .rowKinds) → length rowValues′ ≡ length (m .rowValues) → length list₂ ≡ length (m .workList)
+          pub stepped : {rowKinds′ rowValues′ list₂ : List ℕ} {top₂ : ℕ} → length rowKinds′ ≡ length (m .rowKinds) → length rowValues′ ≡ length (m .rowValues)
+              → length list₂ ≡ length (m .workList)
               → list₂ ≡ cond (ltb 1 (r .len)) (set list₁ top₁ (getD (r .pcs) 1 0)) list₁ → top₂ ≡ cond (ltb 1 (r .len)) (top₁ + 1) top₁
               → Turn which sheet slots lengthKinds lengthValues entry (resources .work) room (runMemory (t′ .present) (t′ .kinds) (t′ .values) rowKinds′ rowValues′ list₂) top₂ (pops + 1) (rest - length slots)
           unfolding StepEnsures ranAnalysis analysis
           stepped {rowKinds′} {rowValues′} {list₂} {top₂} hk hv hl l₂ t₂ =
               turn-of which sheet sizes firsts classes slots lengthKinds lengthValues entry resources room i s (t .entry-length) (t .list-fits)
-              (runMemory (t′ .present) (t′ .kinds) (t′ .values) rowKinds′ rowValues′ list₂) top₂ (pops + 1) (rest - length slots) (hk ∙ t .row-kinds-length) (hv ∙ t .row-values-length) (hl ∙ t .list-length)
+              (runMemory (t′ .present) (t′ .kinds) (t′ .values) rowKinds′ rowValues′ list₂) top₂ (pops + 1) (rest - length slots) (hk ∙ t .row-kinds-length)
+              (hv ∙ t .row-values-length) (hl ∙ t .list-length)
               (T.taken-end of lawful-run n-above (resources .work) (runTables m) others (top - 1) (pops + 1) (rest - length slots) p taken
-              t′ list₂ top₂ (o (taken .st .rows) (taken .row) (taken .lies .rows-lie) (taken .stands) .0) (unfold entries in
-              (both-entered entries entries-two r entries-is (taken .st .list) others (top - 1) (taken .lies .listed) entries-fits list₁ top₁ first-entered t₁ list₂ top₂ l₂ t₂)))
+              t′ list₂ top₂ (o (taken .st .rows) (taken .row) (taken .lies .rows-lie) (taken .stands) .0) (unfold to-enter in
+              (both-entered to-enter to-enter-two r to-enter-is (taken .st .list) others (top - 1) (taken .lies .listed) to-enter-fits list₁ top₁ first-entered t₁ list₂ top₂ l₂ t₂)))

@@ -6,7 +6,7 @@ use Prim.Native.Nat.{ℕ, _+_, _*_, _≤_}
 use lib.ListN.{length, replicate}
 use Rattle.model.specs.Fact.{Row}
 use Rattle.model.specs.Sheet.{codeCount}
-use Rattle.model.specs.Run.{Analysis, State, bound}
+use Rattle.model.specs.Run.{Analysis, State}
 use Rattle.model.specs.Tables.{TableSlices, RowsLie, RowLies, factsIn, tableRow, lengthTable}
 use Rattle.model.specs.Analyses.{analysis}
 use Rattle.model.specs.Call.{zeros}

@@ -151,7 +151,8 @@ module _ (same : ℕ → ℕ → ℕ → ℕ → Bool) (copy : Row) where
   news-among [] rows x m = m
   news-among (q ∷ qs) rows x m = go (news same (rowAt rows q) copy) (λ k. tail (news-among qs (rowsVisited same copy q rows) x k)) m
     where
-      go : (b : Bool) → (Member x (newsOf same copy qs (rowsVisited same copy q rows)) → Member x (q ∷ qs)) → Member x (cond b (q ∷ newsOf same copy qs (rowsVisited same copy q rows)) (newsOf same copy qs (rowsVisited same copy q rows))) → Member x (q ∷ qs)
+      go : (b : Bool) → (Member x (newsOf same copy qs (rowsVisited same copy q rows)) → Member x (q ∷ qs))
+          → Member x (cond b (q ∷ newsOf same copy qs (rowsVisited same copy q rows)) (newsOf same copy qs (rowsVisited same copy q rows))) → Member x (q ∷ qs)
       go true on (head e) = head e
       go true on (tail k) = on k
       go false on k = on k
@@ -161,7 +162,8 @@ module _ (same : ℕ → ℕ → ℕ → ℕ → Bool) (copy : Row) where
   news-length [] rows = omega arith
   news-length (q ∷ qs) rows = go (news same (rowAt rows q) copy) (news-length qs (rowsVisited same copy q rows))
     where
-      go : (b : Bool) → length (newsOf same copy qs (rowsVisited same copy q rows)) ≤ length qs → length (cond b (q ∷ newsOf same copy qs (rowsVisited same copy q rows)) (newsOf same copy qs (rowsVisited same copy q rows))) ≤ length (q ∷ qs)
+      go : (b : Bool) → length (newsOf same copy qs (rowsVisited same copy q rows)) ≤ length qs
+          → length (cond b (q ∷ newsOf same copy qs (rowsVisited same copy q rows)) (newsOf same copy qs (rowsVisited same copy q rows))) ≤ length (q ∷ qs)
       go true on = omega arith
       go false on = omega arith
 

@@ -43,11 +43,11 @@ unfoldable pub changedTo : (ℕ → ℕ → ℕ → ℕ → Bool) → List ℕ �
 changedTo same ok ov nk nv i = rowDiffers (take i (factsOf ok ov)) (take i (joined same ok ov nk nv))
 
 module _ (same : ℕ → ℕ → ℕ → ℕ → Bool) where
-  pub length-joinRow : (r c : Row) → length (joinRow same r c) ≡ length r
+  pub joined-length : (r c : Row) → length (joinRow same r c) ≡ length r
   unfolding joinRow
-  length-joinRow [] c = refl
-  length-joinRow (f ∷ fs) [] = refl
-  length-joinRow (f ∷ fs) (g ∷ gs) = ap suc (length-joinRow fs gs)
+  joined-length [] c = refl
+  joined-length (f ∷ fs) [] = refl
+  joined-length (f ∷ fs) (g ∷ gs) = ap suc (joined-length fs gs)
 
   pub joined-get : (f : Fact → ℕ) (ok ov nk nv : List ℕ) (i : ℕ) → length ov ≡ length ok → length nk ≡ length ok → length nv ≡ length ok → i < length ok
       → getD (map f (joined same ok ov nk nv)) i 0 ≡ f (joinAt same ok ov nk nv i)

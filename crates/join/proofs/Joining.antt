@@ -17,7 +17,7 @@ use Rattle.join.proofs.Cells.{cell}
 use Rattle.join.proofs.Fill.{fill-get, fill-set, fill-done}
 use Rattle.join.proofs.Changes.{kept, same-kind, other-kind}
 use Rattle.model.proofs.Facts.{length-facts, lies-kinds, lies-values}
-use Rattle.join.proofs.Joined.{factsOf-get, or-false, joined, joinAt, changedTo, length-joinRow, joined-get, changedTo-suc}
+use Rattle.join.proofs.Joined.{factsOf-get, or-false, joined, joinAt, changedTo, joined-length, joined-get, changedTo-suc}
 use mathlib.Core.Bool.{or-true}
 
 pub record Partly (same : ℕ → ℕ → ℕ → ℕ → Bool) (ok ov nk nv kinds values : List ℕ) (changed : Bool) (i : ℕ) : Type 0 where
@@ -55,13 +55,13 @@ module _ {same : ℕ → ℕ → ℕ → ℕ → Bool} {ok ov nk nv : List ℕ} 
 
   module _ {kinds values : List ℕ} {changed : Bool} {i : ℕ} (p : Partly same ok ov nk nv kinds values changed i) where
     long : (f : Fact → ℕ) → length (map f (joined same ok ov nk nv)) ≡ length ok
-    long f = length-map (joined same ok ov nk nv) f ∙ length-joinRow same (factsOf ok ov) (factsOf nk nv) ∙ length-facts ok ov (p .level)
+    long f = length-map (joined same ok ov nk nv) f ∙ joined-length same (factsOf ok ov) (factsOf nk nv) ∙ length-facts ok ov (p .level)
 
     pub partly-end : length kinds ≤ i → JoinedRow same (rowSlices ok ov) (rowSlices nk nv) (rowSlices kinds values) changed
     unfolding changedTo
     partly-end h =
         let end : i ≡ length ok = omega (arith, p .within, p .kinds-long) in
-        let all : length (joined same ok ov nk nv) ≡ i = length-joinRow same (factsOf ok ov) (factsOf nk nv) ∙ length-facts ok ov (p .level) ∙ sym end in
+        let all : length (joined same ok ov nk nv) ≡ i = joined-length same (factsOf ok ov) (factsOf nk nv) ∙ length-facts ok ov (p .level) ∙ sym end in
         record {
           lies = record {
             kinds-are = p .kinds-are ∙ fill-done (map kind (joined same ok ov nk nv)) ok i (sym (long kind)) (omega (arith, long kind));
@@ -83,7 +83,8 @@ module _ {same : ℕ → ℕ → ℕ → ℕ → Bool} {ok ov nk nv : List ℕ} 
       here : Fact
       here = joinAt same ok ov nk nv i
 
-      step : (ch : Bool) → ch ≡ changed || differs (factOf (getD ok i 0) (getD ov i 0)) here → Partly same ok ov nk nv (set kinds i (kind here)) (set values i (value here)) ch (i + 1)
+      step : (ch : Bool) → ch ≡ changed || differs (factOf (getD ok i 0) (getD ov i 0)) here
+          → Partly same ok ov nk nv (set kinds i (kind here)) (set values i (value here)) ch (i + 1)
       unfolding here
       step ch e = record {
         within = omega (arith, below);

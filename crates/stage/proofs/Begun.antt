@@ -8,10 +8,10 @@ use Prim.Native.Nat.{ℕ}
 use native.Mathlib.Omega.{arith}
 use lib.ListN.{length}
 use Rattle.model.specs.Sheet.{codeCount}
-use Rattle.model.specs.Charges.{Spent, ok, stop, unfinished, give, continue}
+use Rattle.model.specs.Charges.{Spent, ok, stop, unfinished, continue}
 use Rattle.model.specs.Fact.{Fact, kind, value, Row}
 use Rattle.model.specs.Analyses.{Analysed, stage}
-use Rattle.model.specs.Call.{Table, Scratch, roomFor, zeros, filled}
+use Rattle.model.specs.Call.{Table, Scratch, roomFor, filled}
 use Rattle.model.specs.CallDemand.{TrackedExactly}
 use Rattle.model.specs.declared.VerifierResources.{VerifierResources}
 use Rattle.model.specs.declared.AnalysisKind.{AnalysisKind}

@@ -15,19 +15,16 @@ use Rattle.model.specs.Charges.{Spent, ok, continue}
 use Rattle.model.specs.Fact.{Fact, unknown, kind, value, Row}
 use Rattle.model.specs.Analyses.{unknownRow, propagate}
 use Rattle.model.specs.Call.{Table, Scratch, table, scratch, counts, tables, zeros, filled, zeroTable, filledTable}
-use Rattle.model.specs.declared.VerifierResources.{VerifierResources}
 use Rattle.model.specs.declared.AnalysisKind.{AnalysisKind}
 use Rattle.model.specs.declared.Counts.{Counts}
 use Rattle.finality.proofs.Lengths.{zeros-length}
 use Rattle.budget.specs.Outcome.{Leaves, leaves, leavesOf}
 use Rattle.budget.specs.declared.Outcome.{Outcome}
-use Rattle.budget.specs.declared.Outcome.the-variants.{Covered}
 use Rattle.budget.proofs.Left.{Left, covered, stopped, left-by}
 use Rattle.fixpoint.proofs.Running.{no-cells, no-present}
 use Rattle.stage_memory.specs.Stage.{zeroScratch}
 use Rattle.stage_memory.proofs.Paths.{table-path, scratch-path}
 use Rattle.stage_prepare.specs.declared.Prepared.{Prepared}
-use Rattle.stage_prepare.specs.Begin.{Begun}
 use Rattle.stage_prepare.specs.Prepare.{something, PrepareEnd, prepared, preparedBy, unprepared}
 use Rattle.stage_prepare.proofs.Stepwise.{goOn, enters-at-once, runs-at-once}
 use Rattle.stage_prepare.proofs.Tracked.{room-parts, unknown-cells}

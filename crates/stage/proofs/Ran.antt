@@ -11,10 +11,10 @@ use lib.ListN.{length, replicate, take, drop, length-append, length-drop, length
 use lib.Seq.{take-at, length-take-le, drop-append-seam}
 use borrow.Author.Tests.{eqb-false, leb-true}
 use Rattle.model.specs.Sheet.{codeCount, localSlots}
-use Rattle.model.specs.Charges.{Refusal, overBudget, noRoom, Spent, ok, stop, continue}
+use Rattle.model.specs.Charges.{Refusal, overBudget, noRoom, Spent, ok, continue}
 use Rattle.model.specs.Fact.{Fact, kind, value, Row}
 use Rattle.model.specs.Run.{RunEnd, finished, overdrawn, fuelSpent, run}
-use Rattle.model.specs.Tables.{lengthTable, factsOf, presentBytes, cells}
+use Rattle.model.specs.Tables.{lengthTable, factsOf}
 use Rattle.model.specs.Analyses.{Analysed, analysis, ranTo, propagate}
 use Rattle.model.specs.Call.{Table, Scratch, table, scratch, counts, tables, zeros, filled, zeroTable, filledTable}
 use Rattle.model.specs.declared.VerifierResources.{VerifierResources}

@@ -65,7 +65,8 @@ module _ (slots : List ℕ) (start count : ℕ) (cell : ℕ → FactCell) (kinds
           values-partly = pv;
         }
 
-    done : ((k : ℕ) → j ≤ k → k < length slots → inRange (getD slots k 0) start count ≡ false) → Wrote slots (λ slot. inRange slot start count) cell (rowSlices kinds values) (rowSlices kinds′ values′)
+    done : ((k : ℕ) → j ≤ k → k < length slots → inRange (getD slots k 0) start count ≡ false)
+        → Wrote slots (λ slot. inRange slot start count) cell (rowSlices kinds values) (rowSlices kinds′ values′)
     done h =
         wrote slots (λ slot. inRange slot start count) cell kinds values (w .long .0) (w .long .1) kinds′ values′
         (w .kinds-partly .long)
@@ -76,7 +77,8 @@ module _ (slots : List ℕ) (start count : ℕ) (cell : ℕ → FactCell) (kinds
     pub written-all : length slots ≤ j → Wrote slots (λ slot. inRange slot start count) cell (rowSlices kinds values) (rowSlices kinds′ values′)
     written-all h = done (λ k m u. absurd (omega arith))
 
-    pub written-range : ascends slots ≡ true → j < length slots → count ≤ getD slots j 0 - start → Wrote slots (λ slot. inRange slot start count) cell (rowSlices kinds values) (rowSlices kinds′ values′)
+    pub written-range : ascends slots ≡ true → j < length slots → count ≤ getD slots j 0 - start
+        → Wrote slots (λ slot. inRange slot start count) cell (rowSlices kinds values) (rowSlices kinds′ values′)
     written-range asc h l = done (λ k m u. sym (from-start (getD slots k 0) start count (w .from k m u)) ∙ le-ltb _ _ (later k u (eq-or-lt-of-le m)))
       where
         later : (k : ℕ) → k < length slots → (j ≡ k) ⊎ (j < k) → count ≤ getD slots k 0 - start
@@ -93,7 +95,8 @@ wrote-beyond slots start count cell kinds values nk nv h =
     (λ k l. rw (← before (getD slots k 0) start count (h k (omega arith))))
 
 -- no slots at all
-pub wrote-nowhere : (slots : List ℕ) (writes : ℕ → Bool) (cell : ℕ → FactCell) (kinds values : List ℕ) → length slots ≡ 0 → length kinds ≡ length slots → length values ≡ length slots
+pub wrote-nowhere : (slots : List ℕ) (writes : ℕ → Bool) (cell : ℕ → FactCell) (kinds values : List ℕ) → length slots ≡ 0 → length kinds ≡ length slots
+    → length values ≡ length slots
     → Wrote slots writes cell (rowSlices kinds values) (rowSlices kinds values)
 wrote-nowhere slots writes cell kinds values none nk nv =
     wrote slots writes cell kinds values nk nv kinds values refl refl (λ k l. absurd (omega arith)) (λ k l. absurd (omega arith))
@@ -125,7 +128,8 @@ module _ (w : Written) (sheet slots : List ℕ) (cell : ℕ → FactCell) (kinds
 
   module _ {kinds′ values′ : List ℕ} {i : ℕ} (r : Ranging w sheet slots cell kinds values kinds′ values′ i) where
     pub ranging-more : {kinds″ values″ : List ℕ} {range : SlotRange} → i < slotRangeCount w → range ≡ slotRange w sheet i
-        → Wrote slots (λ slot. inRange slot (range .start) (range .count)) cell (rowSlices kinds′ values′) (rowSlices kinds″ values″) → Ranging w sheet slots cell kinds values kinds″ values″ (i + 1)
+        → Wrote slots (λ slot. inRange slot (range .start) (range .count)) cell (rowSlices kinds′ values′) (rowSlices kinds″ values″)
+        → Ranging w sheet slots cell kinds values kinds″ values″ (i + 1)
     unfolding among
     ranging-more h e u = record {
       within = omega arith;

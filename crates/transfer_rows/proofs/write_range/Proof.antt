@@ -16,21 +16,18 @@ Inv-loop effect last slots kinds values start count out-kinds₀ out-values₀ j
 abbrev μ-loop : tie.MeasureT-loop
 μ-loop effect last slots kinds values start count out-kinds₀ out-values₀ j₀ out-kinds out-values j = length slots - j
 
+abbrev at-start : tie.Else1 Inv-loop μ-loop → tie.Start Inv-loop μ-loop
+at-start c = c .before .before .before .before .before .before
+
 returns : tie.Need-returns Inv-loop μ-loop
 returns c =
     let start = c .before .before .before .before .before .before in
-    let asked = start .pre in
-    wrote-beyond (start .args .slots .now) _ _ _ _ _ (asked .1) (asked .2)
-    (last-below (start .args .slots .now) _ (asked .0 .ascending) (omega (arith, asked .3, c .if1 .taken)))
-
-lower-bound-requires : tie.Need-lower-bound-requires Inv-loop μ-loop
-lower-bound-requires c κs =
-    let start = c .before .before .before .before .before .before .before in
-    start .pre .0 .ascending
+    wrote-beyond (start .args .slots .now) _ _ _ _ _ (start .pre .1) (start .pre .2)
+    (last-below (start .args .slots .now) _ (start .pre .0 .ascending) (omega (arith, start .pre .3, c .if1 .taken)))
 
 loop-holds : tie.Need-loop-holds Inv-loop μ-loop
 loop-holds c =
-    let start = c .before .before .before .before .before .before .before .before in
+    let start = at-start (c .before .before) in
     writing-start _ _ _ _ _ _ _ (start .pre .1) (start .pre .2) (rw (c .before .wide .ensures .0) at (c .lower-bound .ensures))
 
 sub-if2 : tie.Need-sub-if2 Inv-loop μ-loop
@@ -41,10 +38,8 @@ cast-if2 c = omega (arith, c .shared-slice-known4 .given (c .before .before .loo
 
 returns-2 : tie.Need-returns-2 Inv-loop μ-loop
 returns-2 c =
-    let at-loop = c .before .before .before in
-    let start = at-loop .before .before .before .before .before .before .before .before .before in
-    written-range _ _ _ _ _ _ (at-loop .loop .inv) (start .pre .0 .ascending)
-    (c .before .before .loop-test .taken) (c .if2 .taken)
+    let loop = c .before .before .before in
+    written-range _ _ _ _ _ _ (loop .loop .inv) (at-start (loop .before .before .before) .pre .0 .ascending) (c .before .before .loop-test .taken) (c .if2 .taken)
 
 loop-again : tie.Need-loop-again Inv-loop μ-loop
 loop-again c =
@@ -57,6 +52,6 @@ returns-3 c = written-all _ _ _ _ _ _ (c .before .loop .inv) (c .loop-test .left
 
 pub write-range-spec : {M : Type 1} → statement M
 write-range-spec =
-    tie.close (tie.spec Inv-loop μ-loop returns (λ c κs. search needs) lower-bound-requires loop-holds (λ c. omega arith) (λ c. omega arith) sub-if2
-    cast-if2 (λ c. omega arith) (λ c. omega arith) returns-2 (λ c κs. search needs) (λ c. omega arith) (λ c. omega arith) (λ c. omega arith)
-    (λ c. omega arith) (λ c. omega arith) loop-again (λ c. omega arith) (λ c. omega arith) returns-3)
+    tie.close (tie.spec Inv-loop μ-loop returns (λ c κs. search needs) (λ c κs. at-start (c .before) .pre .0 .ascending) loop-holds (λ c. omega arith)
+    (λ c. omega arith) sub-if2 cast-if2 (λ c. omega arith) (λ c. omega arith) returns-2 (λ c κs. search needs) (λ c. omega arith) (λ c. omega arith)
+    (λ c. omega arith) (λ c. omega arith) (λ c. omega arith) loop-again (λ c. omega arith) (λ c. omega arith) returns-3)

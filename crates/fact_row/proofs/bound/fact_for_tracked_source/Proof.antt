@@ -12,13 +12,19 @@ returns : tie.Need-returns
 returns c = c .unknown-cell .ensures ∙ ap cellOf (sym (fact-past (c .before .before .lower-bound .ensures) _ (c .before .if1 .taken)))
 
 returns-2 : tie.Need-returns-2
-returns-2 c = c .unknown-cell2 .ensures ∙ ap cellOf (sym (fact-between (c .before .before .before .before .before .lower-bound .ensures) _ (c .before .before .before .before .before .before .before .before .before .pre .ascending) (omega arith) (λ q. c .before .if2 .taken (c .before .before .wide .ensures .0 ∙ q))))
+returns-2 c =
+    let test = c .before in
+    let bound = test .before .before .before .before in
+    c .unknown-cell2 .ensures ∙ ap cellOf
+    (sym (fact-between (bound .lower-bound .ensures) _ (bound .before .before .before .before .pre .ascending) (omega arith) (λ q. test .if2 .taken (test .before .wide .ensures .0 ∙ q))))
 
 returns-3 : tie.Need-returns-3
 returns-3 c =
-    let s = c .before .before .before .before .before .before .before .before .before .before in
-    let t = c .before .before .before .before .before .before in
-    cell-at (s .pre .lies) (t .lower-bound .result) ∙ ap cellOf (sym (fact-found (t .lower-bound .ensures) _ (row-long (s .pre)) (omega arith) (sym (c .before .before .before .wide .ensures .0) ∙ c .before .before .if2 .left)))
+    let test = c .before .before in
+    let bound = test .before .before .before .before in
+    let start = bound .before .before .before .before in
+    cell-at (start .pre .lies) (bound .lower-bound .result) ∙ ap cellOf
+    (sym (fact-found (bound .lower-bound .ensures) _ (row-long (start .pre)) (omega arith) (sym (test .before .wide .ensures .0) ∙ test .if2 .left)))
 
 pub fact-for-tracked-source-spec : {M : Type 1} → statement M
 fact-for-tracked-source-spec =

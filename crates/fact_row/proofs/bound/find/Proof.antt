@@ -11,7 +11,8 @@ returns c = place-past (c .before .lower-bound .ensures) (c .if1 .taken)
 
 returns-2 : tie.Need-returns-2
 returns-2 c =
-    place-between (c .before .before .before .before .lower-bound .ensures) (c .before .before .before .before .before .before .pre) (omega arith) (λ q. c .if2 .taken (c .before .wide .ensures .0 ∙ q))
+    let bound = c .before .before .before .before in
+    place-between (bound .lower-bound .ensures) (bound .before .before .pre) (omega arith) (λ q. c .if2 .taken (c .before .wide .ensures .0 ∙ q))
 
 returns-3 : tie.Need-returns-3
 returns-3 c = place-found (c .before .before .before .before .lower-bound .ensures) (omega arith) (sym (c .before .wide .ensures .0) ∙ c .if2 .left)

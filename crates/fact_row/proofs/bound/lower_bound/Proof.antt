@@ -18,13 +18,15 @@ loop-holds : tie.Need-loop-holds Inv-loop μ-loop
 loop-holds c = halved-none _ _ (omega arith)
 
 loop-again : tie.Need-loop-again Inv-loop μ-loop
-loop-again c = halved (c .before .before .before .before .loop .inv) (c .before .before .before .before .before .before .before .pre) (c .before .before .before .loop-test .taken) (c .before .wide .ensures .0) (c .half-of .ensures)
+loop-again c =
+    let test = c .before .before .before in
+    halved (test .before .loop .inv) (test .before .before .before .before .pre) (test .loop-test .taken) (c .before .wide .ensures .0) (c .half-of .ensures)
 
 returns-2 : tie.Need-returns-2 Inv-loop μ-loop
-returns-2 c = bound-above (c .before .before .before .before .loop .inv) (c .before .before .before .before .before .before .before .pre) (omega arith) (omega arith)
+returns-2 c = let loop = c .before .before .before .before in bound-above (loop .loop .inv) (loop .before .before .before .pre) (omega arith) (omega arith)
 
 returns-3 : tie.Need-returns-3 Inv-loop μ-loop
-returns-3 c = bound-at (c .before .before .before .before .loop .inv) (c .before .before .before .before .before .before .before .pre) (omega arith) (omega arith)
+returns-3 c = let loop = c .before .before .before .before in bound-at (loop .loop .inv) (loop .before .before .before .pre) (omega arith) (omega arith)
 
 pub lower-bound-spec : {M : Type 1} → statement M
 lower-bound-spec =

@@ -13,15 +13,21 @@ returns c = c .unknown-cell .ensures ∙ ap cellOf (checked-unknown _ (c .before
 
 returns-2 : tie.Need-returns-2
 unfolding factIn
-returns-2 c = c .conflict-cell .ensures ∙ ap cellOf (checked-other _ (c .before .before .before .before .before .args .length .value) (c .before .before .before .if1 .left) (c .before .if2 .taken))
+returns-2 c =
+    let first = c .before .before .before in
+    c .conflict-cell .ensures ∙ ap cellOf (checked-other _ (first .before .before .args .length .value) (first .if1 .left) (c .before .if2 .taken))
 
 returns-3 : tie.Need-returns-3
 unfolding factIn
-returns-3 c = c .conflict-cell2 .ensures ∙ ap cellOf (checked-over _ (c .before .before .before .before .before .before .before .args .length .value) (c .before .before .before .if2 .left) (c .before .if3 .taken))
+returns-3 c =
+    let second = c .before .before .before in
+    c .conflict-cell2 .ensures ∙ ap cellOf (checked-over _ (second .before .before .before .before .args .length .value) (second .if2 .left) (c .before .if3 .taken))
 
 returns-4 : tie.Need-returns-4
 unfolding factIn cellOf kind value
-returns-4 c = ap cellOf (checked-in _ (c .before .before .before .before .before .before .args .length .value) (c .before .before .if2 .left) (c .if3 .left))
+returns-4 c =
+    let second = c .before .before in
+    ap cellOf (checked-in _ (second .before .before .before .before .args .length .value) (second .if2 .left) (c .if3 .left))
 
 pub checked-cell-spec : {M : Type 1} → statement M
 checked-cell-spec = tie.close (tie.spec (λ c κs. search needs) returns (λ c κs. search needs) returns-2 (λ c κs. search needs) returns-3 returns-4)

@@ -7,13 +7,19 @@ use Rattle.fact_row.proofs.notes.instruction_fact.Tie as tie
 
 returns : tie.Need-returns
 returns c =
-    let s = c .before .before .before .before .before .before .before in
-    map-noted (s .args .sheet .now) (s .args .pc) (s .pre .2) (c .before .before .before .before .before .note-kind-at .ensures) (c .before .before .before .before .if1 .taken) (c .before .before .before .if2 .taken) (c .before .before .note-a-at .ensures) (c .before .note-b-at .ensures) (c .map-cell .ensures)
+    let note = c .before .before .before in
+    let kind = note .before .before in
+    let start = kind .before .before in
+    map-noted (start .args .sheet .now) (start .args .pc) (start .pre .2) (kind .note-kind-at .ensures) (note .before .if1 .taken) (note .if2 .taken)
+    (c .before .before .note-a-at .ensures) (c .before .note-b-at .ensures) (c .map-cell .ensures)
 
 returns-2 : tie.Need-returns-2
 returns-2 c =
-    let s = c .before .before .before .before .before .before .before in
-    queue-noted (s .args .sheet .now) (s .args .pc) (s .pre .2) (c .before .before .before .before .before .note-kind-at .ensures) (c .before .before .before .if3 .taken) (c .before .before .if4 .taken) (c .before .note-a-at2 .ensures) (c .queue-cell .ensures)
+    let note = c .before .before in
+    let kind = note .before .before .before in
+    let start = kind .before .before in
+    queue-noted (start .args .sheet .now) (start .args .pc) (start .pre .2) (kind .note-kind-at .ensures) (note .before .if3 .taken) (note .if4 .taken)
+    (c .before .note-a-at2 .ensures) (c .queue-cell .ensures)
 
 returns-3 : tie.Need-returns-3
 returns-3 c =

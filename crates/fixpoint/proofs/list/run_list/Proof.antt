@@ -86,8 +86,11 @@ step-requires : tie.Need-step-requires Inv-loop μ-loop
 step-requires c κs =
     let test = c .before .before .before .before .before in
     let take = at-take test in
-    let start = at-start (at-loop take) in
-    (start .pre .0, stepping (start .args .resources) (start .pre .0 .0) (start .pre .0 .1) (at-loop take .loop .inv) (take .before .before .loop-test .taken) (test .if1 .left) (take .take .ensures .0))
+    let start = at-start (at-loop take) in (
+      start .pre .0,
+      stepping (start .args .resources) (start .pre .0 .0) (start .pre .0 .1) (at-loop take .loop .inv) (take .before .before .loop-test .taken)
+          (test .if1 .left) (take .take .ensures .0),
+    )
 
 enter-requires : tie.Need-enter-requires Inv-loop μ-loop
 enter-requires c κs =
@@ -95,7 +98,8 @@ enter-requires c κs =
     let test = at-covered step in
     let take = at-take test in
     let start = at-start (at-loop take) in
-    enter-first (start .args .resources) (start .pre .0 .0) (start .pre .0 .1) (at-loop take .loop .inv) (take .before .before .loop-test .taken) (test .if1 .left) (take .take .ensures .0)
+    enter-first (start .args .resources) (start .pre .0 .0) (start .pre .0 .1) (at-loop take .loop .inv) (take .before .before .loop-test .taken) (test .if1 .left)
+    (take .take .ensures .0)
     _ _ (step .step .ensures .0) (take .take .ensures .1)
 
 enter-requires-2 : tie.Need-enter-requires-2 Inv-loop μ-loop
@@ -105,7 +109,8 @@ enter-requires-2 c κs =
     let test = at-covered step in
     let take = at-take test in
     let start = at-start (at-loop take) in
-    enter-second (start .args .resources) (start .pre .0 .0) (start .pre .0 .1) (at-loop take .loop .inv) (take .before .before .loop-test .taken) (test .if1 .left) (take .take .ensures .0)
+    enter-second (start .args .resources) (start .pre .0 .0) (start .pre .0 .1) (at-loop take .loop .inv) (take .before .before .loop-test .taken) (test .if1 .left)
+    (take .take .ensures .0)
     _ _ (step .step .ensures .0) (take .take .ensures .1) (enter .enter .ensures .0) (enter .enter .ensures .1)
 
 loop-less : tie.Need-loop-less Inv-loop μ-loop

@@ -33,8 +33,11 @@ run-list-requires : tie.Need-run-list-requires
 run-list-requires c κs =
     let enter = at-enter c in
     let join = at-join (enter .before) in
-    let start = at-start (join .before) in
-    (start .pre .0, start-turn (start .args .which) (start .args .resources) (start .pre .0 .0) (start .pre .0 .1) (start .pre .1) _ _ (join .join-into .ensures) (enter .enter .ensures .0) (enter .enter .ensures .1))
+    let start = at-start (join .before) in (
+      start .pre .0,
+      start-turn (start .args .which) (start .args .resources) (start .pre .0 .0) (start .pre .0 .1) (start .pre .1) _ _ (join .join-into .ensures)
+          (enter .enter .ensures .0) (enter .enter .ensures .1),
+    )
 
 returns : tie.Need-returns
 returns c =
@@ -52,7 +55,8 @@ returns c =
       rowValues = list .run-list .kept .1 .1 .1 .1 .1 .1 .1 .1 .1 .1 .1 .1 .1 .1 .0;
     })
     (list .run-list .ensures .1 ∙ zeros-same _ _ (enter .enter .kept .1 .1 .1 .0)) (finish .finish .ensures)
-    (first-told (start .args .which) (start .args .resources) (start .pre .0 .0) (start .pre .0 .1) (start .pre .1) _ _ (join .join-into .ensures) (enter .enter .ensures .0) (enter .enter .ensures .1) (list .run-list .ensures .0))
+    (first-told (start .args .which) (start .args .resources) (start .pre .0 .0) (start .pre .0 .1) (start .pre .1) _ _ (join .join-into .ensures)
+    (enter .enter .ensures .0) (enter .enter .ensures .1) (list .run-list .ensures .0))
 
 same-length : tie.Need-same-length
 same-length c =

@@ -9,7 +9,9 @@ use Rattle.join.proofs.containers.merge_container_fact.Statement.{state
 use Rattle.join.proofs.containers.merge_container_fact.Tie as tie
 
 returns : tie.Need-returns
-returns c = c .merge-fact .ensures ∙ merged-by (equalContainersBy (now (c .before .before .before .args .classes))) (containers-shift (now (c .before .before .before .args .classes))) _ _ _ (c .before .equal-containers .ensures)
+returns c =
+    let classes = now (c .before .before .before .args .classes) in
+    c .merge-fact .ensures ∙ merged-by (equalContainersBy classes) (containers-shift classes) _ _ _ (c .before .equal-containers .ensures)
 
 pub merge-container-fact-spec : {M : Type 1} → statement M
 merge-container-fact-spec = tie.close (tie.spec (λ c κs. search needs) (λ c κs. search needs) returns)

@@ -23,11 +23,15 @@ returns-4 c = new-unknown _ _ _ _ _ (c .before .before .before .if1 .left) (c .i
 
 returns-5 : tie.Need-returns-5
 unfolding factIn
-returns-5 c = equal-stays _ _ _ _ _ (c .before .before .before .before .if1 .left) (c .before .before .before .if2 .left) (c .before .before .if3 .left) (c .before .if4 .left) (c .if5 .taken)
+returns-5 c =
+    let known = c .before in
+    equal-stays _ _ _ _ _ (known .before .before .before .if1 .left) (known .before .before .if2 .left) (known .before .if3 .left) (known .if4 .left) (c .if5 .taken)
 
 returns-6 : tie.Need-returns-6
 unfolding factIn
-returns-6 c = different-conflict _ _ _ _ _ (c .before .before .before .before .if1 .left) (c .before .before .before .if2 .left) (c .before .before .if3 .left) (c .before .if4 .left) (c .if5 .left)
+returns-6 c =
+    let known = c .before in
+    different-conflict _ _ _ _ _ (known .before .before .before .if1 .left) (known .before .before .if2 .left) (known .before .if3 .left) (known .if4 .left) (c .if5 .left)
 
 pub merge-fact-spec : {M : Type 1} → statement M
 merge-fact-spec = tie.close (tie.spec returns returns-2 returns-3 returns-4 returns-5 returns-6)

@@ -7,19 +7,25 @@ use Rattle.join.proofs.Classes.{joins-constants, joins-checks, joins-co
 use Rattle.join.proofs.rows.merge_fact_of.Statement.{statement}
 use Rattle.join.proofs.rows.merge_fact_of.Tie as tie
 
-enum-told : tie.Need-enum-told
-enum-told c = search needs
-
 returns : tie.Need-returns
-returns c = joins-constants (c .before .before .before .before .args .which) (now (c .before .before .before .before .args .classes)) (factIn (c .before .before .before .before .args .old)) (factIn (c .before .before .before .before .args .new)) (c .merge-constant-fact .result) (c .before .enum-told .given .1) (c .merge-constant-fact .ensures)
+returns c =
+    let a = c .before .before .before .before .args in
+    joins-constants (a .which) (now (a .classes)) (factIn (a .old)) (factIn (a .new)) (c .merge-constant-fact .result) (c .before .enum-told .given .1)
+    (c .merge-constant-fact .ensures)
 
 returns-2 : tie.Need-returns-2
-returns-2 c = joins-checks (c .before .before .before .before .args .which) (now (c .before .before .before .before .args .classes)) (factIn (c .before .before .before .before .args .old)) (factIn (c .before .before .before .before .args .new)) (c .merge-index-check-fact .result) (c .before .enum-told2 .given .1) (c .merge-index-check-fact .ensures)
+returns-2 c =
+    let a = c .before .before .before .before .args in
+    joins-checks (a .which) (now (a .classes)) (factIn (a .old)) (factIn (a .new)) (c .merge-index-check-fact .result) (c .before .enum-told2 .given .1)
+    (c .merge-index-check-fact .ensures)
 
 returns-3 : tie.Need-returns-3
-returns-3 c = joins-containers (c .before .before .before .before .args .which) (now (c .before .before .before .before .args .classes)) (factIn (c .before .before .before .before .args .old)) (factIn (c .before .before .before .before .args .new)) (c .merge-container-fact .result) (c .before .enum-told3 .given .1) (c .merge-container-fact .ensures)
+returns-3 c =
+    let a = c .before .before .before .before .args in
+    joins-containers (a .which) (now (a .classes)) (factIn (a .old)) (factIn (a .new)) (c .merge-container-fact .result) (c .before .enum-told3 .given .1)
+    (c .merge-container-fact .ensures)
 
 pub merge-fact-of-spec : {M : Type 1} → statement M
 merge-fact-of-spec =
-    tie.close (tie.spec enum-told (λ c κs. search needs) (λ c. search needs) (λ c κs. search needs) (λ c. search needs) (λ c κs. search needs) returns
-    returns-2 returns-3)
+    tie.close (tie.spec (λ c. search needs) (λ c κs. search needs) (λ c. search needs) (λ c κs. search needs) (λ c. search needs)
+    (λ c κs. search needs) returns returns-2 returns-3)
