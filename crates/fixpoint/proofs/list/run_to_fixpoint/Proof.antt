@@ -8,6 +8,8 @@ use Rattle.fixpoint.proofs.Finishing.{told-cleared}
 use Rattle.fixpoint.proofs.list.run_to_fixpoint.Statement.{statement}
 use Rattle.fixpoint.proofs.list.run_to_fixpoint.Tie as tie
 
+-- places, each from a later one
+
 abbrev at-start : tie.After-join-into-arg5 → tie.Start
 at-start c = c .before .before .before .before .before .before .before .before .before .before .before .before .before .before .before .before .before
 
@@ -23,26 +25,31 @@ at-list c = c .before .before .before .before .before .before .before .before .b
 abbrev at-finish : tie.After-slice-known21 → tie.After-finish
 at-finish c = c .before .before .before .before .before .before .before .before .before .before
 
-join-into-requires : tie.Need-join-into-requires
-join-into-requires c κs = let start = at-start c in start-joins (start .args .which) (start .args .resources) (start .pre .0 .0) (start .pre .0 .1) (start .pre .1)
-
 enter-requires : tie.Need-enter-requires
 enter-requires c κs = let start = at-start (at-join c .before) in start-enters (start .args .which) (start .args .resources) (start .pre .0 .0) (start .pre .0 .1) (start .pre .1) _
 
 run-list-requires : tie.Need-run-list-requires
-run-list-requires c κs =
-    let enter = at-enter c in
-    let join = at-join (enter .before) in
-    let start = at-start (join .before) in
-    (start .pre .0, start-turn (start .args .which) (start .args .resources) (start .pre .0 .0) (start .pre .0 .1) (start .pre .1) _ _ _ _ (join .join-into .ensures) (enter .enter .ensures .0) (enter .enter .ensures .1))
+run-list-requires c κs = let enter = at-enter c in let join = at-join (enter .before) in let start = at-start (join .before) in (
+  start .pre .0,
+  start-turn (start .args .which) (start .args .resources) (start .pre .0 .0) (start .pre .0 .1) (start .pre .1) _ _ _ _ (join .join-into .ensures) (enter .enter .ensures .0) (enter .enter .ensures .1),
+)
+
+-- the lengths of the tables, through the loop and the first row
+same-length : tie.Need-same-length
+same-length c = let list = at-list (at-finish c) in
+    at-finish c .finish .kept .1 .0 ∙ list .run-list .kept .1 .1 .1 .1 .1 .1 .1 .1 .1 .1 .0 ∙ at-join (at-enter (list .before) .before) .join-into .kept .1 .1 .1 .1 .1 .0
+
+same-length-2 : tie.Need-same-length-2
+same-length-2 c = let list = at-list (at-finish c) in
+    at-finish c .finish .kept .1 .1 .0 ∙ list .run-list .kept .1 .1 .1 .1 .1 .1 .1 .1 .1 .1 .1 .0 ∙ at-join (at-enter (list .before) .before) .join-into .kept .1 .1 .1 .1 .1 .1 .0
+
+same-length-3 : tie.Need-same-length-3
+same-length-3 c = let list = at-list (at-finish c) in
+    at-finish c .finish .kept .1 .1 .1 .0 ∙ list .run-list .kept .1 .1 .1 .1 .1 .1 .1 .1 .1 .1 .1 .1 .0 ∙ at-join (at-enter (list .before) .before) .join-into .kept .1 .1 .1 .1 .1 .1 .1 .0
 
 returns : tie.Need-returns
 returns c =
-    let finish = at-finish c in
-    let list = at-list finish in
-    let enter = at-enter (list .before) in
-    let join = at-join (enter .before) in
-    let start = at-start (join .before) in
+    let finish = at-finish c in let list = at-list finish in let enter = at-enter (list .before) in let join = at-join (enter .before) in let start = at-start (join .before) in
     told-cleared (start .args .which) _ _ _ _ _ (start .args .resources) (list .run-list .result) _ _ _
     (record {
       present = list .run-list .kept .1 .1 .1 .1 .1 .1 .1 .1 .1 .1 .0 ∙ join .join-into .kept .1 .1 .1 .1 .1 .0;
@@ -52,25 +59,11 @@ returns c =
       rowValues = list .run-list .kept .1 .1 .1 .1 .1 .1 .1 .1 .1 .1 .1 .1 .1 .1 .0;
     })
     (list .run-list .ensures .1 ∙ zeros-same _ _ (enter .enter .kept .1 .1 .1 .0)) (finish .finish .ensures)
-    (first-told (start .args .which) (start .args .resources) (start .pre .0 .0) (start .pre .0 .1) (start .pre .1) _ _ _ _ (join .join-into .ensures) (enter .enter .ensures .0) (enter .enter .ensures .1) (list .run-list .ensures .0))
-
-same-length : tie.Need-same-length
-same-length c =
-    let list = at-list (at-finish c) in
-    at-finish c .finish .kept .1 .0 ∙ list .run-list .kept .1 .1 .1 .1 .1 .1 .1 .1 .1 .1 .0 ∙ at-join (at-enter (list .before) .before) .join-into .kept .1 .1 .1 .1 .1 .0
-
-same-length-2 : tie.Need-same-length-2
-same-length-2 c =
-    let list = at-list (at-finish c) in
-    at-finish c .finish .kept .1 .1 .0 ∙ list .run-list .kept .1 .1 .1 .1 .1 .1 .1 .1 .1 .1 .1 .0 ∙ at-join (at-enter (list .before) .before) .join-into .kept .1 .1 .1 .1 .1 .1 .0
-
-same-length-3 : tie.Need-same-length-3
-same-length-3 c =
-    let list = at-list (at-finish c) in
-    at-finish c .finish .kept .1 .1 .1 .0 ∙ list .run-list .kept .1 .1 .1 .1 .1 .1 .1 .1 .1 .1 .1 .1 .0 ∙ at-join (at-enter (list .before) .before) .join-into .kept .1 .1 .1 .1 .1 .1 .1 .0
+    (first-told (start .args .which) (start .args .resources) (start .pre .0 .0) (start .pre .0 .1) (start .pre .1) _ _ _ _ (join .join-into .ensures) (enter .enter .ensures .0) (enter .enter .ensures .1)
+    (list .run-list .ensures .0))
 
 pub run-to-fixpoint-spec : {M : Type 1} → statement M
 run-to-fixpoint-spec =
     tie.close
-    (tie.spec join-into-requires enter-requires run-list-requires (λ c κs. search needs) same-length same-length-2 same-length-3
-    (λ c. search needs) (λ c. search needs) (λ c. search needs) returns)
+    (tie.spec (λ c κs. let start = at-start c in start-joins (start .args .which) (start .args .resources) (start .pre .0 .0) (start .pre .0 .1) (start .pre .1))
+    enter-requires run-list-requires (λ c κs. search needs) same-length same-length-2 same-length-3 (λ c. search needs) (λ c. search needs) (λ c. search needs) returns)
