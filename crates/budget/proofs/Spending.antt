@@ -4,13 +4,14 @@ use mathlib.Core.Path.{_≡_, refl, sym, _∙_}
 use Prim.Native.Nat.{ℕ, _+_, _-_, _≤_, _<_}
 use native.Mathlib.Numerals.{add-one}
 use native.Mathlib.Omega.{arith}
-use Rattle.model.specs.Charges.{Refusal, overBudget, Spent, ok, stop, Metered, give, continue, _>>_, forEach, chargeBytes, chargeWork, inStage, spendBytes, spendWork}
+use Rattle.model.specs.Charges.{Refusal, Spent, ok, stop, Metered, give, continue, _>>_, forEach, chargeBytes, chargeWork, inStage, spendBytes, spendWork}
 use Rattle.model.specs.declared.Charge.{Charge}
 use Rattle.model.specs.declared.VerifierResources.{VerifierResources}
 use Rattle.model.proofs.Loops.{each-stops}
 use Rattle.budget.specs.Outcome.{asSpent}
 use Rattle.budget.specs.declared.Outcome.{Outcome}
-use Rattle.budget.specs.declared.Outcome.the-variants.{Covered, Refused}
+use Rattle.budget.specs.declared.Outcome.the-variants.{Covered}
+use Rattle.budget.proofs.Left.{Stopped, NotCovered, stopped-then, stopped-spent, spent-stopped}
 
 module _ {A B : Type 0} (part : Metered A) (next : Metered B) (budget : VerifierResources) where
   pub then-covered : {a : A} {left : VerifierResources} → part budget ≡ ok a left → (part >> next) budget ≡ next left
@@ -21,21 +22,16 @@ module _ {A B : Type 0} (part : Metered A) (next : Metered B) (budget : Verifier
   unfolding _>>_ continue
   then-refused e = rw e
 
--- the answer of a part that was covered, and of one that was refused
-module _ {whole : Outcome} {spent : Spent (Unit {0})} (came : asSpent whole ≡ spent) where
-  pub covered : {left : VerifierResources} → whole ≡ Covered left → spent ≡ ok tt left
-  unfolding asSpent
-  covered e = sym came ∙ rw e
+-- the answer of a part that was covered
+pub covered : {whole : Outcome} {spent : Spent (Unit {0})} {left : VerifierResources} → asSpent whole ≡ spent → whole ≡ Covered left → spent ≡ ok tt left
+unfolding asSpent
+covered came e = sym came ∙ rw e
 
-  pub refused : {stage requested remaining : ℕ} {left : VerifierResources} → whole ≡ Refused stage requested remaining left
-      → spent ≡ stop (overBudget stage requested remaining) left
-  unfolding asSpent
-  refused e = sym came ∙ rw e
-
-module _ (part next : Metered (Unit {0})) (budget : VerifierResources) {whole : Outcome} (came : asSpent whole ≡ part budget) where
+module _ (part next : Metered (Unit {0})) (budget : VerifierResources) (whole : Outcome) (came : asSpent whole ≡ part budget) where
   -- the refusal of the first is that of both
-  pub first-refused : {stage requested remaining : ℕ} {left : VerifierResources} → whole ≡ Refused stage requested remaining left → asSpent whole ≡ (part >> next) budget
-  first-refused e = came ∙ refused came e ∙ sym (then-refused part next budget (refused came e))
+  pub first-refused : NotCovered whole → asSpent whole ≡ (part >> next) budget
+  unfolding _>>_
+  first-refused h = stopped-spent (stopped-then (spent-stopped whole came h) (λ _. next))
 
   -- what follows a covered part
   pub second-came : {left : VerifierResources} (last : Outcome) → whole ≡ Covered left → asSpent last ≡ next left → asSpent last ≡ (part >> next) budget
@@ -61,15 +57,17 @@ module _ (f : ℕ → Metered (Unit {0})) (n : ℕ) (budget : VerifierResources)
   pub charged-more : {left rest : VerifierResources} {i : ℕ} → Charged left i → i < n → f i left ≡ ok tt rest → Charged rest (i + 1)
   charged-more c h e = record { within = omega arith; is = next c ∙ e }
 
-  pub charged-all : {left : VerifierResources} {i : ℕ} → Charged left i → n ≤ i → forEach f n budget ≡ ok tt left
-  charged-all {left} {i} c h = let e : n ≡ i = omega (arith, c .within) in rw e (c .is)
+  -- all of them, or the first that is refused, where m is how many there are
+  module _ {m : ℕ} (counted : n ≡ m) where
+    pub charged-all : {left : VerifierResources} {i : ℕ} → Charged left i → n ≤ i → asSpent (Covered left) ≡ forEach f m budget
+    unfolding asSpent
+    charged-all {left} {i} c h = let e : m ≡ i = omega (arith, c .within) in rw (e, c .is)
 
-  pub charged-refused : {left rest : VerifierResources} {i : ℕ} {refusal : Refusal} → Charged left i → i < n → f i left ≡ stop refusal rest
-      → forEach f n budget ≡ stop refusal rest
-  charged-refused {left} {rest} {i} {refusal} c h e =
-      let stopped = each-stops f (i + 1) (n - (i + 1)) budget refusal rest (next c ∙ e) in
-      let whole : n - (i + 1) + (i + 1) ≡ n = omega arith in
-      rw whole at stopped
+    pub charged-refused : {left : VerifierResources} {i : ℕ} {outcome : Outcome} → Charged left i → i < n → Stopped (f i left) outcome → asSpent outcome ≡ forEach f m budget
+    charged-refused {left} {i} c h s =
+        let stopped = each-stops f (i + 1) (m - (i + 1)) budget (s .refusal) (s .left) (next c ∙ s .came) in
+        let whole : m - (i + 1) + (i + 1) ≡ m = omega arith in
+        stopped-spent (record { refusal = s .refusal; left = s .left; came = rw whole at stopped; is = s .is })
 
 -- ---- one charge, as its functions answer it
 

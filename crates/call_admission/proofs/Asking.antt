@@ -1,4 +1,4 @@
--- Questions 1 to 6 and the graph's charges, as the code makes them.
+-- Questions 1 to 6, as the code asks them.
 -- Assumes nothing.
 use mathlib.Core.Path.{_≡_, refl, sym, ap, _∙_}
 use mathlib.Core.Bool.{Bool, true, false, _&&_}
@@ -10,16 +10,9 @@ use lib.Dec.{leb}
 use lib.ListN.{length}
 use borrow.Author.Tests.{le-leb, lt-leb, leb-true}
 use Rattle.model.specs.Sheet.{localSlots, sheetRefusal}
-use Rattle.model.specs.Charges.{continue, _>>_}
-use Rattle.model.specs.Dependencies.{chargeDependencies}
-use Rattle.model.specs.Analyses.{chargeFlow}
 use Rattle.model.specs.Call.{Lent, closureRoom, afterSix, afterFive, call, answer, lentAfter, result, resultOf, analyzed}
 use Rattle.model.specs.declared.VerifierResources.{VerifierResources}
-use Rattle.model.specs.declared.Answer.{Answer}
 use Rattle.model.specs.declared.Answer.the-variants.{Invalid}
-use Rattle.budget.specs.Metering.{asSpent}
-use Rattle.budget.specs.declared.Metering.{Metering}
-use Rattle.budget.specs.declared.Metering.the-variants as M
 use Rattle.model.proofs.Tests.{both}
 use Rattle.sheet.specs.Sizes.{sizesOf}
 use Rattle.sheet_questions.specs.Check.{checkOf, sheetCheck}
@@ -28,7 +21,6 @@ use Rattle.sheet.specs.declared.Sizes.{Sizes}
 use Rattle.sheet_questions.specs.declared.SheetCheck.{SheetCheck}
 use Rattle.sheet_questions.specs.declared.SheetCheck.the-variants as Q
 use Rattle.call_admission.specs.Admitted.{admittedIf, admissionOf, admission}
-use Rattle.call_admission.specs.Begun.{refusedBy, begunBy, begunOf, chargeGraph}
 use Rattle.call_admission.specs.declared.Admission.{Admission}
 use Rattle.call_admission.specs.declared.Admission.the-variants.{Admitted, Refused}
 
@@ -111,20 +103,3 @@ module _ (sheet : List ℕ) (lent : Lent) {given : Admission} (e : given ≡ adm
 
   pub admitted-asks : {sizes : Sizes} → given ≡ Admitted sizes → Accepted sheet sizes × (localSlots sheet ≤ length (lent .marks)) × (localSlots sheet ≤ length (lent .stack))
   admitted-asks c = admitted-lengths sheet _ _ e c
-
--- ---- the graph's charges
-
-module _ (sheet : List ℕ) (budget : VerifierResources) {flow : Metering} (e : asSpent 1 flow ≡ chargeFlow sheet budget) where
-  pub flow-refused : {requested remaining : ℕ} {left : VerifierResources} {given : Answer} → flow ≡ M.Refused requested remaining left → given ≡ begunBy flow 1
-      → some given ≡ begunOf (chargeGraph sheet budget)
-  unfolding asSpent begunBy begunOf chargeGraph _>>_ continue refusedBy
-  flow-refused c g = rw (g, ← e, c) refl
-
-  pub then-dependencies : {left : VerifierResources} (more : Metering) {given : Answer} → flow ≡ M.Covered left → asSpent 2 more ≡ chargeDependencies sheet left → given ≡ begunBy more 2
-      → some given ≡ begunOf (chargeGraph sheet budget)
-  unfolding asSpent begunBy begunOf chargeGraph _>>_ continue refusedBy
-  then-dependencies {left} more c d g = rw (g, ← e, c, ← d) (go more)
-    where
-      go : (m : Metering) → some (begunBy m 2) ≡ begunOf (asSpent 2 m)
-      go (M.Covered rest) = refl
-      go (M.Refused requested remaining rest) = refl

@@ -9,8 +9,8 @@ use Rattle.model.specs.Dependencies.{chargeInstruction}
 use Rattle.model.specs.Analyses.{flowOf, chargeFlow}
 use Rattle.model.specs.declared.Instruction.{Instruction}
 use Rattle.model.specs.declared.VerifierResources.{VerifierResources}
-use Rattle.budget.specs.Metering.{asSpent}
-use Rattle.budget.specs.declared.Metering.{Metering}
+use Rattle.budget.specs.Outcome.{asSpent}
+use Rattle.budget.specs.declared.Outcome.{Outcome}
 use Rattle.sheet.specs.Measured.{Measured}
 use Rattle.sheet.specs.declared.Sizes.{Sizes}
 use Rattle.sheet.proofs.Counted.{counted}
@@ -25,7 +25,7 @@ unfolding charges
 same-charge sheet pc left p q = rw (p, q)
 
 -- the flow graph's charges of a sheet, by its counted n
-pub flow-counted : (sheet : List ℕ) (budget : VerifierResources) {sizes : Sizes} (flow : Metering) → asSpent 1 flow ≡ flowOf (sizes .«code_count») budget → Measured sheet sizes
-    → asSpent 1 flow ≡ chargeFlow sheet budget
+pub flow-counted : (sheet : List ℕ) (budget : VerifierResources) {sizes : Sizes} (flow : Outcome) → asSpent flow ≡ flowOf (sizes .«code_count») budget → Measured sheet sizes
+    → asSpent flow ≡ chargeFlow sheet budget
 unfolding chargeFlow
 flow-counted sheet budget flow e m = rw (counted (m .are) .code-count) at e

@@ -1,14 +1,15 @@
 -- `closure_edges::charges::charge_dependencies` meets its contract: so far all charges were covered.
 -- Assumes nothing.
 use Prim.Native.Nat.{_-_}
-use mathlib.Core.Path.{sym, _∙_}
+use mathlib.Core.Path.{_≡_, _∙_}
 use native.Mathlib.Omega.{arith}
 use borrow.Author.Needs.{needs}
 use Rattle.model.specs.Dependencies.{chargeDependencies}
-use Rattle.budget.specs.Metering.{asSpent}
+use Rattle.budget.specs.Outcome.{asSpent}
+use Rattle.budget.proofs.Left.{spent-stopped}
+use Rattle.budget.proofs.Spending.{Charged, charged-none, charged-more, charged-all, charged-refused, covered}
 use Rattle.sheet.proofs.Counted.{counted}
 use Rattle.sheet.proofs.Inside.{code-inside}
-use Rattle.budget.proofs.Spending.{Charged, charged-none, charged-more, charged-all, charged-refused, covered, refused}
 use Rattle.closure_edges.proofs.Charging.{charges, same-charge}
 use Rattle.closure_edges.proofs.charges.charge_dependencies.Statement.{statement}
 use Rattle.closure_edges.proofs.charges.charge_dependencies.Tie as tie
@@ -19,65 +20,32 @@ Inv-loop sheet n l left₀ pc₀ left pc = Charged (charges sheet) n left₀ lef
 abbrev μ-loop : tie.MeasureT-loop
 μ-loop sheet n l left₀ pc₀ left pc = n - pc
 
-loop-holds : tie.Need-loop-holds Inv-loop μ-loop
-loop-holds c = charged-none _ _ _
+abbrev at-loop : tie.After-charge-instruction Inv-loop μ-loop → tie.At-loop Inv-loop μ-loop
+at-loop c = c .before .before .before
 
-instruction-at-requires : tie.Need-instruction-at-requires Inv-loop μ-loop
-instruction-at-requires c κs = code-inside (c .before .before .before .pre) _ (c .loop-test .taken)
-
-charge-instruction-requires : tie.Need-charge-instruction-requires Inv-loop μ-loop
-charge-instruction-requires c κs = search needs
-
-enum-known-charged : tie.Need-enum-known-charged Inv-loop μ-loop
-enum-known-charged c = search needs
-
-enum-told : tie.Need-enum-told Inv-loop μ-loop
-enum-told c = search needs
+-- the charges of this turn
+charged-came : (c : tie.After-charge-instruction Inv-loop μ-loop)
+    → asSpent (c .charge-instruction .result) ≡ charges (at-loop c .before .before .args .sheet .now) (at-loop c .loop .pc) (at-loop c .loop .left)
+charged-came c = c .charge-instruction .ensures ∙ same-charge _ _ _ (c .before .instruction-at .ensures) (counted (at-loop c .before .before .pre .are) .local-slots)
 
 returns : tie.Need-returns Inv-loop μ-loop
-unfolding chargeDependencies charges asSpent
+unfolding chargeDependencies charges
 returns c =
-    let charge-instruction = c .before .before in
-    let instruction-at = charge-instruction .before in
-    let in-loop = instruction-at .before in
-    let at-loop = in-loop .before in
-    let start = at-loop .before .before in
-    let m = counted (start .pre .are) in rw (c .enum-told .given .1) (sym (rw (m .code-count) at (charged-refused _ _ _ (at-loop .loop .inv) (in-loop .loop-test .taken) (refused 2 (charge-instruction .charge-instruction .ensures ∙ same-charge _ _ _ (instruction-at .instruction-at .ensures) (m .local-slots)) (c .enum-told .given .1)))))
-
-add-pc : tie.Need-add-pc Inv-loop μ-loop
-add-pc c = omega arith
-
-loop-less : tie.Need-loop-less Inv-loop μ-loop
-loop-less c = omega arith
+    let loop = at-loop (c .before) in
+    charged-refused _ _ _ (counted (loop .before .before .pre .are) .code-count) (loop .loop .inv) (c .before .before .before .loop-test .taken)
+    (spent-stopped (c .before .charge-instruction .result) (charged-came (c .before)) (c .match .keys2))
 
 loop-again : tie.Need-loop-again Inv-loop μ-loop
-unfolding charges
 loop-again c =
-    let charge-instruction = c .before .before .before in
-    let instruction-at = charge-instruction .before in
-    let in-loop = instruction-at .before in
-    let at-loop = in-loop .before in
-    let start = at-loop .before .before in
-    charged-more _ _ _ (at-loop .loop .inv) (in-loop .loop-test .taken)
-    (covered 2 (charge-instruction .charge-instruction .ensures ∙ same-charge _ _ _ (instruction-at .instruction-at .ensures) (counted (start .pre .are) .local-slots)) (c .before .charged .given .1))
+    let came = c .before .before .before in
+    charged-more _ _ _ (at-loop came .loop .inv) (came .before .before .loop-test .taken) (covered (charged-came came) (c .before .charged .given .1))
 
 returns-2 : tie.Need-returns-2 Inv-loop μ-loop
-unfolding chargeDependencies charges asSpent
-returns-2 c = sym (rw (counted (c .before .before .before .pre .are) .code-count) at (charged-all _ _ _ (c .before .loop .inv) (c .loop-test .left)))
+unfolding chargeDependencies charges
+returns-2 c = charged-all _ _ _ (counted (c .before .before .before .pre .are) .code-count) (c .before .loop .inv) (c .loop-test .left)
 
 pub charge-dependencies-spec : {M : Type 1} → statement M
 charge-dependencies-spec =
     tie.close
-    (tie.spec
-    Inv-loop
-    μ-loop
-    loop-holds
-    instruction-at-requires
-    charge-instruction-requires
-    enum-known-charged
-    enum-told
-    returns
-    add-pc
-    loop-less
-    loop-again
-    returns-2)
+    (tie.spec Inv-loop μ-loop (λ c. charged-none _ _ _) (λ c κs. code-inside (c .before .before .before .pre) _ (c .loop-test .taken)) (λ c κs. search needs) (λ c. search needs)
+    returns (λ c. omega arith) (λ c. omega arith) loop-again returns-2)
