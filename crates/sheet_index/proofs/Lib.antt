@@ -1,1 +1,2 @@
--- This crate has no laws beside the proof of its function.
+-- For the callers: what the analyses ask of a sheet's index
+pub mod Found
