@@ -117,10 +117,5 @@ pub fn analyze_indexed(
         index_kinds,
         index_values,
     );
-    answer_of(
-        outcome,
-        values.constant,
-        values.index,
-        containers.counts,
-    )
+    answer_of(outcome, values.constant, values.index, containers.counts)
 }
