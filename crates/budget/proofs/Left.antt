@@ -37,6 +37,12 @@ module _ {A M : Type 0} (given : A → M) (refused : M) where
       stopped refusal left refl (ap (λ (l : Leaves M). l .outcome) same) (ap (λ (l : Leaves M). l .memory) same)
   left-by unfinished e = let z : _≡_ {A = ℕ} 0 1 = cc in absurd (omega arith)
 
+-- what is left after a part that was covered
+pub covered-leaves : {A M : Type 0} (given : A → M) (refused : M) {memory : M} {spent : Spent A} {outcome : Outcome} {a : A} {left : VerifierResources}
+    → spent ≡ ok a left → outcome ≡ Covered left → memory ≡ given a → some (leaves outcome memory) ≡ leavesOf given refused spent
+unfolding leavesOf
+covered-leaves given refused s o m = rw (s, o, m)
+
 -- ---- a part that was refused
 
 -- a refusal, as the definitions and as the code have it

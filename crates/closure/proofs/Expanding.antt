@@ -7,7 +7,7 @@ use Prim.Native.Nat.{ℕ, zero, suc, _+_, _-_, _≤_, _<_}
 use native.Mathlib.Omega.{arith}
 use lib.ListN.{length, getD, set, replicate, length-set, length-replicate}
 use Rattle.model.specs.Sheet.{localSlots}
-use Rattle.model.specs.Charges.{Spent, ok, stop, overBudget, give, continue, _>>_, chargeWork, inStage, spendWork}
+use Rattle.model.specs.Charges.{Spent, ok, give, continue, _>>_, chargeWork, inStage, spendWork}
 use Rattle.model.specs.Dependencies.{dependencyBit, edgesTo}
 use Rattle.model.specs.Closure.{Marked, mark, follow, unmarked, seeded, takeSlot, expand, stageNumber}
 use Rattle.model.specs.CallDemand.{Passed, begun, marking, taking}
@@ -16,10 +16,11 @@ use Rattle.model.specs.Call.{zeros}
 use Rattle.model.specs.declared.AnalysisKind.{AnalysisKind}
 use Rattle.model.specs.declared.VerifierResources.{VerifierResources}
 use Rattle.model.specs.declared.Charge.{Charge}
-use Rattle.model.specs.declared.Charge.the-variants as C
-use Rattle.budget.specs.Metering.{asSpent}
-use Rattle.budget.specs.declared.Metering.{Metering}
-use Rattle.budget.specs.declared.Metering.the-variants as M
+use Rattle.budget.specs.Outcome.{asSpent}
+use Rattle.budget.specs.declared.Outcome.{Outcome}
+use Rattle.budget.specs.declared.Outcome.the-variants.{Covered}
+use Rattle.budget.proofs.Left.{Stopped, NotCovered, stopped-then, spent-stopped}
+use Rattle.budget.proofs.Spending.{covered, work-came}
 use Rattle.sheet.specs.Measured.{Measured}
 use Rattle.sheet.specs.declared.Sizes.{Sizes}
 use Rattle.sheet.proofs.Counted.{counted}
@@ -30,10 +31,9 @@ use Rattle.finality.proofs.Cells.{stacked-top, stacked-pop}
 use Rattle.closure_marks.specs.Marks.{MarkedLies, Lain}
 use Rattle.closure_follow.specs.Sources.{Follows}
 use Rattle.closure.specs.Taking.{Standing, topEdges, topTaken, Takes}
-use Rattle.closure.specs.Expanded.{ZeroScratch, expandedTo, expandedOf}
+use Rattle.closure.specs.Expanded.{ZeroScratch}
 use Rattle.closure_follow.specs.declared.Followed.{Followed}
 use Rattle.closure_marks.proofs.Marking.{some-lain}
-use Rattle.finality.proofs.Lengths.{zeros-same}
 
 -- ---- what is on the stack is below L
 
@@ -220,11 +220,6 @@ module _ (which : AnalysisKind) (sheet : List ℕ) where
   unfolding weight
   lies-weight l = omega (arith, ap free (l .marks-are), l .top-is)
 
-  -- a charge as a part of the stage
-  part-is : (stage : ℕ) (left : VerifierResources) {count same : ℕ} {charge : Charge} → charge ≡ chargeWork count left → count ≡ same → spendWork stage same left ≡ inStage stage left charge
-  unfolding spendWork
-  part-is stage left p e = cc
-
   module _ {budget left : VerifierResources} {room : ℕ} {marks stack marks′ stack′ : List ℕ} {top : ℕ} {r : Followed} (x : Expanding budget room marks stack top left) (some : 0 < top)
       (t : Takes which sheet marks stack top marks′ stack′ r) where
     on : Topped (x .m .stack)
@@ -235,25 +230,25 @@ module _ (which : AnalysisKind) (sheet : List ℕ) where
     unfolding next
     expanding-less = omega (arith, lies-weight (x .lies), lies-weight (t .lies (x .lies)), weight-falls (x .m) on)
 
-    module _ {charge : Charge} (made : charge ≡ chargeWork (r .count) left) where
+    module _ {charge : Charge} (made : charge ≡ chargeWork (r .count) left) {stage : ℕ} (number : stage ≡ stageNumber which) (outcome : Outcome)
+        (came : asSpent outcome ≡ inStage stage left charge) where
       -- the turn's charge, and what follows it
-      charged : whole budget ≡ continue (λ _. expand which sheet (weight (next (x .m) on)) (next (x .m) on)) (inStage (stageNumber which) left charge)
+      charged : whole budget ≡ continue (λ _. expand which sheet (weight (next (x .m) on)) (next (x .m) on)) (asSpent outcome)
       unfolding _>>_
       charged =
-          x .so-far ∙ turn (x .m) on left
-          ∙ ap (continue (λ _. expand which sheet (weight (next (x .m) on)) (next (x .m) on))) (part-is (stageNumber which) left made (t .counts (x .lies)))
+          let work = work-came _ outcome left made (came ∙ ap (λ (k : ℕ). inStage k left charge) number) (t .counts (x .lies)) in
+          x .so-far ∙ turn (x .m) on left ∙ ap (continue (λ _. expand which sheet (weight (next (x .m) on)) (next (x .m) on))) (sym work)
 
-      pub expanding-on : {rest : VerifierResources} → charge ≡ C.Covered rest → Expanding budget room marks′ stack′ (r .top) rest
-      unfolding continue inStage next
+      pub expanding-on : {rest : VerifierResources} → outcome ≡ Covered rest → Expanding budget room marks′ stack′ (r .top) rest
+      unfolding continue next
       expanding-on e = record {
         m = next (x .m) on;
         lies = t .lies (x .lies);
-        so-far = charged ∙ ap (λ (k : Charge). continue (λ _. expand which sheet (weight (next (x .m) on)) (next (x .m) on)) (inStage (stageNumber which) left k)) e;
+        so-far = charged ∙ ap (continue (λ _. expand which sheet (weight (next (x .m) on)) (next (x .m) on))) (covered refl e);
       }
 
-      pub expanding-refused : {requested remaining : ℕ} → charge ≡ C.Refused requested remaining → whole budget ≡ stop (overBudget (stageNumber which) requested remaining) left
-      unfolding continue inStage
-      expanding-refused e = charged ∙ ap (λ (k : Charge). continue (λ _. expand which sheet (weight (next (x .m) on)) (next (x .m) on)) (inStage (stageNumber which) left k)) e
+      pub expanding-refused : NotCovered outcome → Stopped (whole budget) outcome
+      expanding-refused h = rw charged (stopped-then (spent-stopped outcome refl h) _)
 
   nothing : (stack : List ℕ) → length stack ≡ 0 → stack ≡ []
   nothing [] e = refl
@@ -292,24 +287,3 @@ zero-lies {sheet} {marks} {stack} w b = record {
 
 pub lies-room : {sheet : List ℕ} {room : ℕ} {m : Marked} {marks stack : List ℕ} {top : ℕ} → MarkedLies sheet room m marks stack top → MarkedLies sheet (length stack) m marks stack top
 lies-room l = rw (l .long) l
-
--- ---- how it ends
-
--- the answer to a refused charge
-refused-is : {requested remaining : ℕ} {left : VerifierResources} (r : Metering) → asSpent 0 r ≡ stop (overBudget 0 requested remaining) left → r ≡ M.Refused requested remaining left
-unfolding asSpent
-refused-is (M.Covered rest) e = let z : _≡_ {A = ℕ} 0 1 = cc in absurd (omega arith)
-refused-is (M.Refused a b rest) e = cc
-
-pub refused-end : {stage requested remaining : ℕ} {left : VerifierResources} {charge : Charge} {spent : Spent Marked} (r : Metering) (old now′ : List ℕ) {marks′ : List ℕ}
-    → spent ≡ stop (overBudget stage requested remaining) left → asSpent 0 r ≡ inStage 0 left charge → charge ≡ C.Refused requested remaining
-    → marks′ ≡ zeros now′ → length now′ ≡ length old → expandedTo r marks′ ≡ expandedOf old spent
-unfolding expandedOf inStage
-refused-end {requested = q} {remaining = k} {left = left} r old now′ e a c z h =
-    let answer : r ≡ M.Refused q k left = refused-is r (a ∙ ap (inStage 0 left) c) in
-    let marks-zero = z ∙ zeros-same now′ old h in
-    rw (e, answer, marks-zero)
-
-pub done-end : (old : List ℕ) {left : VerifierResources} {m : Marked} {spent : Spent Marked} {marks : List ℕ} → spent ≡ ok m left → marks ≡ m .marks → expandedTo (M.Covered left) marks ≡ expandedOf old spent
-unfolding expandedOf
-done-end old e k = rw (e, k)

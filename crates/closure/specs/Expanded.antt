@@ -2,15 +2,16 @@
 -- Assumes nothing.
 use mathlib.Core.Path.{_≡_}
 use mathlib.Core.List.{List}
-use mathlib.Core.Option.{Option, none, some}
+use mathlib.Core.Option.{some}
 use Prim.Native.Nat.{ℕ, _≤_}
 use lib.ListN.{length}
 use Rattle.model.specs.Sheet.{localSlots}
-use Rattle.model.specs.Charges.{overBudget, noRoom, Spent, ok, stop, unfinished}
-use Rattle.model.specs.Closure.{Marked}
+use Rattle.model.specs.Closure.{Marked, seeded, expand}
 use Rattle.model.specs.Call.{zeros}
-use Rattle.budget.specs.declared.Metering.{Metering}
-use Rattle.budget.specs.declared.Metering.the-variants as M
+use Rattle.model.specs.declared.AnalysisKind.{AnalysisKind}
+use Rattle.model.specs.declared.VerifierResources.{VerifierResources}
+use Rattle.budget.specs.Outcome.{leaves, leavesOf}
+use Rattle.budget.specs.declared.Outcome.{Outcome}
 
 -- L marks and a stack of at least L entries, all zero
 pub record ZeroScratch (sheet marks stack : List ℕ) : Type 0 where
@@ -19,17 +20,7 @@ pub record ZeroScratch (sheet marks stack : List ℕ) : Type 0 where
   pub no-marks : marks ≡ zeros marks
   pub no-entries : stack ≡ zeros stack
 
--- What the loop leaves.
-pub record Expanded : Type 0 where
-  pub answer : Metering
-  pub marks : List ℕ
-
-abbrev pub expandedTo : Metering → List ℕ → Option Expanded
-expandedTo answer marks = some (record { answer = answer; marks = marks })
-
--- the marks of the closure, or zeros after a refusal; nothing where its fuel was too little, or room was asked, which does not happen
-unfoldable pub expandedOf : List ℕ → Spent Marked → Option Expanded
-expandedOf old (ok m left) = expandedTo (M.Covered left) (m .marks)
-expandedOf old (stop (overBudget stage requested remaining) left) = expandedTo (M.Refused requested remaining left) (zeros old)
-expandedOf old (stop noRoom left) = none
-expandedOf old unfinished = none
+-- the marks of the closure, or zeros after a refusal; the stack is zero again
+pub record ExpandEnsures (which : AnalysisKind) (sheet : List ℕ) (budget : VerifierResources) (marks stack : List ℕ) (outcome : Outcome) (marks′ stack′ : List ℕ) : Type 0 where
+  pub closes : some (leaves outcome marks′) ≡ leavesOf (λ (m : Marked). m .marks) (zeros marks) (expand which sheet (localSlots sheet) (seeded which sheet) budget)
+  pub no-entries : stack′ ≡ zeros stack

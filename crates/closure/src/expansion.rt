@@ -1,16 +1,13 @@
 // `FactDependencyGraph::expand`: from the seeds along the edges, the slot put last first.
-ghost use mathlib.Core.Path.{_≡_};
 ghost use Prim.Native.Nat.{_<_};
-ghost use Rattle.model.specs.Sheet.{localSlots};
-ghost use Rattle.model.specs.Closure.{seeded, expand};
-ghost use Rattle.model.specs.Call.{zeros};
 ghost use Rattle.sheet.specs.Measured.{Measured};
 ghost use Rattle.closure_edges.specs.Chain.{Chained};
 ghost use Rattle.closure.specs.Taking.{Standing, Takes};
-ghost use Rattle.closure.specs.Expanded.{ZeroScratch, expandedTo, expandedOf};
-use budget::Metering;
+ghost use Rattle.closure.specs.Expanded.{ZeroScratch, ExpandEnsures};
+use budget::Outcome;
 use budget::charge_work;
 use budget::metered;
+use budget::stage_number;
 use closure_edges::build;
 use closure_follow::Followed;
 use closure_follow::follow_edges;
@@ -18,7 +15,6 @@ use closure_marks::seed_slots;
 use memory::clear_u8;
 use memory::clear_u16;
 use model::AnalysisKind;
-use model::Charge;
 use model::VerifierResources;
 use sheet::Sizes;
 
@@ -68,10 +64,11 @@ fn expand_along(
     pcs: &[u16],
     marks: &mut [u8],
     stack: &mut [u16],
-) -> Metering
+) -> Outcome
     requires { ⌜ Measured (now sheet) sizes × ZeroScratch (now sheet) (now marks) (now stack) × Chained (now sheet) (now heads) (now nexts) (now pcs) from ⌝ }
-    ensures { λ r. ⌜ (expandedTo r (now (marks .exit)) ≡ expandedOf (now (marks .entry)) (expand which (now (sheet .entry)) (localSlots (now (sheet .entry))) (seeded which (now (sheet .entry))) resources)) × (now (stack .exit) ≡ zeros (now (stack .entry))) ⌝ }
+    ensures { λ r. ⌜ ExpandEnsures which (now (sheet .entry)) resources (now (marks .entry)) (now (stack .entry)) r (now (marks .exit)) (now (stack .exit)) ⌝ }
 {
+    let stage = stage_number(which);
     let mut top = seed_slots(which, sheet, sizes, marks, stack);
     let mut left = resources;
     while 0 < top {
@@ -87,16 +84,16 @@ fn expand_along(
             stack,
             top,
         );
-        let charge = charge_work(left, followed.count);
-        let Charge::Covered { left: rest } = charge else {
+        let charged = metered(stage, left, charge_work(left, followed.count));
+        let Outcome::Covered { left: rest } = charged else {
             clear_u8(marks);
             clear_u16(stack);
-            return metered(left, charge);
+            return charged;
         };
         left = rest;
         top = followed.top;
     }
-    Metering::Covered { left }
+    Outcome::Covered { left }
 }
 
 // The same for a short script: its instructions are read one after the other for each slot, and no chains are built.
@@ -107,9 +104,9 @@ fn expand_short(
     resources: VerifierResources,
     marks: &mut [u8],
     stack: &mut [u16],
-) -> Metering
+) -> Outcome
     requires { ⌜ Measured (now sheet) sizes × ZeroScratch (now sheet) (now marks) (now stack) ⌝ }
-    ensures { λ r. ⌜ (expandedTo r (now (marks .exit)) ≡ expandedOf (now (marks .entry)) (expand which (now (sheet .entry)) (localSlots (now (sheet .entry))) (seeded which (now (sheet .entry))) resources)) × (now (stack .exit) ≡ zeros (now (stack .entry))) ⌝ }
+    ensures { λ r. ⌜ ExpandEnsures which (now (sheet .entry)) resources (now (marks .entry)) (now (stack .entry)) r (now (marks .exit)) (now (stack .exit)) ⌝ }
 {
     let heads = [0u16; 1];
     let nexts = [0u16; 1];
@@ -137,9 +134,9 @@ pub fn expand(
     resources: VerifierResources,
     marks: &mut [u8],
     stack: &mut [u16],
-) -> Metering
+) -> Outcome
     requires { ⌜ Measured (now sheet) sizes × ZeroScratch (now sheet) (now marks) (now stack) ⌝ }
-    ensures { λ r. ⌜ (expandedTo r (now (marks .exit)) ≡ expandedOf (now (marks .entry)) (expand which (now (sheet .entry)) (localSlots (now (sheet .entry))) (seeded which (now (sheet .entry))) resources)) × (now (stack .exit) ≡ zeros (now (stack .entry))) ⌝ }
+    ensures { λ r. ⌜ ExpandEnsures which (now (sheet .entry)) resources (now (marks .entry)) (now (stack .entry)) r (now (marks .exit)) (now (stack .exit)) ⌝ }
 {
     if sizes.code_count < 33 {
         return expand_short(which, sheet, sizes, resources, marks, stack);

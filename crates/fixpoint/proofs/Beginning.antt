@@ -1,19 +1,20 @@
 -- The whole run: from the first row, through the loop, to what is left.
 -- Assumes nothing.
-use mathlib.Core.Path.{_≡_, refl, sym, ap, _∙_, subst}
+use mathlib.Core.Path.{_≡_, sym, ap, _∙_, subst}
 use mathlib.Core.Bool.{Bool, true, cond}
-use mathlib.Core.List.{List, [], _∷_, map}
-use mathlib.Core.Option.{Option, none, some}
+use mathlib.Core.List.{List, [], _∷_}
+use mathlib.Core.Option.{Option, none}
 use Prim.Native.Nat.{ℕ, _+_, _*_, _≤_, _<_}
 use native.Mathlib.Nat.{mul-le-mul-right}
 use native.Mathlib.Omega.{arith}
 use lib.ListN.{length, set, replicate, length-map, length-replicate, length-set}
 use Rattle.model.specs.Sheet.{codeCount}
 use Rattle.model.specs.Fact.{kind, value, Row, equalKnown}
-use Rattle.model.specs.Run.{Analysis, run}
+use Rattle.model.specs.Run.{Analysis}
 use Rattle.model.specs.Tables.{factsOf}
 use Rattle.model.specs.Analyses.{analysis}
 use Rattle.model.specs.Demand.{Lawful}
+use Rattle.model.specs.declared.VerifierResources.{VerifierResources}
 use Rattle.model.specs.declared.AnalysisKind.{AnalysisKind}
 use Rattle.sheet.specs.declared.Sizes.{Sizes}
 use Rattle.sheet_layouts.specs.Classes.{equalBy}
@@ -24,17 +25,17 @@ use Rattle.fixpoint_visit.specs.Laid.{RowsLaid, RowLaid}
 use Rattle.fixpoint_visit.specs.News.{rowsVisited}
 use Rattle.fixpoint_visit.specs.Visits.{JoinRequires, JoinEnsures}
 use Rattle.fixpoint_step.specs.Stepped.{SheetIndex, TrackedSlots}
-use Rattle.stage_outcome.specs.declared.Run.{Run}
-use Rattle.fixpoint.specs.Turn.{ranAnalysis, firstOf, Turn, Ran, RunRequires}
-use Rattle.fixpoint.specs.Result.{RunResult, finishOf, ranOf}
+use Rattle.fixpoint.specs.declared.Ran.{Ran}
+use Rattle.fixpoint.specs.Memory.{RunMemory, runMemory}
+use Rattle.fixpoint.specs.Turn.{ranAnalysis, firstOf, Turn, RunRequires}
 use Rattle.fixpoint.proofs.Loop.{law, turn}
 use Rattle.fixpoint.proofs.Running as T
-use Rattle.fixpoint.proofs.Finishing.{ends}
+use Rattle.fixpoint.proofs.Finishing.{RunTold}
 
-module _ (which : AnalysisKind) (sheet : List ℕ) (sizes : Sizes) (firsts classes slots lengthKinds lengthValues : List ℕ) (left : ℕ)
-    (present kinds values rowKinds rowValues list : List ℕ)
+module _ (which : AnalysisKind) {sheet : List ℕ} {sizes : Sizes} {firsts classes slots lengthKinds lengthValues : List ℕ} (resources : VerifierResources)
+    {present kinds values rowKinds rowValues list : List ℕ}
     (i : SheetIndex sheet sizes firsts classes lengthKinds lengthValues) (s : TrackedSlots sheet slots)
-    (f : RunRequires (codeCount sheet) (length slots) present kinds values rowKinds rowValues list) where
+    (f : RunRequires (codeCount sheet) (length slots) (runMemory present kinds values rowKinds rowValues list)) where
   abbrev first : Row
   first = factsOf rowKinds rowValues
 
@@ -42,7 +43,7 @@ module _ (which : AnalysisKind) (sheet : List ℕ) (sizes : Sizes) (firsts class
   a = ranAnalysis which sheet slots lengthKinds lengthValues first
 
   lawful : Lawful (ranAnalysis which sheet slots lengthKinds lengthValues (factsOf rowKinds rowValues))
-  lawful = law which sheet sizes firsts classes slots lengthKinds lengthValues first left (length list) i s (f .row-length) (f .list-fits)
+  lawful = law which sheet sizes firsts classes slots lengthKinds lengthValues first resources (length list) i s (f .row-length) (f .list-fits)
 
   row-lengths : (length rowKinds ≡ length slots) × (length rowValues ≡ length slots)
   row-lengths = (ap length (f .row-kinds-are) ∙ length-map first kind ∙ f .row-length, ap length (f .row-values-are) ∙ length-map first value ∙ f .row-length)
@@ -81,7 +82,7 @@ module _ (which : AnalysisKind) (sheet : List ℕ) (sizes : Sizes) (firsts class
   start-enters fresh = ((λ k. some-room), (λ k. omega arith))
 
   module _ (present′ kinds′ values′ : List ℕ) (fresh : Bool) (j : JoinEnsures (equalBy which classes) (length rowKinds) 0 rowKinds rowValues present kinds values present′ kinds′ values′ fresh)
-      (list′ : List ℕ) (top′ : ℕ) (l′ : list′ ≡ cond fresh (set list 0 0) list) (t′ : top′ ≡ cond fresh (0 + 1) 0) where
+      {list′ : List ℕ} {top′ : ℕ} (l′ : list′ ≡ cond fresh (set list 0 0) list) (t′ : top′ ≡ cond fresh (0 + 1) 0) where
     joined : RowsLaid (length slots) (rowsVisited (equalKnown which sheet) first 0 (replicate (codeCount sheet) none)) present′ kinds′ values′ × (fresh ≡ true)
     unfolding JoinEnsures ranAnalysis analysis
     joined =
@@ -99,23 +100,14 @@ module _ (which : AnalysisKind) (sheet : List ℕ) (sizes : Sizes) (firsts class
     first-is = T.started-row a lawful present′ kinds′ values′ (s .some-code) (joined .0)
 
     -- what the loop asks
-    pub start-turn : Turn which sheet slots lengthKinds lengthValues (firstOf slots kinds′ values′) left (length list′) present′ kinds′ values′ rowKinds rowValues list′ top′ 0 left
+    pub start-turn : Turn which sheet slots lengthKinds lengthValues (firstOf slots kinds′ values′) (resources .work) (length list′) (runMemory present′ kinds′ values′ rowKinds rowValues list′) top′ 0 (resources .work)
     unfolding ranAnalysis analysis
     start-turn =
-        rw (first-is, list-length) (turn which sheet sizes firsts classes slots lengthKinds lengthValues first left (length list) i s (f .row-length) (f .list-fits)
-        present′ kinds′ values′ rowKinds rowValues list′ top′ 0 left (row-lengths .0) (row-lengths .1) list-length
-        (T.started a lawful left present′ kinds′ values′ list′ top′ (joined .0) listed))
+        rw (first-is, list-length) (turn which sheet sizes firsts classes slots lengthKinds lengthValues first resources (length list) i s (f .row-length) (f .list-fits)
+        present′ kinds′ values′ rowKinds rowValues list′ top′ 0 (resources .work) (row-lengths .0) (row-lengths .1) list-length
+        (T.started a lawful (resources .work) present′ kinds′ values′ list′ top′ (joined .0) listed))
 
     -- and what is left behind it
-    pub whole : (r : Run) (present″ kinds″ values″ rowKinds″ rowValues″ : List ℕ) (result : RunResult)
-        → length present″ ≡ length present′ → length kinds″ ≡ length kinds′ → length values″ ≡ length values′ → length rowKinds″ ≡ length rowKinds → length rowValues″ ≡ length rowValues
-        → Ran (ranAnalysis which sheet slots lengthKinds lengthValues (firstOf slots kinds′ values′)) left r present″ kinds″ values″
-        → result ≡ finishOf r present″ kinds″ values″ rowKinds″ rowValues″
-        → some result ≡ ranOf (codeCount sheet) (length slots) (run (ranAnalysis which sheet slots lengthKinds lengthValues (factsOf rowKinds rowValues)) left)
-    unfolding ranAnalysis analysis
-    whole r present″ kinds″ values″ rowKinds″ rowValues″ result hp hk hv hrk hrv ran e =
-        let t = start-turn in
-        ap some e
-        ∙ ends (ranAnalysis which sheet slots lengthKinds lengthValues (firstOf slots kinds′ values′)) left r present″ kinds″ values″ rowKinds″ rowValues″
-        (hp ∙ t .present-length) (hk ∙ t .kinds-length) (hv ∙ t .values-length) (hrk ∙ t .row-kinds-length) (hrv ∙ t .row-values-length) ran
-        ∙ ap (λ (x : Row). ranOf (codeCount sheet) (length slots) (run (ranAnalysis which sheet slots lengthKinds lengthValues x) left)) first-is
+    pub first-told : {r : Ran} {m : RunMemory} → RunTold which sheet slots lengthKinds lengthValues (firstOf slots kinds′ values′) resources r m
+        → RunTold which sheet slots lengthKinds lengthValues (factsOf rowKinds rowValues) resources r m
+    first-told {r} {m} told = subst (λ (x : Row). RunTold which sheet slots lengthKinds lengthValues x resources r m) first-is told

@@ -1,7 +1,7 @@
 -- The loop's state between two turns (`Running`) and inside one (`Taken`), and how it goes on.
 -- Assumes nothing.
 use mathlib.Core.Path.{_≡_, refl, sym, ap, ap₂, _∙_}
-use mathlib.Core.List.{List, [], _∷_, _++_, append-nil, List·Memᴰ as Member, List·Memᴰ·head as head, List·Memᴰ·tail as tail}
+use mathlib.Core.List.{List, [], _∷_, _++_, append-nil, List·Memᴰ·head as head}
 use mathlib.Core.Bool.{true}
 use mathlib.Core.Option.{Option, none, some}
 use Prim.Native.Nat.{ℕ, zero, suc, _+_, _*_, _-_, _≤_, _<_}
@@ -21,7 +21,7 @@ use Rattle.finality.proofs.Final.{visited-good}
 use Rattle.finality.proofs.Memory.{row-part}
 use Rattle.finality.proofs.Fuel.{run-is}
 use Rattle.fixpoint_list.specs.Listed.{Listed, entered}
-use Rattle.fixpoint_list.proofs.Listed.{empty-listed, listed-empty, listed-take}
+use Rattle.fixpoint_list.proofs.Listed.{listed-empty, listed-take}
 use Rattle.fixpoint_visit.specs.Laid.{RowsLaid}
 use Rattle.fixpoint_visit.specs.News.{rowsVisited, rowsAfter, newsOf}
 use Rattle.fixpoint_visit.proofs.Visits.{visits-parts}

@@ -2,12 +2,11 @@
 -- Assumes nothing.
 use mathlib.Core.Path.{_≡_}
 use mathlib.Core.List.{List, map}
-use mathlib.Core.Option.{Option}
 use Prim.Native.Nat.{ℕ, _+_, _*_, _≤_}
 use lib.ListN.{length, replicate}
 use Rattle.model.specs.Fact.{kind, value, Row}
 use Rattle.model.specs.Sheet.{codeCount}
-use Rattle.model.specs.Run.{Analysis, State, finished, overdrawn, bound, run}
+use Rattle.model.specs.Run.{Analysis, State}
 use Rattle.model.specs.Tables.{factsOf, tableRow, lengthTable}
 use Rattle.model.specs.Analyses.{analysis}
 use Rattle.model.specs.Call.{zeros}
@@ -15,8 +14,7 @@ use Rattle.model.specs.Demand.{Visited}
 use Rattle.model.specs.declared.AnalysisKind.{AnalysisKind}
 use Rattle.fixpoint_list.specs.Listed.{Listed}
 use Rattle.fixpoint_visit.specs.Laid.{RowsLaid}
-use Rattle.stage_outcome.specs.declared.Run.{Run}
-use Rattle.stage_outcome.specs.declared.Run.the-variants.{Finished, Overdrawn}
+use Rattle.fixpoint.specs.Memory.{RunMemory}
 
 -- the analysis that the loop runs, from its first row
 unfoldable pub ranAnalysis : AnalysisKind → List ℕ → List ℕ → List ℕ → List ℕ → Row → Analysis
@@ -40,30 +38,25 @@ pub record Running (a : Analysis) (left : ℕ) (present kinds values workList : 
   pub left-is : rest ≡ st .left
 
 -- between two turns, with a work list of `room` cells. (The lengths follow from what lies there; arithmetic reads them.)
-pub record Turn (which : AnalysisKind) (sheet slots lengthKinds lengthValues : List ℕ) (entry : Row) (left room : ℕ) (present kinds values rowKinds rowValues workList : List ℕ) (top pops rest : ℕ) : Type 0 where
+pub record Turn (which : AnalysisKind) (sheet slots lengthKinds lengthValues : List ℕ) (entry : Row) (left room : ℕ) (m : RunMemory) (top pops rest : ℕ) : Type 0 where
   pub entry-length : length entry ≡ length slots
-  pub running : Running (ranAnalysis which sheet slots lengthKinds lengthValues entry) left present kinds values workList top pops rest
+  pub running : Running (ranAnalysis which sheet slots lengthKinds lengthValues entry) left (m .present) (m .kinds) (m .values) (m .workList) top pops rest
   pub fits : pops + top ≤ codeCount sheet * (1 + 2 * length slots)
-  pub present-length : length present ≡ codeCount sheet
-  pub kinds-length : length kinds ≡ codeCount sheet * length slots
-  pub values-length : length values ≡ codeCount sheet * length slots
-  pub row-kinds-length : length rowKinds ≡ length slots
-  pub row-values-length : length rowValues ≡ length slots
-  pub list-length : length workList ≡ room
+  pub present-length : length (m .present) ≡ codeCount sheet
+  pub kinds-length : length (m .kinds) ≡ codeCount sheet * length slots
+  pub values-length : length (m .values) ≡ codeCount sheet * length slots
+  pub row-kinds-length : length (m .rowKinds) ≡ length slots
+  pub row-values-length : length (m .rowValues) ≡ length slots
+  pub list-length : length (m .workList) ≡ room
   pub list-fits : codeCount sheet * (1 + 2 * length slots) ≤ room
 
--- What the loop answers: the defined run, refused, or with its rows in the tables.
-unfoldable pub Ran : Analysis → ℕ → Run → List ℕ → List ℕ → List ℕ → Type 0
-Ran a left (Finished pops work) present kinds values = (rows : List (Option Row)) × (run a left ≡ finished rows pops work) × RowsLaid (a .s) rows present kinds values
-Ran a left (Overdrawn requested remaining) present kinds values = run a left ≡ overdrawn requested remaining
-
 -- What the whole run is lent: tables of zeros, exactly as long as it needs, a first row of s facts, and a work list of zeros with room for the bound.
-pub record RunRequires (n s : ℕ) (present kinds values rowKinds rowValues workList : List ℕ) : Type 0 where
-  pub present-zero : present ≡ replicate n 0
-  pub kinds-zero : kinds ≡ replicate (n * s) 0
-  pub values-zero : values ≡ replicate (n * s) 0
-  pub row-length : length (factsOf rowKinds rowValues) ≡ s
-  pub row-kinds-are : rowKinds ≡ map kind (factsOf rowKinds rowValues)
-  pub row-values-are : rowValues ≡ map value (factsOf rowKinds rowValues)
-  pub list-zero : workList ≡ zeros workList
-  pub list-fits : n * (1 + 2 * s) ≤ length workList
+pub record RunRequires (n s : ℕ) (m : RunMemory) : Type 0 where
+  pub present-zero : m .present ≡ replicate n 0
+  pub kinds-zero : m .kinds ≡ replicate (n * s) 0
+  pub values-zero : m .values ≡ replicate (n * s) 0
+  pub row-length : length (factsOf (m .rowKinds) (m .rowValues)) ≡ s
+  pub row-kinds-are : m .rowKinds ≡ map kind (factsOf (m .rowKinds) (m .rowValues))
+  pub row-values-are : m .rowValues ≡ map value (factsOf (m .rowKinds) (m .rowValues))
+  pub list-zero : m .workList ≡ zeros (m .workList)
+  pub list-fits : n * (1 + 2 * s) ≤ length (m .workList)

@@ -2,13 +2,18 @@
 ghost use mathlib.Core.Path.{_≡_};
 ghost use mathlib.Core.Option.{some};
 ghost use lib.ListN.{length};
-ghost use Rattle.model.specs.Run.{run};
+ghost use Rattle.model.specs.Analyses.{propagate};
 ghost use Rattle.model.specs.Call.{zeros};
 ghost use Rattle.model.specs.Sheet.{codeCount};
-ghost use Rattle.model.specs.Tables.{factsOf};
+ghost use Rattle.model.specs.Tables.{factsOf, lengthTable};
+ghost use Rattle.budget.specs.Outcome.{leaves, leavesOf};
 ghost use Rattle.fixpoint_step.specs.Stepped.{SheetIndex, TrackedSlots};
-ghost use Rattle.fixpoint.specs.Turn.{ranAnalysis, firstOf, Turn, Ran, RunRequires};
-ghost use Rattle.fixpoint.specs.Result.{runResult, ranOf};
+ghost use Rattle.fixpoint.specs.Memory.{runMemory, lentRun, zeroRun};
+ghost use Rattle.fixpoint.specs.Turn.{firstOf, Turn, RunRequires};
+ghost use Rattle.fixpoint.specs.Result.{ran, ranTables};
+use crate::Ran;
+use crate::answer::ended;
+use crate::answer::refused;
 use crate::clearing::finish;
 use fixpoint_list::clear;
 use fixpoint_list::enter;
@@ -16,8 +21,8 @@ use fixpoint_list::take;
 use fixpoint_step::step;
 use fixpoint_visit::join_into;
 use model::AnalysisKind;
+use model::VerifierResources;
 use sheet::Sizes;
-use stage_outcome::Run;
 
 // "A step takes the entry added last and counts 1. A copy of that instruction's row goes through its transfer. Then each successor in
 // order", until "The empty list ends the run". The list's first entry is there already. What it leaves in the row scratch, and after a
@@ -31,7 +36,7 @@ fn run_list(
     slots: &[u16],
     length_kinds: &[u8],
     length_values: &[u16],
-    work: u64,
+    resources: VerifierResources,
     from: usize,
     present: &mut [u8],
     kinds: &mut [u8],
@@ -39,24 +44,32 @@ fn run_list(
     row_kinds: &mut [u8],
     row_values: &mut [u64],
     work_list: &mut [u16],
-) -> Run
+) -> Ran
     requires { ⌜ SheetIndex (now sheet) sizes (now firsts) (now classes) (now «length_kinds») (now «length_values») × TrackedSlots (now sheet) (now slots) ⌝ }
-    requires { ⌜ Turn which (now sheet) (now slots) (now «length_kinds») (now «length_values») (firstOf (now slots) (now kinds) (now values)) work (length (now «work_list»)) (now present) (now kinds) (now values) (now «row_kinds») (now «row_values») (now «work_list») from 0 work ⌝ }
-    ensures { λ r. ⌜ Ran (ranAnalysis which (now (sheet .entry)) (now (slots .entry)) (now («length_kinds» .entry)) (now («length_values» .entry)) (firstOf (now (slots .entry)) (now (kinds .entry)) (now (values .entry)))) work r (now (present .exit)) (now (kinds .exit)) (now (values .exit)) × (now («work_list» .exit) ≡ zeros (now («work_list» .entry))) ⌝ }
+    requires { ⌜ (
+        let m = runMemory (now present) (now kinds) (now values) (now «row_kinds») (now «row_values») (now «work_list») in
+        let first = firstOf (now slots) (now kinds) (now values) in
+        Turn which (now sheet) (now slots) (now «length_kinds») (now «length_values») first (resources .work) (length (now «work_list»)) m from 0 (resources .work)
+        ) ⌝ }
+    ensures { λ r. ⌜ (
+        let m = lentRun present kinds values «row_kinds» «row_values» «work_list» in
+        let first = firstOf (now (slots .entry)) (m .entry .kinds) (m .entry .values) in
+        let lengths = lengthTable (now («length_kinds» .entry)) (now («length_values» .entry)) in
+        (some (leaves (r .outcome) (ran (r .pops) (m .exit)))
+        ≡ leavesOf (ranTables (m .exit)) (ran 0 (m .exit)) (propagate which (now (sheet .entry)) (now (slots .entry)) lengths first resources))
+        × (m .exit .workList ≡ zeros (m .entry .workList))
+        ) ⌝ }
 {
     let cost = slots.len() as u64;
     let mut top = from;
     let mut pops: u64 = 0;
-    let mut rest = work;
+    let mut rest = resources.work;
     while 0 < top {
         let p = take(top, work_list);
         top -= 1;
         if rest < cost {
             clear(work_list);
-            return Run::Overdrawn {
-                requested: cost,
-                remaining: rest,
-            };
+            return refused(which, cost, resources, rest);
         }
         rest -= cost;
         pops += 1;
@@ -80,11 +93,11 @@ fn run_list(
         top = enter(0 < news.len, pcs[0], top, work_list);
         top = enter(1 < news.len, pcs[1], top, work_list);
     }
-    Run::Finished { pops, work: rest }
+    ended(pops, resources, rest)
 }
 
 // "instruction 0 starts with a row .., and the list holds 0 alone": instruction 0 gets the first row, which is lent as the row scratch. Then
-// the list is run to its end. Pops and work left are the defined run's; what is lent holds its tables, or zeros.
+// the list is run to its end. Pops and what is left are the defined run's; what is lent holds its tables, or zeros.
 pub fn run_to_fixpoint(
     which: AnalysisKind,
     sheet: &[u8],
@@ -94,17 +107,26 @@ pub fn run_to_fixpoint(
     slots: &[u16],
     length_kinds: &[u8],
     length_values: &[u16],
-    work: u64,
+    resources: VerifierResources,
     present: &mut [u8],
     kinds: &mut [u8],
     values: &mut [u64],
     row_kinds: &mut [u8],
     row_values: &mut [u64],
     work_list: &mut [u16],
-) -> Run
+) -> Ran
     requires { ⌜ SheetIndex (now sheet) sizes (now firsts) (now classes) (now «length_kinds») (now «length_values») × TrackedSlots (now sheet) (now slots) ⌝ }
-    requires { ⌜ RunRequires (codeCount (now sheet)) (length (now slots)) (now present) (now kinds) (now values) (now «row_kinds») (now «row_values») (now «work_list») ⌝ }
-    ensures { λ r. ⌜ (some (runResult r (now (present .exit)) (now (kinds .exit)) (now (values .exit)) (now («row_kinds» .exit)) (now («row_values» .exit))) ≡ ranOf (codeCount (now (sheet .entry))) (length (now (slots .entry))) (run (ranAnalysis which (now (sheet .entry)) (now (slots .entry)) (now («length_kinds» .entry)) (now («length_values» .entry)) (factsOf (now («row_kinds» .entry)) (now («row_values» .entry)))) work)) × (now («work_list» .exit) ≡ zeros (now («work_list» .entry))) ⌝ }
+    requires { ⌜ (
+        let m = runMemory (now present) (now kinds) (now values) (now «row_kinds») (now «row_values») (now «work_list») in
+        RunRequires (codeCount (now sheet)) (length (now slots)) m
+        ) ⌝ }
+    ensures { λ r. ⌜ (
+        let m = lentRun present kinds values «row_kinds» «row_values» «work_list» in
+        let first = factsOf (m .entry .rowKinds) (m .entry .rowValues) in
+        let lengths = lengthTable (now («length_kinds» .entry)) (now («length_values» .entry)) in
+        some (leaves (r .outcome) (ran (r .pops) (m .exit)))
+        ≡ leavesOf (ranTables (zeroRun (m .entry))) (ran 0 (zeroRun (m .entry))) (propagate which (now (sheet .entry)) (now (slots .entry)) lengths first resources)
+        ) ⌝ }
 {
     let news = join_into(
         which,
@@ -117,7 +139,7 @@ pub fn run_to_fixpoint(
         values,
     );
     let top = enter(news, 0, 0, work_list);
-    let ended = run_list(
+    let ran = run_list(
         which,
         sheet,
         sizes,
@@ -126,7 +148,7 @@ pub fn run_to_fixpoint(
         slots,
         length_kinds,
         length_values,
-        work,
+        resources,
         top,
         present,
         kinds,
@@ -135,5 +157,7 @@ pub fn run_to_fixpoint(
         row_values,
         work_list,
     );
-    finish(ended, present, kinds, values, row_kinds, row_values)
+    let outcome = ran.outcome;
+    finish(outcome, present, kinds, values, row_kinds, row_values);
+    ran
 }

@@ -4,46 +4,42 @@ use mathlib.Core.Path.{_≡_, refl, sym, ap, _∙_}
 use mathlib.Core.Bool.{Bool, true, false, not, _&&_}
 use mathlib.Core.Logic.{_⊎_, inl, inr}
 use mathlib.Core.List.{List, map}
-use mathlib.Core.Option.{Option, none, some}
+use mathlib.Core.Option.{Option, some}
 use Prim.Native.Nat.{ℕ, _*_, _≤_}
 use native.Mathlib.Omega.{arith}
 use lib.Dec.{eqb}
-use lib.ListN.{length, replicate, length-replicate}
+use lib.ListN.{length, replicate}
 use borrow.Author.Tests.{eqb-true}
 use Rattle.model.specs.Sheet.{codeCount}
-use Rattle.model.specs.Charges.{overBudget, noRoom, Spent, ok, stop, unfinished, continue}
+use Rattle.model.specs.Charges.{Spent, ok, continue}
 use Rattle.model.specs.Fact.{Fact, unknown, kind, value, Row}
-use Rattle.model.specs.Tables.{presentBytes, cells}
-use Rattle.model.specs.Analyses.{Analysed, unknownRow, propagate, stage}
-use Rattle.model.specs.Call.{table, scratch, roomFor, counts, tables, zeros, filled, zeroTable, filledTable}
-use Rattle.model.specs.declared.VerifierResources.{VerifierResources}
+use Rattle.model.specs.Analyses.{unknownRow, propagate}
+use Rattle.model.specs.Call.{Table, Scratch, table, scratch, counts, tables, zeros, filled, zeroTable, filledTable}
 use Rattle.model.specs.declared.AnalysisKind.{AnalysisKind}
 use Rattle.model.specs.declared.Counts.{Counts}
-use Rattle.model.specs.declared.Answer.{Answer}
-use Rattle.model.specs.declared.Answer.the-variants.{Analyzed, Invalid, OverBudget, NoRoom}
-use Rattle.finality.proofs.Lengths.{zeros-length, zeros-same}
+use Rattle.finality.proofs.Lengths.{zeros-length}
+use Rattle.budget.specs.Outcome.{Leaves, leaves, leavesOf}
+use Rattle.budget.specs.declared.Outcome.{Outcome}
+use Rattle.budget.proofs.Left.{Left, covered, stopped, left-by}
 use Rattle.fixpoint.proofs.Running.{no-cells, no-present}
-use Rattle.stage_room.specs.Room.{roomBy}
-use Rattle.stage_outcome.specs.Answer.{atOnce}
-use Rattle.stage_outcome.specs.Answers.{afterStage}
 use Rattle.stage_memory.specs.Stage.{zeroScratch}
 use Rattle.stage_memory.proofs.Paths.{table-path, scratch-path}
 use Rattle.stage_prepare.specs.declared.Prepared.{Prepared}
-use Rattle.stage_prepare.specs.Begin.{entering, Begun, begin, beginEnd, begunOf}
-use Rattle.stage_prepare.specs.Prepare.{something, idle, prepared, PrepareEnd, prepareEnd, prepareBy, prepareOf}
-use Rattle.stage_prepare.proofs.Stepwise.{goOn, stage-begins, enters-at-once, runs-at-once}
+use Rattle.stage_prepare.specs.Prepare.{something, PrepareEnd, prepared, preparedBy, unprepared}
+use Rattle.stage_prepare.proofs.Stepwise.{goOn, enters-at-once, runs-at-once}
 use Rattle.stage_prepare.proofs.Tracked.{room-parts, unknown-cells}
 use Rattle.stage_prepare.proofs.Zeros.{zero-filled, cleared-zero}
-use Rattle.stage.specs.Next.{ScratchZero, Next, next, nextBy, nextOf}
-use Rattle.stage.proofs.Begun.{Begins, begins}
+use Rattle.stage.specs.Staged.{ScratchZero, noCounts, StageLeft, staged, stagedBy}
+use Rattle.stage.proofs.Begun.{begunAfter, stageAfter, stage-after, PreparedTold, Ready, begun-ready}
 
-pub prepare-same : {a b : Prepared} {s t p q u v : List ℕ} → _≡_ {A = Option PrepareEnd} (some (prepareEnd a s p u)) (some (prepareEnd b t q v)) → (a ≡ b) × (s ≡ t) × (p ≡ q) × (u ≡ v)
-prepare-same {a} {b} {s} {t} {p} {q} {u} {v} e =
-    let h : prepareEnd a s p u ≡ prepareEnd b t q v = cc in
-    (ap (λ (x : PrepareEnd). x .answer) h, ap (λ (x : PrepareEnd). x .slots) h, ap (λ (x : PrepareEnd). x .rowKinds) h, ap (λ (x : PrepareEnd). x .rowValues) h)
+pub stage-path : {o o′ : Outcome} {c c′ : Counts} {t t′ : Table} {w w′ : Scratch} → o ≡ o′ → c ≡ c′ → t ≡ t′ → w ≡ w′
+    → _≡_ {A = Option (Leaves StageLeft)} (some (leaves o (staged c t w))) (some (leaves o′ (staged c′ t′ w′)))
+stage-path eo ec et ew = cc
 
-pub next-path : {a b : Answer} {t u : Rattle.model.specs.Call.Table} {v w : Rattle.model.specs.Call.Scratch} → a ≡ b → t ≡ u → v ≡ w → _≡_ {A = Option Next} (some (next a t v)) (some (next b u w))
-next-path p q r = cc
+-- what is filled counts only by its length
+pub filled-zeros : (new old : List ℕ) → filled new (zeros old) ≡ filled new old
+unfolding filled
+filled-zeros new old = rw (zeros-length old)
 
 -- n or s is zero
 nothing : (n s : ℕ) → something n s ≡ false → (n ≡ 0) ⊎ (s ≡ 0)
@@ -55,102 +51,60 @@ nothing n s e = go (eqb n 0) (eqb s 0) refl refl e
     go false true p q h = inr (eqb-true s 0 q)
     go false false p q h = let z : _≡_ {A = ℕ} 0 1 = cc in absurd (omega arith)
 
--- the first row of a stage with nothing to run
-unknown-entry : (which : AnalysisKind) (sheet : List ℕ) (enough : ℕ → Bool) (b : Begun) (left : VerifierResources) → Begins which sheet enough b left
-    → (codeCount sheet ≡ 0) ⊎ (length (b .slots) ≡ 0) → b .entry ≡ unknownRow (b .slots)
-unknown-entry which sheet enough b left g z = let e : _≡_ {A = Spent Row} (ok (unknownRow (b .slots)) (g .closed)) (ok (b .entry) left) = sym (enters-at-once which sheet (b .slots) (g .closed) z) ∙ g .entered in cc
-
-module _ (which : AnalysisKind) (sheet slots present kinds values marks stack rowKinds rowValues list : List ℕ) (lengthFact : ℕ → Fact)
-    (z : ScratchZero sheet marks stack rowKinds rowValues list) where
-  -- question 8, as `prepare` asks it
-  abbrev pub asked : ℕ → Bool
-  asked s = roomBy (codeCount sheet) s (length slots) (length present) (length kinds) (length values) (length rowKinds) (length rowValues) (length list)
-
-  abbrev room : ℕ → Bool
-  room = roomFor (codeCount sheet) (table slots present kinds values) rowKinds rowValues list
-
-  -- the stage is what was begun, and its run
-  pub stage-is : (budget : VerifierResources) → stage which sheet room lengthFact budget ≡ goOn which sheet lengthFact (begin which sheet asked budget)
-  unfolding roomFor roomBy
-  stage-is budget = stage-begins which sheet asked lengthFact budget
-
-  -- the scratch is zero already
-  scratch-zero : {marks′ stack′ rk rv : List ℕ} → marks′ ≡ zeros marks → stack′ ≡ zeros stack → rk ≡ zeros rowKinds → rv ≡ zeros rowValues
-      → scratch marks′ stack′ rk rv list ≡ zeroScratch (scratch marks stack rowKinds rowValues list)
+module _ (before : Outcome) (which : AnalysisKind) (sheet : List ℕ) (t : Table) (w : Scratch) (lengthFact : ℕ → Fact) (z : ScratchZero sheet w)
+    {r : Prepared} {slots′ rk rv : List ℕ} (told : PreparedTold before which sheet t w r slots′ rk rv) (idle : r .runs ≡ false)
+    {present′ kinds′ values′ marks′ stack′ : List ℕ} (no-present′ : present′ ≡ zeros (t .present)) (no-kinds′ : kinds′ ≡ zeros (t .kinds)) (no-values′ : values′ ≡ zeros (t .values))
+    (no-marks′ : marks′ ≡ zeros (w .marks)) (no-stack′ : stack′ ≡ zeros (w .stack)) where
+  -- the scratch is zero
+  scratch-zero : rk ≡ zeros (w .rowKinds) → rv ≡ zeros (w .rowValues) → scratch marks′ stack′ rk rv (w .workList) ≡ zeroScratch w
   unfolding zeroScratch
-  scratch-zero m s k v = scratch-path m s k v (z .no-list)
+  scratch-zero k v = scratch-path no-marks′ no-stack′ k v (z .no-list)
 
-  module _ {present′ kinds′ values′ marks′ stack′ : List ℕ} (no-present′ : present′ ≡ zeros present) (no-kinds′ : kinds′ ≡ zeros kinds) (no-values′ : values′ ≡ zeros values)
-      (no-marks′ : marks′ ≡ zeros marks) (no-stack′ : stack′ ≡ zeros stack) where
-    -- nothing runs with n or s zero
-    at-once : (constant index container : Counts) (left budget : VerifierResources) (b : Begun) → begin which sheet asked budget ≡ ok b left → (codeCount sheet ≡ 0) ⊎ (length (b .slots) ≡ 0)
-        → {slots′ rk rv : List ℕ} → slots′ ≡ filled (b .slots) (zeros slots) → rk ≡ filled (map kind (b .entry)) rowKinds → rv ≡ filled (map value (b .entry)) rowValues
-        → some (next (afterStage which (atOnce (length (b .slots)) left) constant index container) (table slots′ present′ kinds′ values′) (scratch marks′ stack′ rk rv list))
-        ≡ nextBy which constant index container (zeroTable (table slots present kinds values)) (scratch marks stack rowKinds rowValues list) (goOn which sheet lengthFact (ok b left))
-    unfolding nextBy continue atOnce counts tables filledTable zeroTable
-    at-once constant index container left budget b e none-here {slots′} {rk} {rv} s k v =
-        let g = begins which sheet asked budget b left e in
-        let entry = unknown-entry which sheet asked b left g none-here in
-        let fit = room-parts (codeCount sheet) (length (b .slots)) _ _ _ _ _ _ _ (g .room) in
-        let runs = ap (λ (x : Row). propagate which sheet (b .slots) lengthFact x left) entry ∙ runs-at-once which sheet (b .slots) left none-here lengthFact in
-        next-path refl
-        (table-path s (no-present′ ∙ zero-table present (codeCount sheet) (fit .3) (no-present (codeCount sheet))) (no-kinds′ ∙ zero-table kinds (codeCount sheet * length (b .slots)) (fit .4) (no-cells kind (length (b .slots)) (codeCount sheet)))
-        (no-values′ ∙ zero-table values (codeCount sheet * length (b .slots)) (fit .5) (no-cells value (length (b .slots)) (codeCount sheet))))
-        (scratch-zero no-marks′ no-stack′ (k ∙ row-zero kind (unknown-cells (length (b .slots)) .0) entry rowKinds (fit .1) (z .no-row-kinds)) (v ∙ row-zero value (unknown-cells (length (b .slots)) .1) entry rowValues (fit .2) (z .no-row-values)))
-        ∙ ap (nextBy which constant index container (zeroTable (table slots present kinds values)) (scratch marks stack rowKinds rowValues list)) (sym runs)
-      where
-        zero-table : (old : List ℕ) (m : ℕ) → m ≤ length old → {new : List ℕ} → new ≡ replicate m 0 → zeros old ≡ filled new (zeros old)
-        zero-table old m h {new} is = zero-filled m (zeros old) (rw (zeros-length old) h) (cleared-zero old refl) is
+  -- nothing runs with n or s zero
+  module _ (y : Ready before which sheet t w r slots′ rk rv) where
+    abbrev s : ℕ
+    s = length (y .b .slots)
 
-        row-zero : (f : Fact → ℕ) → map f (replicate (length (b .slots)) unknown) ≡ replicate (length (b .slots)) 0 → b .entry ≡ unknownRow (b .slots) → (old : List ℕ) → length (b .slots) ≤ length old → old ≡ zeros old
-            → filled (map f (b .entry)) old ≡ zeros old
-        row-zero f u is old h no-old = unfold unknownRow in (rw is (sym (zero-filled (length (b .slots)) old h no-old u) ∙ no-old))
+    none-here : (codeCount sheet ≡ 0) ⊎ (length (y .b .slots) ≡ 0)
+    none-here = nothing (codeCount sheet) s (sym (y .runs-is) ∙ idle)
 
-    -- the output is zero
-    zeroed : {slots′ : List ℕ} → slots′ ≡ zeros slots → table slots′ present′ kinds′ values′ ≡ zeroTable (table slots present kinds values)
-    unfolding zeroTable
-    zeroed s = table-path s no-present′ no-kinds′ no-values′
+    unknown-entry : y .b .entry ≡ unknownRow (y .b .slots)
+    unknown-entry =
+        let e : _≡_ {A = Spent Row} (ok (unknownRow (y .b .slots)) (y .begun .closed)) (ok (y .b .entry) (y .rest)) = sym (enters-at-once which sheet (y .b .slots) (y .begun .closed) none-here) ∙ y .begun .entered in cc
 
-    cleared : {slots′ : List ℕ} → slots′ ≡ zeros (zeros slots) → table slots′ present′ kinds′ values′ ≡ zeroTable (zeroTable (table slots present kinds values))
-    unfolding zeroTable
-    cleared s = table-path s (twice present no-present′) (twice kinds no-kinds′) (twice values no-values′)
-      where
-        twice : {new : List ℕ} (old : List ℕ) → new ≡ zeros old → new ≡ zeros (zeros old)
-        twice {new} old e = e ∙ cleared-zero old refl
+    zero-table : (old : List ℕ) (m : ℕ) → m ≤ length old → {new : List ℕ} → new ≡ replicate m 0 → zeros old ≡ filled new old
+    zero-table old m h {new} is = zero-filled m (zeros old) (rw (zeros-length old) h) (cleared-zero old refl) is ∙ filled-zeros new old
 
-    -- the scratch is as it was
-    kept : {rk rv : List ℕ} → rk ≡ rowKinds → rv ≡ rowValues → scratch marks′ stack′ rk rv list ≡ scratch marks stack rowKinds rowValues list
-    kept k v = scratch-path (no-marks′ ∙ sym (z .no-marks)) (no-stack′ ∙ sym (z .no-stack)) k v refl
+    row-zero : (f : Fact → ℕ) → map f (replicate (length (y .b .slots)) unknown) ≡ replicate (length (y .b .slots)) 0 → (old : List ℕ) → length (y .b .slots) ≤ length old → old ≡ zeros old
+        → filled (map f (y .b .entry)) old ≡ zeros old
+    unfolding unknownRow
+    row-zero f u old h no-old = rw unknown-entry (sym (zero-filled s old h no-old u) ∙ no-old)
 
-    answered : {r : Prepared} {before : Answer} → r ≡ idle before → r .answer ≡ before
-    unfolding idle
-    answered e = ap (λ (x : Prepared). x .answer) e
+    at-once : some (leaves (r .outcome) (staged (record { tracked = r .s; pops = 0 }) (table slots′ present′ kinds′ values′) (scratch marks′ stack′ rk rv (w .workList))))
+        ≡ leavesOf (stagedBy t w) (staged noCounts (zeroTable t) (zeroScratch w)) (propagate which sheet (y .b .slots) lengthFact (y .b .entry) (y .rest))
+    unfolding leavesOf stagedBy counts tables filledTable
+    at-once =
+        let fit = room-parts (codeCount sheet) s _ _ _ _ _ _ _ (y .begun .room) in
+        let runs = ap (λ (x : Row). propagate which sheet (y .b .slots) lengthFact x (y .rest)) unknown-entry ∙ runs-at-once which sheet (y .b .slots) (y .rest) none-here lengthFact in
+        stage-path (y .outcome-is) (ap (λ (k : ℕ). record { tracked = k; pops = 0 }) (y .s-is))
+        (table-path (y .slots-are) (no-present′ ∙ zero-table (t .present) (codeCount sheet) (fit .3) (no-present (codeCount sheet)))
+        (no-kinds′ ∙ zero-table (t .kinds) (codeCount sheet * s) (fit .4) (no-cells kind s (codeCount sheet))) (no-values′ ∙ zero-table (t .values) (codeCount sheet * s) (fit .5) (no-cells value s (codeCount sheet))))
+        (scratch-zero (y .row-kinds-are ∙ row-zero kind (unknown-cells s .0) (w .rowKinds) (fit .1) (z .no-row-kinds)) (y .row-values-are ∙ row-zero value (unknown-cells s .1) (w .rowValues) (fit .2) (z .no-row-values)))
+        ∙ ap (leavesOf (stagedBy t w) (staged noCounts (zeroTable t) (zeroScratch w))) (sym runs)
 
-    -- nor after a refusal
-    pub stopped : (constant index container : Counts) (left : VerifierResources) (spent : Spent Begun) {r : Prepared} {slots′ rk rv : List ℕ}
-        → ((b : Begun) (rest : VerifierResources) → spent ≡ ok b rest → begin which sheet asked left ≡ ok b rest)
-        → some (prepareEnd r slots′ rk rv) ≡ prepareBy which (codeCount sheet) constant index container (begunOf (zeros slots) rowKinds rowValues spent) → r .runs ≡ false
-        → some (next (r .answer) (table slots′ present′ kinds′ values′) (scratch marks′ stack′ rk rv list))
-        ≡ nextBy which constant index container (zeroTable (table slots present kinds values)) (scratch marks stack rowKinds rowValues list) (goOn which sheet lengthFact spent)
-    unfolding prepareBy begunOf prepared atOnce idle nextBy continue
-    stopped constant index container left (ok b rest) is e h =
-        let p = prepare-same e in
-        rw (p .0) (at-once constant index container rest left b (is b rest refl) (nothing (codeCount sheet) (length (b .slots)) (sym (ap (λ (x : Prepared). x .runs) (p .0)) ∙ h)) (p .1) (p .2) (p .3))
-    stopped constant index container left (stop (overBudget number requested remaining) rest) is e h =
-        let p = prepare-same e in
-        next-path (ap (λ (x : Prepared). x .answer) (p .0)) (cleared (p .1)) (scratch-zero no-marks′ no-stack′ (p .2) (p .3))
-    stopped constant index container left (stop noRoom rest) is e h =
-        let p = prepare-same e in
-        next-path (ap (λ (x : Prepared). x .answer) (p .0)) (cleared (p .1)) (scratch-zero no-marks′ no-stack′ (p .2) (p .3))
-    stopped constant index container left unfinished is e h = let y : _≡_ {A = ℕ} 0 1 = cc in absurd (omega arith)
-
-    -- the whole, by the answer so far
-    pub idles : (before : Answer) {r : Prepared} {slots′ rk rv : List ℕ}
-        → some (prepareEnd r slots′ rk rv) ≡ prepareOf before which (codeCount sheet) slots rowKinds rowValues (begin which sheet asked) → r .runs ≡ false
-        → some (next (r .answer) (table slots′ present′ kinds′ values′) (scratch marks′ stack′ rk rv list))
-        ≡ nextOf before which (zeroTable (table slots present kinds values)) (scratch marks stack rowKinds rowValues list) (stage which sheet room lengthFact)
-    unfolding prepareOf nextOf
-    idles (Analyzed constant index container left) e h = stopped constant index container left (begin which sheet asked left) (λ b rest x. x) e h ∙ ap (nextBy which constant index container (zeroTable (table slots present kinds values)) (scratch marks stack rowKinds rowValues list)) (sym (stage-is left))
-    idles (Invalid number left) e h = let p = prepare-same e in next-path (answered (p .0)) (zeroed (p .1)) (kept (p .2) (p .3))
-    idles (OverBudget number requested remaining left) e h = let p = prepare-same e in next-path (answered (p .0)) (zeroed (p .1)) (kept (p .2) (p .3))
-    idles (NoRoom left) e h = let p = prepare-same e in next-path (answered (p .0)) (zeroed (p .1)) (kept (p .2) (p .3))
+  -- nor after a refusal
+  pub idles : some (leaves (r .outcome) (staged (record { tracked = r .s; pops = 0 }) (table slots′ present′ kinds′ values′) (scratch marks′ stack′ rk rv (w .workList))))
+      ≡ leavesOf (stagedBy t w) (staged noCounts (zeroTable t) (zeroScratch w)) (stageAfter before which sheet t w lengthFact)
+  unfolding leavesOf continue zeroTable
+  idles =
+      go (left-by (preparedBy (codeCount sheet) (t .slots) (w .rowKinds) (w .rowValues)) (unprepared (t .slots) (w .rowKinds) (w .rowValues)) (begunAfter before which sheet t w) told)
+      ∙ ap (leavesOf (stagedBy t w) (staged noCounts (zeroTable t) (zeroScratch w))) (sym (stage-after before which sheet t w lengthFact))
+    where
+      go : Left (preparedBy (codeCount sheet) (t .slots) (w .rowKinds) (w .rowValues)) (unprepared (t .slots) (w .rowKinds) (w .rowValues)) (begunAfter before which sheet t w)
+          (r .outcome) (prepared (r .runs) (r .s) slots′ rk rv)
+          → some (leaves (r .outcome) (staged (record { tracked = r .s; pops = 0 }) (table slots′ present′ kinds′ values′) (scratch marks′ stack′ rk rv (w .workList))))
+          ≡ leavesOf (stagedBy t w) (staged noCounts (zeroTable t) (zeroScratch w)) (goOn which sheet lengthFact (begunAfter before which sheet t w))
+      go (covered b rest came o m) = let y = begun-ready before which sheet t w b rest came o m in rw (y .came) (at-once y)
+      go (stopped refusal rest came o m) =
+          rw came (stage-path o (ap (λ (x : PrepareEnd). record { tracked = x .s; pops = 0 }) m) (table-path (ap (λ (x : PrepareEnd). x .slots) m) no-present′ no-kinds′ no-values′)
+          (scratch-zero (ap (λ (x : PrepareEnd). x .rowKinds) m) (ap (λ (x : PrepareEnd). x .rowValues) m)))

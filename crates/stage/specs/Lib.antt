@@ -1,2 +1,2 @@
--- What an analysis asks, and what it leaves after an answer
-pub mod Next
+-- What an analysis asks, and what it leaves
+pub mod Staged

@@ -1,24 +1,36 @@
-// One analysis after an answer: prepared, run, concluded. One function for the three.
+// One analysis after an outcome: prepared, run, concluded. One function for the three.
 ghost use mathlib.Core.Path.{_≡_};
 ghost use mathlib.Core.Option.{some};
-ghost use Rattle.model.specs.Sheet.{codeCount};
 ghost use Rattle.model.specs.Analyses.{stage};
-ghost use Rattle.model.specs.Call.{table, scratch, roomFor, zeroTable};
+ghost use Rattle.model.specs.Call.{scratch, roomFor, zeroTable};
+ghost use Rattle.model.specs.Charges.{continue};
+ghost use Rattle.model.specs.Promise.{lentTable, lentScratch};
+ghost use Rattle.model.specs.Sheet.{codeCount};
 ghost use Rattle.model.specs.Tables.{lengthTable};
+ghost use Rattle.budget.specs.Outcome.{asSpent, leaves, leavesOf};
 ghost use Rattle.fixpoint_step.specs.Stepped.{SheetIndex};
-ghost use Rattle.stage.specs.Next.{ScratchZero, next, nextOf};
+ghost use Rattle.stage_memory.specs.Stage.{zeroScratch};
+ghost use Rattle.stage.specs.Staged.{ScratchZero, noCounts, staged, stagedBy};
+use budget::Outcome;
+use budget::left_of;
 use fixpoint::run_to_fixpoint;
 use model::AnalysisKind;
-use model::Answer;
+use model::Counts;
 use sheet::Sizes;
 use stage_memory::clear_rows;
 use stage_memory::conclude;
 use stage_prepare::Room;
 use stage_prepare::prepare;
 
-// The next analysis, in a scratch that is zero; its output is cleared, and stays so where the answer so far is a refusal.
+// The counts of an analysis, none after a refusal, and the outcome with its charges.
+pub struct Staged {
+    pub counts: Counts,
+    pub outcome: Outcome,
+}
+
+// The next analysis, in a scratch that is zero; its output is cleared, and stays so where the outcome so far is a refusal.
 pub fn analyze_stage(
-    before: Answer,
+    before: Outcome,
     which: AnalysisKind,
     sheet: &[u8],
     sizes: Sizes,
@@ -35,9 +47,20 @@ pub fn analyze_stage(
     row_kinds: &mut [u8],
     row_values: &mut [u64],
     work_list: &mut [u16],
-) -> Answer
-    requires { ⌜ SheetIndex (now sheet) sizes (now firsts) (now classes) (now «length_kinds») (now «length_values») × ScratchZero (now sheet) (now marks) (now stack) (now «row_kinds») (now «row_values») (now «work_list») ⌝ }
-    ensures { λ r. ⌜ some (next r (table (now (slots .exit)) (now (present .exit)) (now (kinds .exit)) (now (values .exit))) (scratch (now (marks .exit)) (now (stack .exit)) (now («row_kinds» .exit)) (now («row_values» .exit)) (now («work_list» .exit)))) ≡ nextOf before which (zeroTable (table (now (slots .entry)) (now (present .entry)) (now (kinds .entry)) (now (values .entry)))) (scratch (now (marks .entry)) (now (stack .entry)) (now («row_kinds» .entry)) (now («row_values» .entry)) (now («work_list» .entry))) (stage which (now (sheet .entry)) (roomFor (codeCount (now (sheet .entry))) (table (now (slots .entry)) (now (present .entry)) (now (kinds .entry)) (now (values .entry))) (now («row_kinds» .entry)) (now («row_values» .entry)) (now («work_list» .entry))) (lengthTable (now («length_kinds» .entry)) (now («length_values» .entry)))) ⌝ }
+) -> Staged
+    requires { ⌜ (
+        let w = scratch (now marks) (now stack) (now «row_kinds») (now «row_values») (now «work_list») in
+        SheetIndex (now sheet) sizes (now firsts) (now classes) (now «length_kinds») (now «length_values») × ScratchZero (now sheet) w
+        ) ⌝ }
+    ensures { λ r. ⌜ (
+        let t = lentTable slots present kinds values in
+        let w = lentScratch marks stack «row_kinds» «row_values» «work_list» in
+        let room = roomFor (codeCount (now (sheet .entry))) (t .entry) (w .entry .rowKinds) (w .entry .rowValues) (w .entry .workList) in
+        let lengths = lengthTable (now («length_kinds» .entry)) (now («length_values» .entry)) in
+        some (leaves (r .outcome) (staged (r .counts) (t .exit) (w .exit)))
+        ≡ leavesOf (stagedBy (t .entry) (w .entry)) (staged noCounts (zeroTable (t .entry)) (zeroScratch (w .entry)))
+        (continue (λ _. stage which (now (sheet .entry)) room lengths) (asSpent before))
+        ) ⌝ }
 {
     clear_rows(present, kinds, values);
     let room = Room {
@@ -58,14 +81,21 @@ pub fn analyze_stage(
         row_kinds,
         row_values,
     );
-    let answer = prepared.answer;
+    let s = prepared.s;
+    let begun = prepared.outcome;
     if !prepared.runs {
-        return answer;
+        let counts = Counts {
+            tracked: s as u64,
+            pops: 0,
+        };
+        return Staged {
+            counts,
+            outcome: begun,
+        };
     }
     let n = sizes.code_count;
-    let s = prepared.s;
     let cells = n * s;
-    let ended = run_to_fixpoint(
+    let ran = run_to_fixpoint(
         which,
         sheet,
         sizes,
@@ -74,7 +104,7 @@ pub fn analyze_stage(
         &slots[..s],
         length_kinds,
         length_values,
-        prepared.work,
+        left_of(begun),
         &mut present[..n],
         &mut kinds[..cells],
         &mut values[..cells],
@@ -82,5 +112,7 @@ pub fn analyze_stage(
         &mut row_values[..s],
         work_list,
     );
-    conclude(which, s, answer, ended, slots)
+    let outcome = ran.outcome;
+    let counts = conclude(s, ran.pops, outcome, slots);
+    Staged { counts, outcome }
 }

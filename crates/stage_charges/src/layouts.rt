@@ -2,9 +2,9 @@
 ghost use mathlib.Core.Path.{_≡_};
 ghost use Rattle.model.specs.Tables.{factIn};
 ghost use Rattle.model.specs.Parameters.{chargeLayout, chargeLayouts, chargeInstructionFacts};
-ghost use Rattle.budget.specs.Metering.{asSpent};
+ghost use Rattle.budget.specs.Outcome.{asSpent};
 ghost use Rattle.sheet.specs.Measured.{Measured};
-use budget::Metering;
+use budget::Outcome;
 use budget::charge_bytes;
 use budget::metered;
 use fact_row::instruction_fact;
@@ -15,17 +15,12 @@ use sheet_fields::instruction_at;
 use sheet_fields::layout_length_at;
 
 // "slot kind 1": a byte for each slot of the layout.
-fn charge_layout(
-    sheet: &[u8],
-    sizes: Sizes,
-    layout: usize,
-    resources: VerifierResources,
-) -> Metering
+fn charge_layout(sheet: &[u8], sizes: Sizes, layout: usize, resources: VerifierResources) -> Outcome
     requires { ⌜ Measured (now sheet) sizes ⌝ }
-    ensures { λ r. ⌜ asSpent 5 r ≡ chargeLayout (now (sheet .entry)) layout resources ⌝ }
+    ensures { λ r. ⌜ asSpent r ≡ chargeLayout (now (sheet .entry)) layout resources ⌝ }
 {
     let slots = layout_length_at(sheet, sizes, layout) as u64;
-    metered(resources, charge_bytes(resources, slots))
+    metered(5, resources, charge_bytes(resources, slots))
 }
 
 // A map charges its key layout, then its value layout; any other known fact its one.
@@ -34,12 +29,12 @@ pub fn charge_layouts(
     sizes: Sizes,
     cell: FactCell,
     resources: VerifierResources,
-) -> Metering
+) -> Outcome
     requires { ⌜ Measured (now sheet) sizes ⌝ }
-    ensures { λ r. ⌜ asSpent 5 r ≡ chargeLayouts (now (sheet .entry)) (factIn cell) resources ⌝ }
+    ensures { λ r. ⌜ asSpent r ≡ chargeLayouts (now (sheet .entry)) (factIn cell) resources ⌝ }
 {
     if cell.kind < 2 {
-        return Metering::Covered { left: resources };
+        return Outcome::Covered { left: resources };
     }
     let a = (cell.value / 65536) as usize;
     let b = (cell.value % 65536) as usize;
@@ -47,20 +42,16 @@ pub fn charge_layouts(
     if cell.kind != 2 {
         return first;
     }
-    let Metering::Covered { left } = first else {
+    let Outcome::Covered { left } = first else {
         return first;
     };
     charge_layout(sheet, sizes, b, left)
 }
 
 // The layout bytes of all notes' facts, in code order, also where the instruction is not reachable or its target not tracked.
-pub fn charge_instruction_facts(
-    sheet: &[u8],
-    sizes: Sizes,
-    resources: VerifierResources,
-) -> Metering
+pub fn charge_instruction_facts(sheet: &[u8], sizes: Sizes, resources: VerifierResources) -> Outcome
     requires { ⌜ Measured (now sheet) sizes ⌝ }
-    ensures { λ r. ⌜ asSpent 5 r ≡ chargeInstructionFacts (now (sheet .entry)) resources ⌝ }
+    ensures { λ r. ⌜ asSpent r ≡ chargeInstructionFacts (now (sheet .entry)) resources ⌝ }
 {
     let n = sizes.code_count;
     let mut left = resources;
@@ -68,11 +59,11 @@ pub fn charge_instruction_facts(
     while pc < n {
         let op = instruction_at(sheet, pc).op;
         let charged = charge_layouts(sheet, sizes, instruction_fact(sheet, sizes, pc, op), left);
-        let Metering::Covered { left: rest } = charged else {
+        let Outcome::Covered { left: rest } = charged else {
             return charged;
         };
         left = rest;
         pc += 1;
     }
-    Metering::Covered { left }
+    Outcome::Covered { left }
 }

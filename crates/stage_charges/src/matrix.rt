@@ -4,10 +4,11 @@ ghost use Prim.Native.Nat.{_*_, _≤_};
 ghost use Rattle.model.specs.Charges.{spendBytes};
 ghost use Rattle.model.specs.Closure.{stageNumber};
 ghost use Rattle.model.specs.Analyses.{factBytes};
-ghost use Rattle.budget.specs.Metering.{asSpent};
-use budget::Metering;
+ghost use Rattle.budget.specs.Outcome.{asSpent};
+use budget::Outcome;
 use budget::charge_bytes;
 use budget::metered;
+use budget::stage_number;
 use model::AnalysisKind;
 use model::VerifierResources;
 
@@ -28,10 +29,14 @@ pub fn charge_matrix(
     n: usize,
     s: usize,
     resources: VerifierResources,
-) -> Metering
+) -> Outcome
     requires { ⌜ (n ≤ 4096) × (s ≤ 65535) ⌝ }
-    ensures { λ r. ⌜ asSpent (stageNumber which) r ≡ spendBytes (stageNumber which) (n * s * factBytes which) resources ⌝ }
+    ensures { λ r. ⌜ asSpent r ≡ spendBytes (stageNumber which) (n * s * factBytes which) resources ⌝ }
 {
     let amount = n as u64 * s as u64 * fact_bytes(which);
-    metered(resources, charge_bytes(resources, amount))
+    metered(
+        stage_number(which),
+        resources,
+        charge_bytes(resources, amount),
+    )
 }

@@ -1,28 +1,41 @@
 -- The first row of each analysis: the parameters' facts and charges, then the notes' charges.
 -- Assumes nothing.
-use mathlib.Core.Path.{_≡_, _∙_}
+use mathlib.Core.Path.{_≡_, refl}
 use mathlib.Core.Bool.{false}
 use mathlib.Core.List.{List}
+use mathlib.Core.Option.{Option, none, some}
 use Prim.Native.Nat.{ℕ, _<_}
 use native.Mathlib.Omega.{arith}
-use lib.ListN.{length, replicate}
+use lib.ListN.{length}
 use borrow.Author.Tests.{ne-eqb}
-use Rattle.model.specs.Charges.{overBudget, Spent, give, continue, _>>=_}
-use Rattle.model.specs.Closure.{stageNumber}
+use Rattle.model.specs.Charges.{Spent, give, continue, _>>=_, _>>_}
 use Rattle.model.specs.Fact.{Row}
-use Rattle.model.specs.Sheet.{codeCount}
-use Rattle.model.specs.Parameters.{paramStart, paramRow, chargeInstructionFacts}
+use Rattle.model.specs.Sheet.{codeCount, paramCount}
+use Rattle.model.specs.Parameters.{paramStart, seedParams, paramRow, chargeInstructionFacts}
 use Rattle.model.specs.Analyses.{unknownRow, containerRow, firstRow}
 use Rattle.model.specs.declared.AnalysisKind.{AnalysisKind}
 use Rattle.model.specs.declared.AnalysisKind.the-variants.{Constant, IndexCheck, Container}
 use Rattle.model.specs.declared.VerifierResources.{VerifierResources}
-use Rattle.budget.specs.Metering.{asSpent}
-use Rattle.budget.specs.declared.Metering.{Metering}
-use Rattle.budget.specs.declared.Metering.the-variants.{Covered, Refused}
-use Rattle.budget.proofs.Spending.{covered, refused, then-covered, then-refused}
-use Rattle.stage_entry.specs.First.{Blank, first, firstOf}
-use Rattle.stage_entry.proofs.Made.{blank-lies, made, unmade}
-use Rattle.stage_entry.proofs.Begun.{row-made, row-refused}
+use Rattle.budget.specs.Outcome.{asSpent, leaves, leavesOf}
+use Rattle.budget.specs.declared.Outcome.{Outcome}
+use Rattle.budget.specs.declared.Outcome.the-variants.{Covered}
+use Rattle.budget.proofs.Left.{NotCovered, covered-leaves, stopped-then, stopped-leaves, spent-stopped, left-covered, left-stopped}
+use Rattle.budget.proofs.Spending.{covered, then-covered}
+use Rattle.fact_row.specs.Rows.{Lies}
+use Rattle.stage_entry.specs.First.{Blank, RowMemory, rowMemory, rowLaid, rowBlank}
+use Rattle.stage_entry.proofs.Made.{blank-lies, laid}
+
+-- ---- parameters
+
+module _ (sheet slots : List ℕ) (budget : VerifierResources) (row : Row) {o : Option ℕ} (is : o ≡ paramStart sheet) where
+  pub param-none : o ≡ none → {kinds values : List ℕ} → Lies row kinds values
+      → some (leaves (Covered budget) (rowMemory kinds values)) ≡ leavesOf rowLaid (rowBlank (length slots)) (paramRow sheet slots (paramStart sheet) row budget)
+  unfolding paramRow give
+  param-none e l = rw (← is, e) (covered-leaves _ _ refl refl (laid l))
+
+  pub param-some : {start : ℕ} → o ≡ some start → seedParams sheet slots start (paramCount sheet) row budget ≡ paramRow sheet slots (paramStart sheet) row budget
+  unfolding paramRow
+  param-some e = rw (← is, e)
 
 -- ---- containers
 
@@ -31,43 +44,46 @@ module _ (sheet slots : List ℕ) (budget : VerifierResources) where
   abbrev params : Spent Row
   params = paramRow sheet slots (paramStart sheet) (unknownRow slots) budget
 
-  module _ (seeded : Metering) {kinds values : List ℕ} (came : first (asSpent 5 seeded) kinds values ≡ firstOf (length slots) params) where
-    -- a parameter's charge is refused
-    pub params-refused : {requested remaining : ℕ} {left : VerifierResources} → seeded ≡ Refused requested remaining left
-        → first (asSpent 5 seeded) kinds values ≡ firstOf (length slots) (containerRow false sheet slots budget)
-    unfolding containerRow _>>=_ continue
-    params-refused e = let u = row-refused 5 (length slots) seeded params came e in came ∙ rw (u .0)
+  -- a container row, as the code leaves it
+  abbrev Entered : Outcome → RowMemory → Type 0
+  Entered outcome memory = some (leaves outcome memory) ≡ leavesOf rowLaid (rowBlank (length slots)) (containerRow false sheet slots budget)
 
-    module _ {left : VerifierResources} (e : seeded ≡ Covered left) (charged : Metering) (notes : asSpent 5 charged ≡ chargeInstructionFacts sheet left) where
+  module _ (seeded : Outcome) {memory : RowMemory} (came : some (leaves seeded memory) ≡ leavesOf rowLaid (rowBlank (length slots)) params) where
+    -- a parameter's charge is refused
+    pub params-refused : NotCovered seeded → Entered seeded memory
+    unfolding containerRow _>>=_
+    params-refused h = let u = left-stopped _ _ _ came h in stopped-leaves (stopped-then (u .0) _) _ (u .1)
+
+    module _ {left : VerifierResources} (e : seeded ≡ Covered left) (charged : Outcome) (notes : asSpent charged ≡ chargeInstructionFacts sheet left) where
       -- a note's charge is refused
-      pub notes-refused : {requested remaining : ℕ} {rest : VerifierResources} {k v : List ℕ} → charged ≡ Refused requested remaining rest → k ≡ replicate (length slots) 0 → v ≡ replicate (length slots) 0
-          → first (asSpent 5 charged) k v ≡ firstOf (length slots) (containerRow false sheet slots budget)
-      unfolding containerRow _>>=_ continue
-      notes-refused {requested} {remaining} {rest} f p q =
-          let r = row-made 5 (length slots) seeded params came e in
-          rw (r .1, notes, then-refused (chargeInstructionFacts sheet) (give (r .0)) left (refused 5 notes f), refused 5 notes f)
-          (unmade (length slots) (overBudget 5 requested remaining) rest p q)
+      pub notes-refused : {cleared : RowMemory} → NotCovered charged → cleared ≡ rowBlank (length slots) → Entered charged cleared
+      unfolding containerRow _>>=_ _>>_ continue
+      notes-refused h z =
+          let r = left-covered _ _ _ came e in
+          rw (r .1) (stopped-leaves (stopped-then (spent-stopped charged notes h) (λ _. give (r .0))) _ z)
 
       -- all is covered
-      pub notes-covered : {rest : VerifierResources} → charged ≡ Covered rest → first (asSpent 5 charged) kinds values ≡ firstOf (length slots) (containerRow false sheet slots budget)
+      pub notes-covered : {rest : VerifierResources} → charged ≡ Covered rest → Entered charged memory
       unfolding containerRow _>>=_ continue give
-      notes-covered {rest} f =
-          let r = row-made 5 (length slots) seeded params came e in
-          rw (r .1, notes, then-covered (chargeInstructionFacts sheet) (give (r .0)) left (covered 5 notes f), covered 5 notes f)
-          (made (length slots) rest (r .2))
+      notes-covered f =
+          let r = left-covered _ _ _ came e in
+          rw (r .1) (covered-leaves _ _ (then-covered (chargeInstructionFacts sheet) (give (r .0)) left (covered notes f)) f (r .2))
 
 -- ---- the three
 
-module _ (which : AnalysisKind) (sheet slots : List ℕ) (budget : VerifierResources) {kinds values : List ℕ} where
-  pub constant-row : which ≡ Constant → Blank slots kinds values → first (asSpent (stageNumber which) (Covered budget)) kinds values ≡ firstOf (length slots) (firstRow which sheet slots budget)
-  unfolding asSpent firstRow give
-  constant-row e b = rw e (made (length slots) budget (blank-lies b))
+module _ (which : AnalysisKind) (sheet slots : List ℕ) (budget : VerifierResources) where
+  -- the first row of an analysis, as the code leaves it
+  abbrev First : Outcome → RowMemory → Type 0
+  First outcome memory = some (leaves outcome memory) ≡ leavesOf rowLaid (rowBlank (length slots)) (firstRow which sheet slots budget)
 
-  pub index-row : which ≡ IndexCheck → Blank slots kinds values → first (asSpent (stageNumber which) (Covered budget)) kinds values ≡ firstOf (length slots) (firstRow which sheet slots budget)
-  unfolding asSpent firstRow give
-  index-row e b = rw e (made (length slots) budget (blank-lies b))
+  pub constant-row : {kinds values : List ℕ} → which ≡ Constant → Blank slots kinds values → First (Covered budget) (rowMemory kinds values)
+  unfolding firstRow give
+  constant-row e b = rw e (covered-leaves _ _ refl refl (laid (blank-lies b)))
 
-  pub container-row : which ≡ Container → 0 < codeCount sheet → 0 < length slots → (answer : Metering) → first (asSpent 5 answer) kinds values ≡ firstOf (length slots) (containerRow false sheet slots budget)
-      → first (asSpent (stageNumber which) answer) kinds values ≡ firstOf (length slots) (firstRow which sheet slots budget)
-  unfolding firstRow stageNumber
-  container-row e n s answer came = rw (e, ne-eqb (codeCount sheet) 0 (λ z. omega arith), ne-eqb (length slots) 0 (λ z. omega arith)) came
+  pub index-row : {kinds values : List ℕ} → which ≡ IndexCheck → Blank slots kinds values → First (Covered budget) (rowMemory kinds values)
+  unfolding firstRow give
+  index-row e b = rw e (covered-leaves _ _ refl refl (laid (blank-lies b)))
+
+  pub container-row : {outcome : Outcome} {memory : RowMemory} → which ≡ Container → 0 < codeCount sheet → 0 < length slots → Entered sheet slots budget outcome memory → First outcome memory
+  unfolding firstRow
+  container-row e n s came = rw (e, ne-eqb (codeCount sheet) 0 (λ z. omega arith), ne-eqb (length slots) 0 (λ z. omega arith)) came

@@ -1,8 +1,6 @@
--- The laws of this crate. For other crates to cite: Made and Begun, what the answer of a first row says.
+-- The laws of this crate.
 pub mod Brought
 pub mod Starts
 pub mod Made
 pub mod Seeded
-pub mod Begun
--- The laws of this crate.
 pub mod Entered

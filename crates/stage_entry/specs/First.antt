@@ -1,11 +1,10 @@
--- A row in memory, and the first row of a run with what it cost.
+-- A row in memory.
 -- Assumes nothing.
 use mathlib.Core.Path.{_≡_}
 use mathlib.Core.Bool.{true}
 use mathlib.Core.List.{List, map}
 use Prim.Native.Nat.{ℕ}
 use lib.ListN.{length, replicate}
-use Rattle.model.specs.Charges.{Spent, ok, stop, unfinished}
 use Rattle.model.specs.Fact.{kind, value, Row}
 use Rattle.model.specs.Lookup.{ascends}
 
@@ -15,18 +14,19 @@ pub record Blank (slots kinds values : List ℕ) : Type 0 where
   pub kinds-zero : kinds ≡ replicate (length slots) 0
   pub values-zero : values ≡ replicate (length slots) 0
 
--- What the making of a first row comes to, and the kinds and values that it leaves.
-pub record First : Type 0 where
-  pub answer : Spent (Unit {0})
+-- A row in memory: its kinds and its values.
+pub record RowMemory : Type 0 where
   pub kinds : List ℕ
   pub values : List ℕ
 
--- from the answer and the two slices
-abbrev pub first : Spent (Unit {0}) → List ℕ → List ℕ → First
-first answer kinds values = record { answer = answer; kinds = kinds; values = values }
+-- from the two slices
+abbrev pub rowMemory : List ℕ → List ℕ → RowMemory
+rowMemory kinds values = record { kinds = kinds; values = values }
 
--- The row that was made lies in the slices; a refusal leaves s zeros in each.
-unfoldable pub firstOf : ℕ → Spent Row → First
-firstOf s (ok row left) = first (ok tt left) (map kind row) (map value row)
-firstOf s (stop refusal left) = first (stop refusal left) (replicate s 0) (replicate s 0)
-firstOf s unfinished = first unfinished (replicate s 0) (replicate s 0)
+-- the memory in which a row lies
+abbrev pub rowLaid : Row → RowMemory
+rowLaid row = rowMemory (map kind row) (map value row)
+
+-- s zeros in each: what a refusal leaves
+abbrev pub rowBlank : ℕ → RowMemory
+rowBlank s = rowMemory (replicate s 0) (replicate s 0)

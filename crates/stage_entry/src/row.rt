@@ -1,15 +1,15 @@
 // The first row of a run.
 ghost use mathlib.Core.Path.{_≡_};
 ghost use mathlib.Core.Bool.{false};
+ghost use mathlib.Core.Option.{some};
 ghost use Prim.Native.Nat.{_<_};
 ghost use lib.ListN.{length};
-ghost use Rattle.model.specs.Closure.{stageNumber};
 ghost use Rattle.model.specs.Analyses.{containerRow, firstRow};
-ghost use Rattle.budget.specs.Metering.{asSpent};
+ghost use Rattle.budget.specs.Outcome.{leaves, leavesOf};
 ghost use Rattle.sheet.specs.Measured.{Measured};
-ghost use Rattle.stage_entry.specs.First.{Blank, first, firstOf};
+ghost use Rattle.stage_entry.specs.First.{Blank, rowMemory, rowLaid, rowBlank};
 use crate::seeds::param_row;
-use budget::Metering;
+use budget::Outcome;
 use memory::clear_u8;
 use memory::clear_u64;
 use model::AnalysisKind;
@@ -25,16 +25,19 @@ fn container_row(
     resources: VerifierResources,
     row_kinds: &mut [u8],
     row_values: &mut [u64],
-) -> Metering
+) -> Outcome
     requires { ⌜ Measured (now sheet) sizes × Blank (now slots) (now «row_kinds») (now «row_values») ⌝ }
-    ensures { λ r. ⌜ first (asSpent 5 r) (now («row_kinds» .exit)) (now («row_values» .exit)) ≡ firstOf (length (now (slots .entry))) (containerRow false (now (sheet .entry)) (now (slots .entry)) resources) ⌝ }
+    ensures { λ r. ⌜ (
+        some (leaves r (rowMemory (now («row_kinds» .exit)) (now («row_values» .exit))))
+        ≡ leavesOf rowLaid (rowBlank (length (now (slots .entry)))) (containerRow false (now (sheet .entry)) (now (slots .entry)) resources)
+        ) ⌝ }
 {
     let seeded = param_row(sheet, sizes, slots, resources, row_kinds, row_values);
-    let Metering::Covered { left } = seeded else {
+    let Outcome::Covered { left } = seeded else {
         return seeded;
     };
     let charged = charge_instruction_facts(sheet, sizes, left);
-    let Metering::Covered { left: _ } = charged else {
+    let Outcome::Covered { left: _ } = charged else {
         clear_u8(row_kinds);
         clear_u64(row_values);
         return charged;
@@ -51,13 +54,16 @@ pub fn first_row(
     resources: VerifierResources,
     row_kinds: &mut [u8],
     row_values: &mut [u64],
-) -> Metering
+) -> Outcome
     requires { ⌜ Measured (now sheet) sizes × Blank (now slots) (now «row_kinds») (now «row_values») × (0 < sizes .«code_count») × (0 < length (now slots)) ⌝ }
-    ensures { λ r. ⌜ first (asSpent (stageNumber which) r) (now («row_kinds» .exit)) (now («row_values» .exit)) ≡ firstOf (length (now (slots .entry))) (firstRow which (now (sheet .entry)) (now (slots .entry)) resources) ⌝ }
+    ensures { λ r. ⌜ (
+        some (leaves r (rowMemory (now («row_kinds» .exit)) (now («row_values» .exit))))
+        ≡ leavesOf rowLaid (rowBlank (length (now (slots .entry)))) (firstRow which (now (sheet .entry)) (now (slots .entry)) resources)
+        ) ⌝ }
 {
     match which {
-        AnalysisKind::Constant => Metering::Covered { left: resources },
-        AnalysisKind::IndexCheck => Metering::Covered { left: resources },
+        AnalysisKind::Constant => Outcome::Covered { left: resources },
+        AnalysisKind::IndexCheck => Outcome::Covered { left: resources },
         AnalysisKind::Container => {
             container_row(sheet, sizes, slots, resources, row_kinds, row_values)
         }

@@ -8,14 +8,14 @@ ghost use Rattle.model.specs.Sheet.{paramCount};
 ghost use Rattle.model.specs.Tables.{cellOf};
 ghost use Rattle.model.specs.Parameters.{paramStart, paramFact, seedParam, seedParams, paramRow};
 ghost use Rattle.model.specs.Analyses.{unknownRow};
-ghost use Rattle.budget.specs.Metering.{asSpent};
+ghost use Rattle.budget.specs.Outcome.{leaves, leavesOf};
 ghost use Rattle.sheet.specs.Measured.{Measured};
 ghost use Rattle.fact_row.specs.Rows.{Lies, WritableRow};
-ghost use Rattle.stage_entry.specs.First.{Blank, first, firstOf};
+ghost use Rattle.stage_entry.specs.First.{Blank, rowMemory, rowLaid, rowBlank};
 use crate::params::ParamStart;
 use crate::params::param_fact;
 use crate::params::param_start;
-use budget::Metering;
+use budget::Outcome;
 use fact_row::set_fact;
 use fact_row::wide;
 use memory::clear_u8;
@@ -36,12 +36,17 @@ fn seed_fact(
     resources: VerifierResources,
     row_kinds: &mut [u8],
     row_values: &mut [u64],
-) -> Metering
+) -> Outcome
     requires { ⌜ Measured (now sheet) sizes × WritableRow (now slots) (now «row_kinds») (now «row_values») ⌝ }
-    ensures { λ r. ⌜ ((row : Row) (fact : Fact) → Lies row (now («row_kinds» .entry)) (now («row_values» .entry)) → cell ≡ cellOf fact → first (asSpent 5 r) (now («row_kinds» .exit)) (now («row_values» .exit)) ≡ firstOf (length (now (slots .entry))) (seedParam (now (sheet .entry)) (now (slots .entry)) slot (some fact) row resources)) ⌝ }
+    ensures { λ r. ⌜ (
+        (row : Row) (fact : Fact) → Lies row (now («row_kinds» .entry)) (now («row_values» .entry)) → cell ≡ cellOf fact
+        → some (leaves r (rowMemory (now («row_kinds» .exit)) (now («row_values» .exit))))
+        ≡ leavesOf rowLaid (rowBlank (length (now (slots .entry))))
+        (seedParam (now (sheet .entry)) (now (slots .entry)) slot (some fact) row resources)
+        ) ⌝ }
 {
     let charged = charge_layouts(sheet, sizes, cell, resources);
-    let Metering::Covered { left: _ } = charged else {
+    let Outcome::Covered { left: _ } = charged else {
         clear_u8(row_kinds);
         clear_u64(row_values);
         return charged;
@@ -60,13 +65,18 @@ fn seed_param(
     resources: VerifierResources,
     row_kinds: &mut [u8],
     row_values: &mut [u64],
-) -> Metering
+) -> Outcome
     requires { ⌜ Measured (now sheet) sizes × (i < sizes .«param_count») × WritableRow (now slots) (now «row_kinds») (now «row_values») ⌝ }
-    ensures { λ r. ⌜ ((row : Row) → Lies row (now («row_kinds» .entry)) (now («row_values» .entry)) → first (asSpent 5 r) (now («row_kinds» .exit)) (now («row_values» .exit)) ≡ firstOf (length (now (slots .entry))) (seedParam (now (sheet .entry)) (now (slots .entry)) slot (paramFact (now (sheet .entry)) i) row resources)) ⌝ }
+    ensures { λ r. ⌜ (
+        (row : Row) → Lies row (now («row_kinds» .entry)) (now («row_values» .entry))
+        → some (leaves r (rowMemory (now («row_kinds» .exit)) (now («row_values» .exit))))
+        ≡ leavesOf rowLaid (rowBlank (length (now (slots .entry))))
+        (seedParam (now (sheet .entry)) (now (slots .entry)) slot (paramFact (now (sheet .entry)) i) row resources)
+        ) ⌝ }
 {
     let cell = param_fact(sheet, sizes, i);
     if cell.kind == 0 {
-        return Metering::Covered { left: resources };
+        return Outcome::Covered { left: resources };
     }
     seed_fact(
         sheet,
@@ -89,9 +99,14 @@ fn seed_params(
     resources: VerifierResources,
     row_kinds: &mut [u8],
     row_values: &mut [u64],
-) -> Metering
+) -> Outcome
     requires { ⌜ Measured (now sheet) sizes × WritableRow (now slots) (now «row_kinds») (now «row_values») ⌝ }
-    ensures { λ r. ⌜ ((row : Row) → Lies row (now («row_kinds» .entry)) (now («row_values» .entry)) → first (asSpent 5 r) (now («row_kinds» .exit)) (now («row_values» .exit)) ≡ firstOf (length (now (slots .entry))) (seedParams (now (sheet .entry)) (now (slots .entry)) start (paramCount (now (sheet .entry))) row resources)) ⌝ }
+    ensures { λ r. ⌜ (
+        (row : Row) → Lies row (now («row_kinds» .entry)) (now («row_values» .entry))
+        → some (leaves r (rowMemory (now («row_kinds» .exit)) (now («row_values» .exit))))
+        ≡ leavesOf rowLaid (rowBlank (length (now (slots .entry))))
+        (seedParams (now (sheet .entry)) (now (slots .entry)) start (paramCount (now (sheet .entry))) row resources)
+        ) ⌝ }
 {
     let count = sizes.param_count;
     let begin = wide(start);
@@ -101,14 +116,14 @@ fn seed_params(
     while i < count {
         let slot = begin + passed;
         let seeded = seed_param(sheet, sizes, slots, slot, i, left, row_kinds, row_values);
-        let Metering::Covered { left: rest } = seeded else {
+        let Outcome::Covered { left: rest } = seeded else {
             return seeded;
         };
         left = rest;
         passed += wide(param_width_at(sheet, sizes, i));
         i += 1;
     }
-    Metering::Covered { left }
+    Outcome::Covered { left }
 }
 
 // "for containers with the Parameters facts in it": a row that is zero, with these facts in it if there is a start.
@@ -119,12 +134,16 @@ pub fn param_row(
     resources: VerifierResources,
     row_kinds: &mut [u8],
     row_values: &mut [u64],
-) -> Metering
+) -> Outcome
     requires { ⌜ Measured (now sheet) sizes × Blank (now slots) (now «row_kinds») (now «row_values») ⌝ }
-    ensures { λ r. ⌜ first (asSpent 5 r) (now («row_kinds» .exit)) (now («row_values» .exit)) ≡ firstOf (length (now (slots .entry))) (paramRow (now (sheet .entry)) (now (slots .entry)) (paramStart (now (sheet .entry))) (unknownRow (now (slots .entry))) resources) ⌝ }
+    ensures { λ r. ⌜ (
+        some (leaves r (rowMemory (now («row_kinds» .exit)) (now («row_values» .exit))))
+        ≡ leavesOf rowLaid (rowBlank (length (now (slots .entry))))
+        (paramRow (now (sheet .entry)) (now (slots .entry)) (paramStart (now (sheet .entry))) (unknownRow (now (slots .entry))) resources)
+        ) ⌝ }
 {
     let ParamStart::At(start) = param_start(sheet, sizes) else {
-        return Metering::Covered { left: resources };
+        return Outcome::Covered { left: resources };
     };
     seed_params(sheet, sizes, slots, start, resources, row_kinds, row_values)
 }

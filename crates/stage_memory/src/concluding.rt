@@ -1,27 +1,28 @@
-// The end of a stage: its answer, and its slots.
+// The end of a stage: its counts, and its slots.
+ghost use mathlib.Core.Bool.{cond};
 ghost use mathlib.Core.Path.{_≡_};
-ghost use Rattle.stage_outcome.specs.Answers.{afterRun, refusing};
-ghost use Rattle.stage_memory.specs.Stage.{slotsIf};
+ghost use Rattle.model.specs.Call.{zeros};
+ghost use Rattle.budget.specs.Outcome.{refusing};
+ghost use Rattle.stage_memory.specs.Stage.{countsIf};
+use budget::Outcome;
+use budget::refuses;
 use memory::clear_u16;
-use model::AnalysisKind;
-use model::Answer;
-use stage_outcome::Run;
-use stage_outcome::after_run;
-use stage_outcome::refuses;
+use model::Counts;
 
-// The answer of s tracked slots with how their run ended. "After 7 and 8 all lent output .. is zero": the slots, since the run has cleared the rest.
-pub fn conclude(
-    which: AnalysisKind,
-    s: usize,
-    answer: Answer,
-    ended: Run,
-    slots: &mut [u16],
-) -> Answer
-    ensures { λ r. ⌜ (r ≡ afterRun which s answer ended) × (now (slots .exit) ≡ slotsIf (refusing (afterRun which s answer ended)) (now (slots .entry))) ⌝ }
+// "answers s and the pop count of each analysis": of s tracked slots, by the outcome of their run. "After 7 and 8 all lent output .. is zero":
+// the slots, since the run has cleared the rest.
+pub fn conclude(s: usize, pops: u64, outcome: Outcome, slots: &mut [u16]) -> Counts
+    ensures { λ r. ⌜ (r ≡ countsIf (refusing outcome) s pops) × (now (slots .exit) ≡ cond (refusing outcome) (zeros (now (slots .entry))) (now (slots .entry))) ⌝ }
 {
-    let concluded = after_run(which, s, answer, ended);
-    if refuses(concluded) {
+    if refuses(outcome) {
         clear_u16(slots);
+        return Counts {
+            tracked: 0,
+            pops: 0,
+        };
     }
-    concluded
+    Counts {
+        tracked: s as u64,
+        pops,
+    }
 }

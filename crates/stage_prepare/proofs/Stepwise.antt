@@ -12,7 +12,7 @@ use lib.Dec.{eqb}
 use lib.ListN.{length, replicate}
 use borrow.Author.Tests.{le-leb}
 use Rattle.model.specs.Sheet.{codeCount}
-use Rattle.model.specs.Charges.{Refusal, noRoom, Spent, ok, stop, unfinished, give, continue, _>>=_, _>>_, inStage, bytesCharged, chargeBytes, spendBytes}
+use Rattle.model.specs.Charges.{noRoom, Spent, ok, stop, unfinished, give, continue, _>>=_, _>>_, inStage, bytesCharged, chargeBytes, spendBytes}
 use Rattle.model.specs.Closure.{trackedSlots}
 use Rattle.model.specs.Fact.{Fact, Row}
 use Rattle.model.specs.Run.{RunEnd}
@@ -62,10 +62,6 @@ module _ (which : AnalysisKind) (sheet : List ℕ) (enough : ℕ → Bool) (leng
       closed unfinished = refl
 
 module _ (which : AnalysisKind) (sheet : List ℕ) (enough : ℕ → Bool) (budget : VerifierResources) where
-  pub closure-refused : (refusal : Refusal) (left : VerifierResources) → trackedSlots which sheet budget ≡ stop refusal left → begin which sheet enough budget ≡ stop refusal left
-  unfolding begin _>>=_ continue
-  closure-refused refusal left e = rw e
-
   pub closure-tracked : (slots : List ℕ) (left : VerifierResources) → trackedSlots which sheet budget ≡ ok slots left
       → begin which sheet enough budget ≡ continue (λ entry. give (record { slots = slots; entry = entry })) (enterIf (enough (length slots)) which sheet slots left)
   unfolding begin _>>=_ continue
@@ -74,10 +70,6 @@ module _ (which : AnalysisKind) (sheet : List ℕ) (enough : ℕ → Bool) (budg
 -- ---- behind question 8
 
 module _ (which : AnalysisKind) (sheet slots : List ℕ) (budget : VerifierResources) where
-  pub matrix-refused : (refusal : Refusal) (left : VerifierResources) → chargeMatrix which sheet slots budget ≡ stop refusal left → entering which sheet slots budget ≡ stop refusal left
-  unfolding entering _>>_ continue
-  matrix-refused refusal left e = rw e
-
   pub matrix-covered : (charged : VerifierResources) → chargeMatrix which sheet slots budget ≡ ok tt charged → entering which sheet slots budget ≡ firstRow which sheet slots charged
   unfolding entering _>>_ continue
   matrix-covered charged e = rw e

@@ -11,8 +11,6 @@ use lib.ListN.{length, replicate, take, drop}
 use lib.Seq.{length-take-le}
 use borrow.Author.Tests.{leb-true}
 use Rattle.model.specs.Sheet.{codeCount}
-use Rattle.model.specs.Charges.{overBudget, noRoom, Spent, ok, stop, unfinished}
-use Rattle.model.specs.Closure.{stageNumber}
 use Rattle.model.specs.Fact.{Fact, unknown, kind, value, Row}
 use Rattle.model.specs.Analyses.{unknownRow}
 use Rattle.model.specs.Call.{workListRoom, zeros, filled}
@@ -20,18 +18,19 @@ use Rattle.model.specs.Lookup.{ascends}
 use Rattle.model.specs.declared.VerifierResources.{VerifierResources}
 use Rattle.model.specs.declared.AnalysisKind.{AnalysisKind}
 use Rattle.model.proofs.Tests.{both}
-use Rattle.budget.specs.Metering.{asSpent}
-use Rattle.budget.specs.declared.Metering.{Metering}
-use Rattle.budget.specs.declared.Metering.the-variants.{Covered, Refused}
+use Rattle.budget.specs.Outcome.{refusedBy, Leaves, leaves, leavesOf}
+use Rattle.budget.specs.declared.Outcome.{Outcome}
+use Rattle.budget.specs.declared.Outcome.the-variants.{Covered, NoRoom}
+use Rattle.budget.proofs.Left.{Left, covered, stopped, left-by, covered-leaves, stopped-leaves}
 use Rattle.sheet.specs.Measured.{Accepted, Measured}
 use Rattle.sheet.specs.declared.Sizes.{Sizes}
 use Rattle.sheet.proofs.Asked.{measured}
 use Rattle.stage_room.specs.Room.{roomBy}
-use Rattle.stage_entry.specs.First.{Blank, First, first, firstOf}
-use Rattle.stage_outcome.specs.Answer.{atOnce, stagedBy}
-use Rattle.stage_outcome.specs.declared.Staged.{Staged}
-use Rattle.stage_outcome.specs.declared.Staged.the-variants.{OverBudget, NoRoom}
-use Rattle.stage_prepare.specs.Begin.{entering, enterIf, RowEnd, rowEnd, rowEndOf}
+use Rattle.fact_row.specs.Rows.{Lies}
+use Rattle.stage_entry.specs.First.{Blank, RowMemory, rowMemory, rowLaid, rowBlank}
+use Rattle.stage_entry.proofs.Made.{lies-of}
+use Rattle.stage_prepare.specs.Begin.{entering, enterIf, enough, rowFilled, rowZero}
+use Rattle.stage_prepare.specs.declared.Room.{Room}
 use Rattle.stage_prepare.proofs.Stepwise.{enters-at-once}
 use Rattle.stage_prepare.proofs.Zeros.{take-zero, front-cleared, front-filled, part-length, zero-filled}
 
@@ -65,46 +64,43 @@ unfolding kind value
 unknown-cells zero = (refl, refl)
 unknown-cells (suc k) = (ap (λ (xs : List ℕ). 0 ∷ xs) (unknown-cells k .0), ap (λ (xs : List ℕ). 0 ∷ xs) (unknown-cells k .1))
 
-module _ (which : AnalysisKind) (sheet : List ℕ) (n s : ℕ) (all : n ≡ codeCount sheet) (slots rowKinds rowValues : List ℕ) (present kinds values list : ℕ)
-    (left : VerifierResources) (zk : rowKinds ≡ zeros rowKinds) (zv : rowValues ≡ zeros rowValues) where
-  -- question 8, by what the code asks
+module _ (which : AnalysisKind) (sheet : List ℕ) (n s : ℕ) (all : n ≡ codeCount sheet) (slots rowKinds rowValues : List ℕ) (room : Room) (left : VerifierResources)
+    (zk : rowKinds ≡ zeros rowKinds) (zv : rowValues ≡ zeros rowValues) where
+  -- question 8, as the code asks it
   abbrev asked : Bool
-  asked = roomBy n s (length slots) present kinds values (length rowKinds) (length rowValues) list
+  asked = roomBy n s (length slots) (room .present) (room .kinds) (room .values) (length rowKinds) (length rowValues) (room .«work_list»)
 
-  -- and by what the promise says
-  abbrev enough : Bool
-  enough = roomBy (codeCount sheet) s (length slots) present kinds values (length rowKinds) (length rowValues) list
+  same : asked ≡ enough room sheet slots rowKinds rowValues s
+  same = ap (λ (m : ℕ). roomBy m s (length slots) (room .present) (room .kinds) (room .values) (length rowKinds) (length rowValues) (room .«work_list»)) all
 
-  same : asked ≡ enough
-  same = ap (λ (m : ℕ). roomBy m s (length slots) present kinds values (length rowKinds) (length rowValues) list) all
+  abbrev goal : Option (Leaves RowMemory)
+  goal = leavesOf (rowFilled rowKinds rowValues) (rowZero rowKinds rowValues) (enterIf (enough room sheet slots rowKinds rowValues s) which sheet (take s slots) left)
 
-  abbrev goal : Option RowEnd
-  goal = rowEndOf s rowKinds rowValues (enterIf enough which sheet (take s slots) left)
-
-  pub refused-room : asked ≡ false → some (rowEnd (NoRoom left) rowKinds rowValues) ≡ goal
-  unfolding enterIf rowEndOf
+  pub refused-room : asked ≡ false → some (leaves (NoRoom left) (rowMemory rowKinds rowValues)) ≡ goal
+  unfolding enterIf leavesOf refusedBy
   refused-room e = rw (sym same ∙ e) (cc)
 
   module _ (e : asked ≡ true) where
     slots-fit : s ≤ length slots
     slots-fit = room-parts n s _ _ _ _ _ _ _ e .0
 
-    with-room : goal ≡ rowEndOf s rowKinds rowValues (entering which sheet (take s slots) left)
+    with-room : leavesOf (rowFilled rowKinds rowValues) (rowZero rowKinds rowValues) (entering which sheet (take s slots) left) ≡ goal
     unfolding enterIf
     with-room = rw (sym same ∙ e)
 
-    pub ended-at-once : (n ≡ 0) ⊎ (s ≡ 0) → (answer : Staged) → answer ≡ atOnce s left → some (rowEnd answer rowKinds rowValues) ≡ goal
-    unfolding rowEndOf unknownRow
-    ended-at-once none-here answer is =
-        let fit = room-parts n s _ _ _ _ _ _ _ e in
-        let long : length (take s slots) ≡ s = length-take-le s slots slots-fit in
-        rw (with-room, enters-at-once which sheet (take s slots) left (here none-here), is, long) (
-        let k = zero-filled s rowKinds (fit .1) zk (unknown-cells s .0) in
-        let v = zero-filled s rowValues (fit .2) zv (unknown-cells s .1) in cc)
+    pub ended-at-once : (n ≡ 0) ⊎ (s ≡ 0) → some (leaves (Covered left) (rowMemory rowKinds rowValues)) ≡ goal
+    ended-at-once none-here = covered-leaves _ _ (enters-at-once which sheet (take s slots) left (here none-here)) refl unknown-is ∙ with-room
       where
         here : (n ≡ 0) ⊎ (s ≡ 0) → (codeCount sheet ≡ 0) ⊎ (length (take s slots) ≡ 0)
         here (inl h) = inl (sym all ∙ h)
         here (inr h) = inr (length-take-le s slots slots-fit ∙ h)
+
+        unknown-is : rowMemory rowKinds rowValues ≡ rowFilled rowKinds rowValues (unknownRow (take s slots))
+        unknown-is = unfold unknownRow in (
+            let fit = room-parts n s _ _ _ _ _ _ _ e in
+            rw (length-take-le s slots slots-fit) (
+            let k = zero-filled s rowKinds (fit .1) zk (unknown-cells s .0) in
+            let v = zero-filled s rowValues (fit .2) zv (unknown-cells s .1) in cc))
 
     -- what the entry row asks
     pub entry-asks : {sizes : Sizes} → n ≡ sizes .«code_count» → Accepted sheet sizes → s ≤ 65535 → (s ≤ length slots → ascends (take s slots) ≡ true) → (n ≡ 0 → ⊥) → (s ≡ 0 → ⊥)
@@ -128,41 +124,29 @@ module _ (which : AnalysisKind) (sheet : List ℕ) (n s : ℕ) (all : n ≡ code
         above (suc m) h = omega arith
 
     -- what the charges and the entry row leave in the first places is what they leave in the whole
-    pub entered-row : (entered : Metering) (answer : Staged) (rk rv : List ℕ)
-        → first (asSpent (stageNumber which) entered) rk rv ≡ firstOf (length (take s slots)) (entering which sheet (take s slots) left)
-        → length (rk ++ drop s rowKinds) ≡ length rowKinds → length (rv ++ drop s rowValues) ≡ length rowValues → answer ≡ stagedBy s entered
-        → some (rowEnd answer (rk ++ drop s rowKinds) (rv ++ drop s rowValues)) ≡ goal
-    unfolding asSpent firstOf stagedBy rowEndOf
-    entered-row entered answer rk rv h lk lv is = rw (with-room, is) (go entered (entering which sheet (take s slots) left) (rw (length-take-le s slots slots-fit) at h))
+    pub entered-row : {entered : Outcome} (rk rv : List ℕ)
+        → some (leaves entered (rowMemory rk rv)) ≡ leavesOf rowLaid (rowBlank (length (take s slots))) (entering which sheet (take s slots) left)
+        → length (rk ++ drop s rowKinds) ≡ length rowKinds → length (rv ++ drop s rowValues) ≡ length rowValues
+        → some (leaves entered (rowMemory (rk ++ drop s rowKinds) (rv ++ drop s rowValues))) ≡ goal
+    entered-row {entered} rk rv h lk lv = go (left-by _ _ _ h) ∙ with-room
       where
         fit : (s ≤ length rowKinds) × (s ≤ length rowValues)
         fit = let f = room-parts n s _ _ _ _ _ _ _ e in (f .1, f .2)
 
-        go : (entered : Metering) (spent : Spent Row) → first (asSpent (stageNumber which) entered) rk rv ≡ firstOf s spent
-            → some (rowEnd (stagedBy s entered) (rk ++ drop s rowKinds) (rv ++ drop s rowValues)) ≡ rowEndOf s rowKinds rowValues spent
-        go (Covered rest) (ok row last) x =
-            let a : _≡_ {A = Spent (Unit {0})} (ok tt rest) (ok tt last) = ap (λ (y : First). y .answer) x in
-            let l : rest ≡ last = cc in
-            rw (
-              l,
-              front-filled s rowKinds (fit .0) zk (ap (λ (y : First). y .kinds) x) (part-length s rowKinds (fit .0) rk lk),
-              front-filled s rowValues (fit .1) zv (ap (λ (y : First). y .values) x) (part-length s rowValues (fit .1) rv lv),
-            )
-        go (Refused requested remaining rest) (stop (overBudget stage q r) last) x =
-            let a : _≡_ {A = Spent (Unit {0})} (stop (overBudget (stageNumber which) requested remaining) rest) (stop (overBudget stage q r) last) = ap (λ (y : First). y .answer) x in
-            let l : OverBudget requested remaining rest ≡ OverBudget q r last = cc in
-            rw (
-              l,
-              front-cleared s rowKinds (fit .0) zk (ap (λ (y : First). y .kinds) x),
-              front-cleared s rowValues (fit .1) zv (ap (λ (y : First). y .values) x),
-            )
-        go (Covered rest) (stop refusal last) x = let a : _≡_ {A = Spent (Unit {0})} (ok tt rest) (stop refusal last) = ap (λ (y : First). y .answer) x in let z : _≡_ {A = ℕ} 0 1 = cc in absurd (omega arith)
-        go (Covered rest) unfinished x = let a : _≡_ {A = Spent (Unit {0})} (ok tt rest) unfinished = ap (λ (y : First). y .answer) x in let z : _≡_ {A = ℕ} 0 1 = cc in absurd (omega arith)
-        go (Refused requested remaining rest) (ok row last) x =
-            let a : _≡_ {A = Spent (Unit {0})} (stop (overBudget (stageNumber which) requested remaining) rest) (ok tt last) = ap (λ (y : First). y .answer) x in let z : _≡_ {A = ℕ} 0 1 = cc in absurd (omega arith)
-        go (Refused requested remaining rest) (stop noRoom last) x =
-            let a : _≡_ {A = Spent (Unit {0})} (stop (overBudget (stageNumber which) requested remaining) rest) (stop noRoom last) = ap (λ (y : First). y .answer) x in
-            let z : _≡_ {A = ℕ} 0 1 = cc in
-            absurd (omega arith)
-        go (Refused requested remaining rest) unfinished x =
-            let a : _≡_ {A = Spent (Unit {0})} (stop (overBudget (stageNumber which) requested remaining) rest) unfinished = ap (λ (y : First). y .answer) x in let z : _≡_ {A = ℕ} 0 1 = cc in absurd (omega arith)
+        long : length (take s slots) ≡ s
+        long = length-take-le s slots slots-fit
+
+        filled-is : (row : Row) → Lies row rk rv → rowMemory (rk ++ drop s rowKinds) (rv ++ drop s rowValues) ≡ rowFilled rowKinds rowValues row
+        filled-is row l = rw (front-filled s rowKinds (fit .0) zk (l .kinds-are) (part-length s rowKinds (fit .0) rk lk), front-filled s rowValues (fit .1) zv (l .values-are) (part-length s rowValues (fit .1) rv lv))
+
+        zero-is : rowMemory rk rv ≡ rowBlank (length (take s slots)) → rowMemory (rk ++ drop s rowKinds) (rv ++ drop s rowValues) ≡ rowZero rowKinds rowValues
+        zero-is m =
+            let k = ap (λ (x : RowMemory). x .kinds) m ∙ ap (λ (j : ℕ). replicate j 0) long in
+            let v = ap (λ (x : RowMemory). x .values) m ∙ ap (λ (j : ℕ). replicate j 0) long in
+            rw (front-cleared s rowKinds (fit .0) zk k, front-cleared s rowValues (fit .1) zv v)
+
+        go : Left rowLaid (rowBlank (length (take s slots))) (entering which sheet (take s slots) left) entered (rowMemory rk rv)
+            → some (leaves entered (rowMemory (rk ++ drop s rowKinds) (rv ++ drop s rowValues)))
+            ≡ leavesOf (rowFilled rowKinds rowValues) (rowZero rowKinds rowValues) (entering which sheet (take s slots) left)
+        go (covered row rest c o m) = covered-leaves _ _ c o (filled-is row (lies-of m))
+        go (stopped refusal rest c o m) = stopped-leaves (record { refusal = refusal; left = rest; came = c; is = o }) _ (zero-is m)

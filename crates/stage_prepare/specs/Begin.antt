@@ -3,19 +3,18 @@
 use mathlib.Core.Path.{_≡_}
 use mathlib.Core.Bool.{Bool, true, false}
 use mathlib.Core.List.{List, map}
-use mathlib.Core.Option.{Option, none, some}
 use Prim.Native.Nat.{ℕ, _≤_}
 use lib.ListN.{length}
-use Rattle.model.specs.Charges.{overBudget, noRoom, Spent, ok, stop, unfinished, Metered, give, _>>=_, _>>_}
+use Rattle.model.specs.Charges.{noRoom, stop, Metered, give, _>>=_, _>>_}
 use Rattle.model.specs.Closure.{trackedSlots}
 use Rattle.model.specs.Fact.{kind, value, Row}
-use Rattle.model.specs.Sheet.{localSlots}
+use Rattle.model.specs.Sheet.{codeCount, localSlots}
 use Rattle.model.specs.Analyses.{askRoom, chargeMatrix, firstRow}
 use Rattle.model.specs.Call.{zeros, filled}
 use Rattle.model.specs.declared.AnalysisKind.{AnalysisKind}
-use Rattle.stage_outcome.specs.Answer.{atOnce}
-use Rattle.stage_outcome.specs.declared.Staged.{Staged}
-use Rattle.stage_outcome.specs.declared.Staged.the-variants.{Done, OverBudget, NoRoom}
+use Rattle.stage_entry.specs.First.{RowMemory, rowMemory}
+use Rattle.stage_room.specs.Room.{roomBy}
+use Rattle.stage_prepare.specs.declared.Room.{Room}
 
 -- ---- definitions
 
@@ -53,46 +52,17 @@ pub record Unmarked (sheet marks stack rowKinds rowValues : List ℕ) : Type 0 w
   pub wide : localSlots sheet ≤ length marks
   pub deep : localSlots sheet ≤ length stack
 
+-- question 8 for s tracked slots, by what is lent
+abbrev pub enough : Room → List ℕ → List ℕ → List ℕ → List ℕ → ℕ → Bool
+enough room sheet slots rowKinds rowValues s =
+    roomBy (codeCount sheet) s (length slots) (room .present) (room .kinds) (room .values) (length rowKinds) (length rowValues) (room .«work_list»)
+
 -- ---- what is left: the row
 
--- The answer and the row scratch.
-pub record RowEnd : Type 0 where
-  pub answer : Staged
-  pub rowKinds : List ℕ
-  pub rowValues : List ℕ
+-- a row in the first places of a row scratch that was zero
+abbrev pub rowFilled : List ℕ → List ℕ → Row → RowMemory
+rowFilled rowKinds rowValues row = rowMemory (filled (map kind row) rowKinds) (filled (map value row) rowValues)
 
-abbrev pub rowEnd : Staged → List ℕ → List ℕ → RowEnd
-rowEnd answer rowKinds rowValues = record { answer = answer; rowKinds = rowKinds; rowValues = rowValues }
-
--- the first row in the first places, or zeros after 7 and 8; nothing where a loop's fuel was too little, which does not happen
-unfoldable pub rowEndOf : ℕ → List ℕ → List ℕ → Spent Row → Option RowEnd
-rowEndOf s rowKinds rowValues (ok row left) = some (rowEnd (atOnce s left) (filled (map kind row) rowKinds) (filled (map value row) rowValues))
-rowEndOf s rowKinds rowValues (stop (overBudget stage requested remaining) left) = some (rowEnd (OverBudget requested remaining left) (zeros rowKinds) (zeros rowValues))
-rowEndOf s rowKinds rowValues (stop noRoom left) = some (rowEnd (NoRoom left) (zeros rowKinds) (zeros rowValues))
-rowEndOf s rowKinds rowValues unfinished = none
-
--- ---- and the slots
-
--- slots stay where the charges are covered, and are zero after 7 and 8
-unfoldable pub slotsAfter : Staged → List ℕ → List ℕ
-slotsAfter (Done c left) slots = slots
-slotsAfter (OverBudget requested remaining left) slots = zeros slots
-slotsAfter (NoRoom left) slots = zeros slots
-
--- The answer, the slots and the row scratch.
-pub record BeginEnd : Type 0 where
-  pub answer : Staged
-  pub slots : List ℕ
-  pub rowKinds : List ℕ
-  pub rowValues : List ℕ
-
-abbrev pub beginEnd : Staged → List ℕ → List ℕ → List ℕ → BeginEnd
-beginEnd answer slots rowKinds rowValues = record { answer = answer; slots = slots; rowKinds = rowKinds; rowValues = rowValues }
-
--- the tracked slots and the first row in the first places, or zeros after 7 and 8
-unfoldable pub begunOf : List ℕ → List ℕ → List ℕ → Spent Begun → Option BeginEnd
-begunOf slots rowKinds rowValues (ok b left) =
-    some (beginEnd (atOnce (length (b .slots)) left) (filled (b .slots) slots) (filled (map kind (b .entry)) rowKinds) (filled (map value (b .entry)) rowValues))
-begunOf slots rowKinds rowValues (stop (overBudget stage requested remaining) left) = some (beginEnd (OverBudget requested remaining left) (zeros slots) (zeros rowKinds) (zeros rowValues))
-begunOf slots rowKinds rowValues (stop noRoom left) = some (beginEnd (NoRoom left) (zeros slots) (zeros rowKinds) (zeros rowValues))
-begunOf slots rowKinds rowValues unfinished = none
+-- zeros: after 7 and 8
+abbrev pub rowZero : List ℕ → List ℕ → RowMemory
+rowZero rowKinds rowValues = rowMemory (zeros rowKinds) (zeros rowValues)

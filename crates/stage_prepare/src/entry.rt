@@ -1,13 +1,13 @@
 // The matrix charge and the entry row.
 ghost use mathlib.Core.Path.{_≡_};
+ghost use mathlib.Core.Option.{some};
 ghost use Prim.Native.Nat.{_≤_, _<_};
 ghost use lib.ListN.{length};
-ghost use Rattle.model.specs.Closure.{stageNumber};
-ghost use Rattle.budget.specs.Metering.{asSpent};
+ghost use Rattle.budget.specs.Outcome.{leaves, leavesOf};
 ghost use Rattle.sheet.specs.Measured.{Measured};
-ghost use Rattle.stage_entry.specs.First.{Blank, first, firstOf};
+ghost use Rattle.stage_entry.specs.First.{Blank, rowMemory, rowLaid, rowBlank};
 ghost use Rattle.stage_prepare.specs.Begin.{entering};
-use budget::Metering;
+use budget::Outcome;
 use model::AnalysisKind;
 use model::VerifierResources;
 use sheet::Sizes;
@@ -23,19 +23,19 @@ pub fn entry_row(
     resources: VerifierResources,
     row_kinds: &mut [u8],
     row_values: &mut [u64],
-) -> Metering
-    requires { ⌜ Measured (now sheet) sizes × Blank (now slots) (now «row_kinds») (now «row_values») × (0 < sizes .«code_count») × (0 < length (now slots)) × (length (now slots) ≤ 65535) ⌝ }
-    ensures { λ r. ⌜ first (asSpent (stageNumber which) r) (now («row_kinds» .exit)) (now («row_values» .exit)) ≡ firstOf (length (now (slots .entry))) (entering which (now (sheet .entry)) (now (slots .entry)) resources) ⌝ }
+) -> Outcome
+    requires { ⌜ (
+        Measured (now sheet) sizes × Blank (now slots) (now «row_kinds») (now «row_values»)
+        × (0 < sizes .«code_count») × (0 < length (now slots)) × (length (now slots) ≤ 65535)
+        ) ⌝ }
+    ensures { λ r. ⌜ (
+        some (leaves r (rowMemory (now («row_kinds» .exit)) (now («row_values» .exit))))
+        ≡ leavesOf rowLaid (rowBlank (length (now (slots .entry)))) (entering which (now (sheet .entry)) (now (slots .entry)) resources)
+        ) ⌝ }
 {
     let charged = charge_matrix(which, sizes.code_count, slots.len(), resources);
-    match charged {
-        Metering::Refused {
-            requested: _,
-            remaining: _,
-            left: _,
-        } => charged,
-        Metering::Covered { left } => {
-            first_row(which, sheet, sizes, slots, left, row_kinds, row_values)
-        }
-    }
+    let Outcome::Covered { left } = charged else {
+        return charged;
+    };
+    first_row(which, sheet, sizes, slots, left, row_kinds, row_values)
 }

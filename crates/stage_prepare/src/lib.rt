@@ -3,7 +3,7 @@ mod begin;
 mod entry;
 mod preparing;
 
-use model::Answer;
+use budget::Outcome;
 pub use preparing::prepare;
 
 // How long the tables and the work list are, of which question 8 asks.
@@ -14,10 +14,9 @@ pub struct Room {
     pub work_list: usize,
 }
 
-// What is to run: whether anything is, how many slots are tracked and the work units left; and the answer so far.
+// What is to run: whether anything is, and how many slots are tracked; and the outcome so far.
 pub struct Prepared {
     pub runs: bool,
     pub s: usize,
-    pub work: u64,
-    pub answer: Answer,
+    pub outcome: Outcome,
 }

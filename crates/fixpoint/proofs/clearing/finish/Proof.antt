@@ -1,79 +1,54 @@
 -- `finish` meets its contract.
 -- Assumes nothing.
-use Rattle.fixpoint.proofs.Finishing.{finish-finished, finish-overdrawn}
+use Rattle.fixpoint.proofs.Finishing.{cleared-where, kept-where}
 use borrow.Author.Needs.{needs}
 use Rattle.fixpoint.proofs.clearing.finish.Statement.{statement}
 use Rattle.fixpoint.proofs.clearing.finish.Tie as tie
-use Rattle.fixpoint.proofs.clearing.finish.Reads as reads
-use Rattle.fixpoint.proofs.clearing.finish.Lts as lts
-use Rattle.memory.proofs.clear_u64.Reads as clear-u64-reads
-use Rattle.memory.proofs.clear_u8.Reads as clear-u8-reads
 
-clear-u8-requires : tie.Need-clear-u8-requires
-clear-u8-requires c κs = search needs
+abbrev at-values : tie.After-slice-known10 → tie.After-clear-u642
+at-values c = c .before .before
 
-clear-u64-requires : tie.Need-clear-u64-requires
-clear-u64-requires c κs = search needs
+abbrev at-kinds : tie.After-clear-u642 → tie.After-clear-u83
+at-kinds c = c .before .before .before .before
 
-enum-told : tie.Need-enum-told
-enum-told c = search needs
+abbrev at-present : tie.After-clear-u83 → tie.After-clear-u82
+at-present c = c .before .before .before .before
 
-enum-told-2 : tie.Need-enum-told-2
-enum-told-2 c = search needs
+abbrev at-test : tie.After-clear-u82 → tie.Then1
+at-test c = c .before .before
 
-clear-u8-requires-2 : tie.Need-clear-u8-requires-2
-clear-u8-requires-2 c κs = search needs
+abbrev at-rows : tie.After-refuses → tie.After-clear-u64
+at-rows c = c .before .before .before
 
-clear-u8-requires-3 : tie.Need-clear-u8-requires-3
-clear-u8-requires-3 c κs = search needs
-
-clear-u64-requires-2 : tie.Need-clear-u64-requires-2
-clear-u64-requires-2 c κs = search needs
-
-same-length : tie.Need-same-length
-same-length c = search needs
-
-same-length-2 : tie.Need-same-length-2
-same-length-2 c = search needs
+abbrev at-row-kinds : tie.After-clear-u64 → tie.After-clear-u8
+at-row-kinds c = c .before .before .before .before
 
 returns : tie.Need-returns
-returns c = finish-finished _ _ _ _ _ _ _ _ (c .enum-told .given .1) (c .before .before .before .before .before .before .before .before .clear-u8 .ensures) (c .before .before .before .before .clear-u64 .ensures)
-
-same-length-3 : tie.Need-same-length-3
-same-length-3 c = search needs
-
-same-length-4 : tie.Need-same-length-4
-same-length-4 c = search needs
-
-same-length-5 : tie.Need-same-length-5
-same-length-5 c = search needs
-
-same-length-6 : tie.Need-same-length-6
-same-length-6 c = search needs
-
-same-length-7 : tie.Need-same-length-7
-same-length-7 c = search needs
+returns c =
+    let values = at-values c in
+    let kinds = at-kinds values in
+    let present = at-present kinds in
+    let test = at-test present in
+    let rows = at-rows (test .before) in (
+      cleared-where _ (test .before .refuses .ensures) (test .if1 .taken) _ (present .clear-u82 .ensures),
+      cleared-where _ (test .before .refuses .ensures) (test .if1 .taken) _ (kinds .clear-u83 .ensures),
+      cleared-where _ (test .before .refuses .ensures) (test .if1 .taken) _ (values .clear-u642 .ensures),
+      at-row-kinds rows .clear-u8 .ensures,
+      rows .clear-u64 .ensures,
+    )
 
 returns-2 : tie.Need-returns-2
-returns-2 c = finish-overdrawn _ _ _ _ _ _ _ _ _ _ _ (c .before .before .before .before .before .before .before .before .before .before .before .before .enum-told2 .given .1) (c .before .before .before .before .before .before .before .before .before .before .clear-u82 .ensures) (c .before .before .before .before .before .before .clear-u83 .ensures) (c .before .before .clear-u642 .ensures) (c .before .before .before .before .before .before .before .before .before .before .before .before .before .before .before .before .before .before .before .before .clear-u8 .ensures) (c .before .before .before .before .before .before .before .before .before .before .before .before .before .before .before .before .clear-u64 .ensures)
+returns-2 c =
+    let rows = at-rows (c .before) in (
+      kept-where _ (c .before .refuses .ensures) (c .if1 .left) _,
+      kept-where _ (c .before .refuses .ensures) (c .if1 .left) _,
+      kept-where _ (c .before .refuses .ensures) (c .if1 .left) _,
+      at-row-kinds rows .clear-u8 .ensures,
+      rows .clear-u64 .ensures,
+    )
 
 pub finish-spec : {M : Type 1} → statement M
 finish-spec =
     tie.close
-    (tie.spec
-    clear-u8-requires
-    clear-u64-requires
-    enum-told
-    enum-told-2
-    clear-u8-requires-2
-    clear-u8-requires-3
-    clear-u64-requires-2
-    same-length
-    same-length-2
-    returns
-    same-length-3
-    same-length-4
-    same-length-5
-    same-length-6
-    same-length-7
-    returns-2)
+    (tie.spec (λ c κs. search needs) (λ c κs. search needs) (λ c κs. search needs) (λ c κs. search needs) (λ c κs. search needs) (λ c κs. search needs)
+    (λ c. search needs) (λ c. search needs) (λ c. search needs) (λ c. search needs) (λ c. search needs) returns (λ c. search needs) (λ c. search needs) returns-2)

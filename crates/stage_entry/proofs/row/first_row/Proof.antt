@@ -6,52 +6,31 @@ use borrow.Author.Needs.{needs}
 use Rattle.stage_entry.proofs.row.first_row.Statement.{statement}
 use Rattle.stage_entry.proofs.row.first_row.Tie as tie
 
-enum-told : tie.Need-enum-told
-enum-told c = search needs
-
-enum-told-2 : tie.Need-enum-told-2
-enum-told-2 c = search needs
-
-enum-told-3 : tie.Need-enum-told-3
-enum-told-3 c = search needs
-
-container-row-requires : tie.Need-container-row-requires
-container-row-requires c κs = search needs
+abbrev start : tie.After-slice-known2 → tie.Start
+start c = c .before .before .before .before
 
 returns : tie.Need-returns
 returns c =
-    let start = c .before .before .before .before .before .before in
-    constant-row (start .args .which) (start .args .sheet .now) (start .args .slots .now) (start .args .resources) (c .enum-told .given .1) (start .pre .1)
+    let from = start (c .before .before) in
+    let a = from .args in
+    constant-row (a .which) (a .sheet .now) (a .slots .now) (a .resources) (c .enum-told .given .1) (from .pre .1)
 
 returns-2 : tie.Need-returns-2
 returns-2 c =
-    let start = c .before .before .before .before .before .before in
-    index-row (start .args .which) (start .args .sheet .now) (start .args .slots .now) (start .args .resources) (c .enum-told2 .given .1) (start .pre .1)
-
-same-length : tie.Need-same-length
-same-length c = search needs
-
-same-length-2 : tie.Need-same-length-2
-same-length-2 c = search needs
+    let from = start (c .before .before) in
+    let a = from .args in
+    index-row (a .which) (a .sheet .now) (a .slots .now) (a .resources) (c .enum-told2 .given .1) (from .pre .1)
 
 returns-3 : tie.Need-returns-3
 returns-3 c =
-    let start = c .before .before .before .before .before .before .before .before .before .before .before .before .before in
-    let after-enum-told3 = c .before .before .before .before .before .before .before in
-    let after-container-row = c .before .before .before .before in
-    let n = counted (start .pre .0 .are) in
-    container-row (start .args .which) (start .args .sheet .now) (start .args .slots .now) (start .args .resources) (after-enum-told3 .enum-told3 .given .1) (omega arith) (start .pre .3) (after-container-row .container-row .result) (after-container-row .container-row .ensures)
+    let row = c .before .before .before .before in
+    let told = row .before .before .before in
+    let from = start (told .before .before) in
+    let a = from .args in
+    let n = counted (from .pre .0 .are) in
+    container-row (a .which) (a .sheet .now) (a .slots .now) (a .resources) (told .enum-told3 .given .1) (omega arith) (from .pre .3) (row .container-row .ensures)
 
 pub first-row-spec : {M : Type 1} → statement M
 first-row-spec =
     tie.close
-    (tie.spec
-    enum-told
-    enum-told-2
-    enum-told-3
-    container-row-requires
-    returns
-    returns-2
-    same-length
-    same-length-2
-    returns-3)
+    (tie.spec (λ c. search needs) (λ c. search needs) (λ c. search needs) (λ c κs. search needs) returns returns-2 (λ c. search needs) (λ c. search needs) returns-3)

@@ -4,42 +4,33 @@ use mathlib.Core.Option.{Option}
 use lib.ListN.{length}
 use Rattle.model.specs.Fact.{Fact}
 use Rattle.model.specs.Parameters.{paramFact, seedParam}
-use Rattle.stage_entry.specs.First.{firstOf}
+use Rattle.budget.specs.Outcome.{leavesOf}
+use Rattle.stage_entry.specs.First.{rowLaid, rowBlank}
 use Rattle.stage_entry.proofs.Brought.{brings-none, brings}
 use Rattle.stage_entry.proofs.Seeded.{seed-none}
 use borrow.Author.Needs.{needs}
 use Rattle.stage_entry.proofs.seeds.seed_param.Statement.{statement}
 use Rattle.stage_entry.proofs.seeds.seed_param.Tie as tie
 
-param-fact-requires : tie.Need-param-fact-requires
-param-fact-requires c κs = search needs
+abbrev start : tie.After-param-fact → tie.Start
+start c = c .before .before .before .before .before
 
 returns : tie.Need-returns
 returns c row l =
-    let start = c .before .before .before .before .before .before .before in
-    let after-param-fact = c .before .before in
-    seed-none (start .args .sheet .now) (start .args .slots .now) (start .args .slot) _ l (paramFact (start .args .sheet .now) (start .args .i)) (brings-none _ (start .args .i) (after-param-fact .param-fact .ensures) (c .if1 .taken))
+    let found = c .before .before in
+    let a = start found .args in
+    seed-none (a .sheet .now) (a .slots .now) (a .slot) _ l (paramFact (a .sheet .now) (a .i)) (brings-none _ (a .i) (found .param-fact .ensures) (c .if1 .taken))
 
-seed-fact-requires : tie.Need-seed-fact-requires
-seed-fact-requires c κs = search needs
-
-same-length : tie.Need-same-length
-same-length c = search needs
-
-same-length-2 : tie.Need-same-length-2
-same-length-2 c = search needs
+abbrev other : tie.After-slice-known4 → tie.Else1
+other c = c .before .before .before .before .before .before .before
 
 returns-2 : tie.Need-returns-2
 returns-2 c row l =
-    let start = c .before .before .before .before .before .before .before .before .before .before .before .before .before .before in
-    let after-param-fact = c .before .before .before .before .before .before .before .before .before in
-    let else1 = c .before .before .before .before .before .before .before in
-    let after-seed-fact = c .before .before .before .before in
-    let b = brings _ (start .args .i) (after-param-fact .param-fact .ensures) (else1 .if1 .left) in
-    after-seed-fact .seed-fact .ensures row (b .0) l (b .2)
-    ∙ ap (λ (o : Option Fact). firstOf (length (start .args .slots .now)) (seedParam (start .args .sheet .now) (start .args .slots .now) (start .args .slot) o row (start .args .resources))) (sym (b .1))
+    let found = other c .before .before in
+    let a = start found .args in
+    let b = brings _ (a .i) (found .param-fact .ensures) (other c .if1 .left) in
+    c .before .before .before .before .seed-fact .ensures row (b .0) l (b .2)
+    ∙ ap (λ (o : Option Fact). leavesOf rowLaid (rowBlank (length (a .slots .now))) (seedParam (a .sheet .now) (a .slots .now) (a .slot) o row (a .resources))) (sym (b .1))
 
 pub seed-param-spec : {M : Type 1} → statement M
-seed-param-spec =
-    tie.close
-    (tie.spec param-fact-requires returns seed-fact-requires same-length same-length-2 returns-2)
+seed-param-spec = tie.close (tie.spec (λ c κs. search needs) returns (λ c κs. search needs) (λ c. search needs) (λ c. search needs) returns-2)

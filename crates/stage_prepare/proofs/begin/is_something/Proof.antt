@@ -2,10 +2,8 @@
 -- Assumes nothing.
 use borrow.Author.Tests.{ne-eqb}
 use Rattle.stage_prepare.specs.Prepare.{something}
-use Rattle.stage_prepare.proofs.preparing.is_something.Statement.{statement}
-use Rattle.stage_prepare.proofs.preparing.is_something.Tie as tie
-use Rattle.stage_prepare.proofs.preparing.is_something.Reads as reads
-use Rattle.stage_prepare.proofs.preparing.is_something.Lts as lts
+use Rattle.stage_prepare.proofs.begin.is_something.Statement.{statement}
+use Rattle.stage_prepare.proofs.begin.is_something.Tie as tie
 
 returns : tie.Need-returns
 unfolding something
