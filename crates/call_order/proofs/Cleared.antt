@@ -24,7 +24,7 @@ use Rattle.budget.specs.Outcome.{leaves, leavesOf}
 use Rattle.budget.specs.declared.Outcome.{Outcome}
 use Rattle.budget.proofs.Left.{Left, covered, stopped, left-by}
 use Rattle.stage_memory.specs.Stage.{zeroScratch}
-use Rattle.stage.specs.Staged.{ScratchZero, noCounts, StageEnd, staged, stagedBy}
+use Rattle.stage.specs.Staged.{ScratchZero, noCounts, StageLeft, staged, stagedBy}
 
 -- ---- outputs
 
@@ -49,8 +49,7 @@ unfolding zeroScratch
 scratch-twice W e = rw (e, zeros-twice (W .marks), zeros-twice (W .stack), zeros-twice (W .rowKinds), zeros-twice (W .rowValues), zeros-twice (W .workList))
 
 -- what the analyses ask of it
-pub clean : (sheet : List ℕ) (W : Scratch) {w : Scratch} → w ≡ zeroScratch W → localSlots sheet ≤ length (W .marks) → localSlots sheet ≤ length (W .stack)
-    → ScratchZero sheet (w .marks) (w .stack) (w .rowKinds) (w .rowValues) (w .workList)
+pub clean : (sheet : List ℕ) (W : Scratch) {w : Scratch} → w ≡ zeroScratch W → localSlots sheet ≤ length (W .marks) → localSlots sheet ≤ length (W .stack) → ScratchZero sheet w
 unfolding zeroScratch
 clean sheet W e m s = rw e (record {
   no-marks = sym (zeros-twice (W .marks));
@@ -65,7 +64,7 @@ clean sheet W e m s = rw e (record {
 -- ---- what an analysis left
 
 pub staged-same : {a b : Counts} {t u : Table} {v w : Scratch} → staged a t v ≡ staged b u w → (a ≡ b) × (t ≡ u) × (v ≡ w)
-staged-same e = (ap (λ (n : StageEnd). n .counts) e, ap (λ (n : StageEnd). n .output) e, ap (λ (n : StageEnd). n .scratch) e)
+staged-same e = (ap (λ (n : StageLeft). n .counted) e, ap (λ (n : StageLeft). n .output) e, ap (λ (n : StageLeft). n .scratch) e)
 
 -- the scratch is zero again
 pub still-clear : (T : Table) (W : Scratch) {w : Scratch} → w ≡ zeroScratch W → (spent : Spent Analysed) {outcome : Outcome} {given : Counts} {t : Table} {w′ : Scratch}
