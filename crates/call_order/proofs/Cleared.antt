@@ -22,9 +22,9 @@ use Rattle.sheet_layouts.specs.Classes.{Classes}
 use Rattle.fixpoint_step.specs.Stepped.{SheetIndex}
 use Rattle.budget.specs.Outcome.{leaves, leavesOf}
 use Rattle.budget.specs.declared.Outcome.{Outcome}
-use Rattle.budget.proofs.Left.{Left, covered, stopped, left-by}
 use Rattle.stage_memory.specs.Stage.{zeroScratch}
 use Rattle.stage.specs.Staged.{ScratchZero, noCounts, StageLeft, staged, stagedBy}
+use Rattle.call_order.proofs.Then.{left-same}
 
 -- ---- outputs
 
@@ -70,11 +70,7 @@ staged-same e = (ap (λ (n : StageLeft). n .counted) e, ap (λ (n : StageLeft). 
 pub still-clear : (T : Table) (W : Scratch) {w : Scratch} → w ≡ zeroScratch W → (spent : Spent Analysed) {outcome : Outcome} {given : Counts} {t : Table} {w′ : Scratch}
     → some (leaves outcome (staged given t w′)) ≡ leavesOf (stagedBy T w) (staged noCounts (zeroTable T) (zeroScratch w)) spent → w′ ≡ zeroScratch W
 unfolding stagedBy
-still-clear T W {w} wz spent {outcome} {given} {t} {w′} e = go (left-by _ _ spent e) ∙ scratch-twice W wz
-  where
-    go : Left (stagedBy T w) (staged noCounts (zeroTable T) (zeroScratch w)) spent outcome (staged given t w′) → w′ ≡ zeroScratch w
-    go (covered a left h o m) = staged-same m .2
-    go (stopped refusal left h o m) = staged-same m .2
+still-clear T W {w} wz spent e = left-same (stagedBy T w) _ (λ (n : StageLeft). n .scratch) (zeroScratch w) (λ a. refl) refl spent e ∙ scratch-twice W wz
 
 -- ---- what was found once
 

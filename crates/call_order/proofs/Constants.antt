@@ -27,7 +27,7 @@ use Rattle.sheet.specs.Measured.{Accepted}
 use Rattle.sheet.proofs.Asked.{measured}
 use Rattle.sheet.proofs.Counted.{counted}
 use Rattle.sheet.proofs.Limited.{limited}
-use Rattle.budget.specs.Outcome.{asSpent, refusing, leaves, leavesOf}
+use Rattle.budget.specs.Outcome.{refusing, leaves, leavesOf}
 use Rattle.budget.specs.declared.Outcome.{Outcome}
 use Rattle.budget.proofs.Left.{Left, covered, stopped, left-by}
 use Rattle.stage_prepare.proofs.Closing.{few-below}

@@ -3,5 +3,4 @@ pub mod Then
 pub mod Same
 pub mod Cleared
 pub mod Constants
-pub mod Values
-pub mod Call
+pub mod Order

@@ -1,6 +1,6 @@
 -- A stage is the same by two answers to question 8 that agree, and by two length facts of which the run reads the same.
 -- Assumes nothing.
-use mathlib.Core.Path.{_≡_, refl, ap, _∙_, fun-ext}
+use mathlib.Core.Path.{_≡_, ap, _∙_, fun-ext}
 use mathlib.Core.Bool.{Bool}
 use mathlib.Core.List.{List}
 use Prim.Native.Nat.{ℕ, _<_}

@@ -22,6 +22,15 @@ unfolding refusing refusedBy
 refusing-refused (overBudget stage requested remaining) left = refl
 refusing-refused noRoom left = refl
 
+-- what is left the same, whatever the part comes to
+pub left-same : {A M X : Type 0} (given : A → M) (refused : M) (p : M → X) (x : X) → ((a : A) → p (given a) ≡ x) → p refused ≡ x → (spent : Spent A) {outcome : Outcome} {memory : M}
+    → some (leaves outcome memory) ≡ leavesOf given refused spent → p memory ≡ x
+left-same given refused p x f g spent {outcome} {memory} e = go (left-by given refused spent e)
+  where
+    go : Left given refused spent outcome memory → p memory ≡ x
+    go (covered a left h o m) = ap p m ∙ f a
+    go (stopped refusal left h o m) = ap p m ∙ g
+
 refused-left : {A M : Type 0} (given : A → M) (refused : M) (refusal : Refusal) (left : VerifierResources) {outcome : Outcome} {memory : M}
     → some (leaves outcome memory) ≡ leavesOf given refused (stop refusal left) → (outcome ≡ refusedBy refusal left) × (memory ≡ refused)
 unfolding leavesOf

@@ -7,7 +7,7 @@ use Rattle.stage_memory.specs.Stage.{zeroScratch}
 use Rattle.stage_memory.proofs.Paths.{scratch-zeroed}
 use Rattle.call_order.proofs.Cleared.{clean, still-clear, few-code, index-found}
 use Rattle.call_order.proofs.Constants.{constants-stored}
-use Rattle.call_order.proofs.Values.{values-promise}
+use Rattle.call_order.proofs.Order.{values-promise}
 use borrow.Author.Needs.{needs}
 use Rattle.call_values.proofs.analyze_values.Statement.{statement}
 use Rattle.call_values.proofs.analyze_values.Tie as tie

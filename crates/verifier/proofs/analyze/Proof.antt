@@ -5,7 +5,7 @@ use Rattle.model.specs.Call.{Lent, lent, table, scratch}
 use Rattle.sheet_index.proofs.Found.{few-layouts, firsts-found, classes-found}
 use Rattle.call_admission.proofs.Asking.{admitted-lengths, turned-away}
 use Rattle.call_order.proofs.Cleared.{few-code}
-use Rattle.call_order.proofs.Call.{demanded}
+use Rattle.call_order.proofs.Order.{demanded}
 use borrow.Author.Needs.{needs}
 use Rattle.verifier.proofs.analyze.Statement.{statement}
 use Rattle.verifier.proofs.analyze.Tie as tie
