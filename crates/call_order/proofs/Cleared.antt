@@ -1,15 +1,18 @@
 -- Outputs and scratch that were cleared, and what the analyses are lent.
 -- Assumes nothing.
 use mathlib.Core.Path.{_≡_, refl, sym, ap, _∙_}
+use mathlib.Core.Bool.{Bool}
 use mathlib.Core.List.{List}
 use mathlib.Core.Option.{some}
 use Prim.Native.Nat.{ℕ, _≤_}
 use native.Mathlib.Omega.{arith}
 use lib.ListN.{length}
 use Rattle.model.specs.Sheet.{codeCount, localSlots, firstRange}
-use Rattle.model.specs.Charges.{Spent}
-use Rattle.model.specs.Analyses.{Analysed}
-use Rattle.model.specs.Call.{Table, Scratch, zeros, zeroTable}
+use Rattle.model.specs.Charges.{Spent, continue}
+use Rattle.model.specs.Fact.{Fact}
+use Rattle.model.specs.Analyses.{Analysed, stage}
+use Rattle.model.specs.Call.{Table, Scratch, roomFor, zeros, zeroTable}
+use Rattle.model.specs.declared.AnalysisKind.{AnalysisKind}
 use Rattle.model.specs.declared.Counts.{Counts}
 use Rattle.finality.proofs.Lengths.{zeros-length, SameLengths, zeros-same}
 use Rattle.memory.specs.Front.{Holds}
@@ -20,7 +23,7 @@ use Rattle.sheet.proofs.Counted.{counted}
 use Rattle.sheet.proofs.Limited.{limited}
 use Rattle.sheet_layouts.specs.Classes.{Classes}
 use Rattle.fixpoint_step.specs.Stepped.{SheetIndex}
-use Rattle.budget.specs.Outcome.{leaves, leavesOf}
+use Rattle.budget.specs.Outcome.{asSpent, leaves, leavesOf}
 use Rattle.budget.specs.declared.Outcome.{Outcome}
 use Rattle.stage_memory.specs.Stage.{zeroScratch}
 use Rattle.stage.specs.Staged.{ScratchZero, noCounts, StageLeft, staged, stagedBy}
@@ -62,6 +65,15 @@ clean sheet W e m s = rw e (record {
 })
 
 -- ---- what an analysis left
+
+-- the room of an output, with the scratch
+abbrev pub roomIn : List ℕ → Table → Scratch → ℕ → Bool
+roomIn sheet t w = roomFor (codeCount sheet) t (w .rowKinds) (w .rowValues) (w .workList)
+
+-- what `analyze_stage` promises
+abbrev pub StageEnds : AnalysisKind → List ℕ → (ℕ → Fact) → Outcome → Table → Scratch → Outcome → StageLeft → Type 0
+StageEnds which sheet f before T w o m =
+    some (leaves o m) ≡ leavesOf (stagedBy T w) (staged noCounts (zeroTable T) (zeroScratch w)) (continue (λ _. stage which sheet (roomIn sheet T w) f) (asSpent before))
 
 pub staged-same : {a b : Counts} {t u : Table} {v w : Scratch} → staged a t v ≡ staged b u w → (a ≡ b) × (t ≡ u) × (v ≡ w)
 staged-same e = (ap (λ (n : StageLeft). n .counted) e, ap (λ (n : StageLeft). n .output) e, ap (λ (n : StageLeft). n .scratch) e)

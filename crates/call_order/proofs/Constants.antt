@@ -3,17 +3,16 @@
 use mathlib.Core.Path.{_≡_, refl, sym, ap, _∙_, subst}
 use mathlib.Core.Bool.{Bool, false, false≢true}
 use mathlib.Core.List.{List}
-use mathlib.Core.Option.{some}
 use Prim.Native.Nat.{ℕ, _*_, _-_}
 use native.Mathlib.Omega.{arith}
 use lib.ListN.{length, take, replicate}
 use lib.Seq.{take-at}
 use Rattle.model.specs.Sheet.{codeCount, localSlots}
-use Rattle.model.specs.Charges.{Spent, ok, _>>=_, continue}
+use Rattle.model.specs.Charges.{ok, _>>=_, continue}
 use Rattle.model.specs.Fact.{Fact, kind, value}
 use Rattle.model.specs.Tables.{presentBytes, cells}
 use Rattle.model.specs.Analyses.{Analysed, stage}
-use Rattle.model.specs.Call.{Table, Scratch, roomFor, counts, tables, filled, zeroTable, filledTable}
+use Rattle.model.specs.Call.{Table, Scratch, counts, tables, filled, zeroTable, filledTable}
 use Rattle.model.specs.declared.VerifierResources.{VerifierResources}
 use Rattle.model.specs.declared.AnalysisKind.the-variants.{Constant}
 use Rattle.model.specs.declared.Counts.{Counts}
@@ -27,7 +26,7 @@ use Rattle.sheet.specs.Measured.{Accepted}
 use Rattle.sheet.proofs.Asked.{measured}
 use Rattle.sheet.proofs.Counted.{counted}
 use Rattle.sheet.proofs.Limited.{limited}
-use Rattle.budget.specs.Outcome.{refusing, leaves, leavesOf}
+use Rattle.budget.specs.Outcome.{asSpent, refusing}
 use Rattle.budget.specs.declared.Outcome.{Outcome}
 use Rattle.budget.proofs.Left.{Left, covered, stopped, left-by}
 use Rattle.stage_prepare.proofs.Closing.{few-below}
@@ -35,11 +34,11 @@ use Rattle.stage_memory.specs.Stage.{zeroScratch}
 use Rattle.stage.specs.Staged.{noCounts, staged, stagedBy}
 use Rattle.call_lengths.specs.Stored.{Stored}
 use Rattle.call_order.proofs.Then.{refusing-refused}
-use Rattle.call_order.proofs.Cleared.{staged-same}
+use Rattle.call_order.proofs.Cleared.{roomIn, StageEnds, staged-same}
 
 module _ (sheet : List ℕ) {sizes : Sizes} (accepted : Accepted sheet sizes) (old : Table) (w : Scratch) (f : ℕ → Fact) where
   abbrev enough : ℕ → Bool
-  enough = roomFor (codeCount sheet) old (w .rowKinds) (w .rowValues) (w .workList)
+  enough = roomIn sheet old w
 
   abbrev StoredIn : Analysed → Counts → Table → Type 0
   StoredIn x given t = Stored sheet x given (t .slots) (t .present) (t .kinds) (t .values)
@@ -74,23 +73,22 @@ module _ (sheet : List ℕ) {sizes : Sizes} (accepted : Accepted sheet sizes) (o
       front : (table xs : List ℕ) (k : ℕ) → length table ≡ k → take k (filled table xs) ≡ table
       front table xs k l = unfold filled in (take-at table (replicate (length xs - length table) 0) k l)
 
-  module _ (begun : Spent (Unit {0})) {given : Counts} {output : Table} {w′ : Scratch} where
+  module _ (before : Outcome) {given : Counts} {output : Table} {w′ : Scratch} where
     -- after whatever was covered before
-    pub stored : (x : Analysed) (after : VerifierResources) → continue (λ _. stage Constant sheet enough f) begun ≡ ok x after
+    pub stored : (x : Analysed) (after : VerifierResources) → continue (λ _. stage Constant sheet enough f) (asSpent before) ≡ ok x after
         → staged given output w′ ≡ stagedBy old w x → StoredIn x given output
     unfolding stagedBy _>>=_
     stored x after e m =
-        let parts = bound-parts {part = λ _. begun} {next = λ _. stage Constant sheet enough f} {budget = after} e in
+        let parts = bound-parts {part = λ _. asSpent before} {next = λ _. stage Constant sheet enough f} {budget = after} e in
         let same = staged-same m in
-        subst (λ (t : Table). StoredIn x given t) (sym (same .1)) (subst (λ (g : Counts). StoredIn x g (filledTable (tables x) old)) (sym (same .0)) (filled-stored (parts .rest) x after (parts .after)))
+        subst (λ (t : Table). StoredIn x given t) (sym (same .1))
+        (subst (λ (g : Counts). StoredIn x g (filledTable (tables x) old)) (sym (same .0)) (filled-stored (parts .rest) x after (parts .after)))
 
     -- an outcome that is no refusal tells that they are there
-    pub constants-stored : {outcome : Outcome}
-        → some (leaves outcome (staged given output w′)) ≡ leavesOf (stagedBy old w) (staged noCounts (zeroTable old) (zeroScratch w)) (continue (λ _. stage Constant sheet enough f) begun)
-        → refusing outcome ≡ false → (x : Analysed) × StoredIn x given output
-    constants-stored {outcome} e goes = go (left-by _ _ _ e)
+    pub constants-stored : {o : Outcome} → StageEnds Constant sheet f before old w o (staged given output w′) → refusing o ≡ false → (x : Analysed) × StoredIn x given output
+    constants-stored {o} e goes = go (left-by (stagedBy old w) _ _ e)
       where
-        go : Left (stagedBy old w) (staged noCounts (zeroTable old) (zeroScratch w)) (continue (λ _. stage Constant sheet enough f) begun) outcome (staged given output w′)
+        go : Left (stagedBy old w) (staged noCounts (zeroTable old) (zeroScratch w)) (continue (λ _. stage Constant sheet enough f) (asSpent before)) o (staged given output w′)
             → (x : Analysed) × StoredIn x given output
-        go (covered x left h o m) = (x, stored x left h m)
-        go (stopped refusal left h o m) = absurd (false≢true (sym goes ∙ ap refusing o ∙ refusing-refused refusal left))
+        go (covered x left h is m) = (x, stored x left h m)
+        go (stopped refusal left h is m) = absurd (false≢true (sym goes ∙ ap refusing is ∙ refusing-refused refusal left))

@@ -10,7 +10,7 @@ use Rattle.model.specs.Charges.{Spent, give, continue, _>>=_, _>>_, Refusal, ov
 use Rattle.model.specs.Fact.{unknown}
 use Rattle.model.specs.Tables.{lengthTable}
 use Rattle.model.specs.Analyses.{Analysed, lengthFacts, stage, Facts, analyses}
-use Rattle.model.specs.Call.{Table, Scratch, roomFor, counts, tables, zeroTable, filledTable, Lent, lent, tableOf, tableRoom, closureRoom, callEnd, afterSix, afterFive, call, answer, scratchZero, lentAfter, result, resultOf, analyzed}
+use Rattle.model.specs.Call.{Table, Scratch, counts, tables, zeroTable, filledTable, Lent, lent, tableOf, tableRoom, closureRoom, callEnd, afterSix, afterFive, call, answer, scratchZero, lentAfter, result, resultOf, analyzed}
 use Rattle.model.specs.declared.VerifierResources.{VerifierResources}
 use Rattle.model.specs.declared.AnalysisKind.the-variants.{Constant, IndexCheck, Container}
 use Rattle.model.specs.declared.Counts.{Counts}
@@ -27,7 +27,7 @@ use Rattle.call_order.specs.Values.{ValueFacts, valueFacts, values, valu
 use Rattle.call_order.specs.Answer.{countsUnless, answerOf}
 use Rattle.call_order.proofs.Then.{continue-twice, then-left, left-same}
 use Rattle.call_order.proofs.Same.{room-cleared, constants-same, index-same, containers-same}
-use Rattle.call_order.proofs.Cleared.{zero-same, staged-same, still-clear}
+use Rattle.call_order.proofs.Cleared.{zero-same, roomIn, StageEnds, staged-same, still-clear}
 use Rattle.call_order.proofs.Constants.{stored}
 use lib.ListN.{length}
 use borrow.Author.Tests.{le-leb}
@@ -37,18 +37,14 @@ use Rattle.model.specs.declared.Answer.the-variants.{Analyzed}
 use Rattle.finality.proofs.Lent.{analyzed-demand}
 use Rattle.budget.proofs.Left.{Left, covered, stopped, left-by}
 
--- the room of an output, with the scratch
-abbrev roomIn : List ℕ → Table → Scratch → ℕ → Bool
-roomIn sheet t w = roomFor (codeCount sheet) t (w .rowKinds) (w .rowValues) (w .workList)
-
 -- ---- constants and index
 
 -- what `analyze_values` promises, from what the functions that it calls promise
 module _ (sheet : List ℕ) {sizes : Sizes} (accepted : Accepted sheet sizes) (budget : VerifierResources) (C I : Table) (W : Scratch) (lk lv lk′ lv′ : List ℕ)
     (begun : Outcome) {o₁ o₂ : Outcome} {n₁ n₂ : Counts} {w w₁ w₂ : Scratch} {c₁ i₁ : Table} (wz : w ≡ zeroScratch W) (graph : asSpent begun ≡ chargeGraph sheet budget)
-    (e₁ : some (leaves o₁ (staged n₁ c₁ w₁)) ≡ leavesOf (stagedBy C w) (staged noCounts (zeroTable C) (zeroScratch w)) (continue (λ _. stage Constant sheet (roomIn sheet C w) (lengthTable lk lv)) (asSpent begun)))
+    (e₁ : StageEnds Constant sheet (lengthTable lk lv) begun C w o₁ (staged n₁ c₁ w₁))
     (lengths : refusing o₁ ≡ false → (x : Analysed) → Stored sheet x n₁ (c₁ .slots) (c₁ .present) (c₁ .kinds) (c₁ .values) → Lengthened sheet x lk lv lk′ lv′)
-    (e₂ : some (leaves o₂ (staged n₂ i₁ w₂)) ≡ leavesOf (stagedBy I w₁) (staged noCounts (zeroTable I) (zeroScratch w₁)) (continue (λ _. stage IndexCheck sheet (roomIn sheet I w₁) (lengthTable lk′ lv′)) (asSpent o₁)))
+    (e₂ : StageEnds IndexCheck sheet (lengthTable lk′ lv′) o₁ I w₁ o₂ (staged n₂ i₁ w₂))
     (same : SameLengths c₁ C) where
   c-zero : w₁ ≡ zeroScratch W
   c-zero = still-clear C W wz _ e₁
@@ -57,7 +53,8 @@ module _ (sheet : List ℕ) {sizes : Sizes} (accepted : Accepted sheet sizes) (b
   i-zero = still-clear I W c-zero _ e₂
 
   -- the charges and the constants
-  constants-first : continue (λ _. stage Constant sheet (roomIn sheet C w) (lengthTable lk lv)) (asSpent begun) ≡ continue (λ _. stage Constant sheet (roomIn sheet C W) (λ pc. unknown)) (chargeGraph sheet budget)
+  constants-first : continue (λ _. stage Constant sheet (roomIn sheet C w) (lengthTable lk lv)) (asSpent begun)
+      ≡ continue (λ _. stage Constant sheet (roomIn sheet C W) (λ pc. unknown)) (chargeGraph sheet budget)
   constants-first = rw (graph, constants-same sheet (room-cleared (codeCount sheet) C W wz) (lengthTable lk lv) (λ pc. unknown))
 
   values-twice : continue (λ x left. continue (λ y. give (valueFacts x y)) (stage IndexCheck sheet (roomIn sheet I W) (lengthFacts sheet x) left))
@@ -79,9 +76,10 @@ module _ (sheet : List ℕ) {sizes : Sizes} (accepted : Accepted sheet sizes) (b
       → some (leaves o₂ (valued constant n₂ c₂ i₁ w₂)) ≡ leavesOf (valuedBy C I W) (noValues C I W) (values sheet (roomIn sheet C W) (roomIn sheet I W) budget)
   unfolding refusing
   values-promise p q r =
-      rw (q, r, p, ← values-twice) (then-left valueFacts (stagedBy C w) _ (stagedBy I w₁) _ (valuedBy C I W) (noValues C I W) _ (λ x. stage IndexCheck sheet (roomIn sheet I W) (lengthFacts sheet x)) _ e₁ e₂
+      rw (q, r, p, ← values-twice) (then-left valueFacts (stagedBy C w) _ (stagedBy I w₁) _ (valuedBy C I W) (noValues C I W) _
+      (λ x. stage IndexCheck sheet (roomIn sheet I W) (lengthFacts sheet x)) _ e₁ e₂
       (λ x left h o m. ap (λ (s : _). s left) (index-same sheet (room-cleared (codeCount sheet) I W c-zero) (lengthTable lk′ lv′) (lengthFacts sheet x)
-      (lengths (ap refusing o) x (stored sheet accepted C w (lengthTable lk lv) (asSpent begun) x left h m) .read))) both-ended one-refused)
+      (lengths (ap refusing o) x (stored sheet accepted C w (lengthTable lk lv) begun x left h m) .read))) both-ended one-refused)
 
 -- ---- what the first two left
 
@@ -149,14 +147,15 @@ module _ (sheet : List ℕ) {sizes : Sizes} (accepted : Accepted sheet sizes) (b
       go (stopped refusal left h p m) = quit refusal left h p (ap (λ (x : CallLeft). x .lent) m)
 
   -- "Order: flow graph, dependencies, constants, index, containers.": the first two, then the third
-  values-first : continue (λ v left. continue (λ k. give (allFacts v k)) (stage Container sheet (roomIn sheet K W) (λ pc. unknown) left)) (values sheet (roomIn sheet C W) (roomIn sheet I W) budget)
+  values-first : continue (λ v left. continue (λ k. give (allFacts v k)) (stage Container sheet (roomIn sheet K W) (λ pc. unknown) left))
+      (values sheet (roomIn sheet C W) (roomIn sheet I W) budget)
       ≡ analyses sheet (tableRoom sheet L) budget
   unfolding analyses values chargeGraph tableRoom tableOf _>>=_ _>>_ continue give
   values-first = simp continue-twice
 
   module _ (uk uv : List ℕ) {o₂ o₃ : Outcome} {n₁ n₂ n₃ : Counts} {c₂ i₂ k₁ : Table} {w₂ w₃ : Scratch}
       (e₂ : some (leaves o₂ (valued n₁ n₂ c₂ i₂ w₂)) ≡ leavesOf (valuedBy C I W) (noValues C I W) (values sheet (roomIn sheet C W) (roomIn sheet I W) budget))
-      (e₃ : some (leaves o₃ (staged n₃ k₁ w₃)) ≡ leavesOf (stagedBy K w₂) (staged noCounts (zeroTable K) (zeroScratch w₂)) (continue (λ _. stage Container sheet (roomIn sheet K w₂) (lengthTable uk uv)) (asSpent o₂)))
+      (e₃ : StageEnds Container sheet (lengthTable uk uv) o₂ K w₂ o₃ (staged n₃ k₁ w₃))
       (same : SameLengths c₂ C) (same′ : SameLengths i₂ I) where
     w₂-zero : w₂ ≡ zeroScratch W
     w₂-zero = values-clear C I W _ e₂
@@ -178,7 +177,8 @@ module _ (sheet : List ℕ) {sizes : Sizes} (accepted : Accepted sheet sizes) (b
     pub call-promise : {given : Answer} {c₃ i₃ : Table} {z : Bool} → z ≡ refusing o₃ → c₃ ≡ tableIf z c₂ → i₃ ≡ tableIf z i₂ → given ≡ answerOf o₃ n₁ n₂ n₃
         → some (result given (lent c₃ i₃ k₁ w₃)) ≡ analyzed sheet budget (lent C I K W)
     call-promise p q r a =
-        rw (a, q, r, p, analyzed-is, ← values-first) (answered _ (then-left allFacts (valuedBy C I W) _ (stagedBy K w₂) _ filledBy _ _ (λ v. stage Container sheet (roomIn sheet K W) (λ pc. unknown)) _ e₂ e₃
+        rw (a, q, r, p, analyzed-is, ← values-first) (answered _ (then-left allFacts (valuedBy C I W) _ (stagedBy K w₂) _ filledBy _ _
+        (λ v. stage Container sheet (roomIn sheet K W) (λ pc. unknown)) _ e₂ e₃
         (λ v left h o m. ap (λ (s : _). s left) (containers-same sheet (room-cleared (codeCount sheet) K W w₂-zero) (lengthTable uk uv) (λ pc. unknown))) all-ended any-refused))
 
 -- demand 3 of an answer with facts
