@@ -11,13 +11,16 @@ use lib.Dec.{leb, ltb}
 use lib.ListN.{length, set}
 use borrow.Author.Tests.{le-leb, lt-leb, lt-ltb, le-ltb}
 use Rattle.model.specs.Sheet.{codeCount, localSlots, layoutCount, sheetRefusal}
-use Rattle.model.specs.Charges.{overBudget, noRoom, Spent, ok, stop, unfinished}
+use Rattle.model.specs.Charges.{ok}
 use Rattle.model.specs.Closure.{trackedSlots}
 use Rattle.model.specs.Call.{zeros}
 use Rattle.model.specs.Listing.{lowest}
 use Rattle.model.specs.declared.VerifierResources.{VerifierResources}
 use Rattle.model.specs.declared.AnalysisKind.{AnalysisKind}
 use Rattle.model.specs.declared.AnalysisKind.the-variants.{Constant, IndexCheck, Container}
+use Rattle.budget.specs.Outcome.{leaves, leavesOf}
+use Rattle.budget.specs.declared.Outcome.{Outcome}
+use Rattle.budget.proofs.Left.{Left, covered, stopped, left-by}
 use Rattle.sheet.specs.Sizes.{sizesOf}
 use Rattle.sheet.specs.Measured.{Measured, Accepted}
 use Rattle.sheet.specs.declared.Sizes.{Sizes}
@@ -31,47 +34,29 @@ use Rattle.call_admission.specs.Admitted.{admittedIf, admissionOf, admission}
 use Rattle.call_admission.specs.declared.Admission.{Admission}
 use Rattle.call_admission.specs.declared.Admission.the-variants as A
 use Rattle.call_admission.proofs.Asking.{admitted-lengths}
-use Rattle.closure.specs.Closed.{Ended, closedTo, closedOf}
-use Rattle.closure.specs.declared.Closed.{Closed}
-use Rattle.closure.specs.declared.Closed.the-variants.{Tracked, Refused}
+use Rattle.closure.specs.Closed.{Closed, closed, closedBy}
 use Rattle.finality.proofs.Lengths.{zeros-length, zeros-same}
 use Rattle.model.specs.Interface.{looked, inFront}
 use Rattle.model.specs.Room.{closureSlots, room, roomNumbers, roomIf, roomAfterFive, roomOf, lowestIf, lowestAfterFive, lowestOf}
-use Rattle.export_loader.proofs.Free.{slots-same, slots-given}
+use Rattle.export_loader.proofs.Free.{slots-given}
 
 -- ---- the s of one analysis
 
-first-part : {a b : Closed} {x y : List ℕ} → closedTo a x ≡ closedTo b y → a ≡ b
-first-part {a} {b} {x} {y} e =
-    let p : _≡_ {A = Ended} (record { answer = a; slots = x }) (record { answer = b; slots = y }) = cc in ap (λ (r : Ended). r .answer) p
-
-module _ (which : AnalysisKind) (sheet : List ℕ) (budget : VerifierResources) (old : List ℕ) {closed : Closed} {slots : List ℕ}
-    (e : closedTo closed slots ≡ closedOf old (trackedSlots which sheet budget)) where
-  -- whatever the budget
-  pub counted-slots : {s : ℕ} {left : VerifierResources} → closed ≡ Tracked s left → s ≡ length (closureSlots which sheet)
-  counted-slots {s} c = go (trackedSlots which sheet budget) refl e
-    where
-      go : (r : Spent (List ℕ)) → trackedSlots which sheet budget ≡ r → closedTo closed slots ≡ closedOf old r → s ≡ length (closureSlots which sheet)
-      go (ok found rest) h p = unfold closedOf in (
-          let a = first-part p in
-          let q : s ≡ length found = cc in
-          q ∙ ap length (slots-same which sheet budget found rest h))
-      go (stop (overBudget stage requested remaining) rest) h p = unfold closedOf in (let a = first-part p in let z : _≡_ {A = ℕ} 0 1 = cc in absurd (omega arith))
-      go (stop noRoom rest) h p = unfold closedOf in (let z : _≡_ {A = ℕ} 0 1 = cc in absurd (omega arith))
-      go unfinished h p = unfold closedOf in (let z : _≡_ {A = ℕ} 0 1 = cc in absurd (omega arith))
-
-  -- from enough: 3 bytes for each of 65,535 slots, and the work of 2 edges for each of them and each of 4,096 instructions
-  pub not-refused : {sizes : Sizes} → Measured sheet sizes → 196605 ≤ budget .bytes → 536862720 ≤ budget .work
-      → {requested remaining : ℕ} {left : VerifierResources} → closed ≡ Refused requested remaining left → ⊥
-  unfolding closedOf
-  not-refused m bytes work c =
-      let n = counted (m .are) in
-      let l = limited m in
-      let p : localSlots sheet ≤ 65535 = omega (arith, n .local-slots, l .local-slots) in
-      let q : 2 * codeCount sheet ≤ 8192 = omega (arith, n .code-count, l .code-count) in
-      let g = slots-given which sheet budget (omega arith) (omega (arith, mul-le-mul p q)) in
-      let a : closed ≡ Tracked (length (closureSlots which sheet)) (g .left) = first-part (e ∙ ap (closedOf old) (g .is)) in
-      let z : _≡_ {A = ℕ} 0 1 = cc in omega arith
+-- From enough: 3 bytes for each of 65,535 slots, and the work of 2 edges for each of them and each of 4,096 instructions.
+pub counted-slots : (which : AnalysisKind) (sheet : List ℕ) (budget : VerifierResources) {sizes : Sizes} (old : List ℕ) {outcome : Outcome} {s : ℕ} {slots : List ℕ}
+    → some (leaves outcome (closed s slots)) ≡ leavesOf (closedBy old) (closed 0 old) (trackedSlots which sheet budget)
+    → Measured sheet sizes → 196605 ≤ budget .bytes → 536862720 ≤ budget .work → s ≡ length (closureSlots which sheet)
+counted-slots which sheet budget old {outcome} {s} {slots} e m bytes work =
+    let n = counted (m .are) in
+    let l = limited m in
+    let p : localSlots sheet ≤ 65535 = omega (arith, n .local-slots, l .local-slots) in
+    let q : 2 * codeCount sheet ≤ 8192 = omega (arith, n .code-count, l .code-count) in
+    let g = slots-given which sheet budget (omega arith) (omega (arith, mul-le-mul p q)) in
+    go (left-by _ _ _ (rw (g .is) at e))
+  where
+    go : {left : VerifierResources} → Left (closedBy old) (closed 0 old) (ok (closureSlots which sheet) left) outcome (closed s slots) → s ≡ length (closureSlots which sheet)
+    go (covered found rest c o k) = let same : found ≡ closureSlots which sheet = cc in ap (λ (x : Closed). x .s) k ∙ ap length same
+    go (stopped refusal rest c o k) = let z : _≡_ {A = ℕ} 0 1 = cc in absurd (omega arith)
 
 -- marks or a stack that are as they were: zero, and as long
 module _ {old new : List ℕ} (e : new ≡ old) where

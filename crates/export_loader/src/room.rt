@@ -10,7 +10,6 @@ ghost use Rattle.model.specs.Interface.{inFront};
 ghost use Rattle.model.specs.Room.{closureSlots, room, roomNumbers, roomOf};
 use call_admission::Admission;
 use call_admission::admit;
-use closure::Closed;
 use closure::tracked_slots;
 use memory::clear_u8;
 use memory::clear_u16;
@@ -27,8 +26,13 @@ fn count_tracked(
     marks: &mut [u8],
     stack: &mut [u16],
 ) -> u64
-    requires { ⌜ Measured (now sheet) sizes × (sizes .«local_slots» ≤ length (now marks)) × (sizes .«local_slots» ≤ length (now stack)) × (now marks ≡ zeros (now marks)) × (now stack ≡ zeros (now stack)) ⌝ }
-    ensures { λ r. ⌜ (r ≡ length (closureSlots which (now (sheet .entry)))) × (now (marks .exit) ≡ now (marks .entry)) × (now (stack .exit) ≡ now (stack .entry)) ⌝ }
+    requires { ⌜ (
+        Measured (now sheet) sizes × (sizes .«local_slots» ≤ length (now marks)) × (sizes .«local_slots» ≤ length (now stack))
+        × (now marks ≡ zeros (now marks)) × (now stack ≡ zeros (now stack))
+        ) ⌝ }
+    ensures { λ r. ⌜ (
+        (r ≡ length (closureSlots which (now (sheet .entry)))) × (now (marks .exit) ≡ now (marks .entry)) × (now (stack .exit) ≡ now (stack .entry))
+        ) ⌝ }
 {
     let plenty = VerifierResources {
         bytes: u64::MAX,
@@ -37,14 +41,7 @@ fn count_tracked(
     // The slots are not wanted: where they do not fit, they are only counted.
     let mut slots = [0u16; 1];
     let closed = tracked_slots(which, sheet, sizes, plenty, marks, stack, &mut slots);
-    match closed {
-        Closed::Tracked { s, left: _ } => s as u64,
-        Closed::Refused {
-            requested: _,
-            remaining: _,
-            left: _,
-        } => 0,
-    }
+    closed.s as u64
 }
 
 // Four numbers at the front of out, which keeps those behind them.
@@ -60,8 +57,14 @@ fn put_four(n: u64, constant: u64, index: u64, container: u64, out: &mut [u64])
 
 // n and the s of each analysis, by marks and stack that are zero, before and after.
 fn put_counts(sheet: &[u8], sizes: Sizes, marks: &mut [u8], stack: &mut [u16], out: &mut [u64])
-    requires { ⌜ Measured (now sheet) sizes × (sizes .«local_slots» ≤ length (now marks)) × (sizes .«local_slots» ≤ length (now stack)) × (now marks ≡ zeros (now marks)) × (now stack ≡ zeros (now stack)) × (4 ≤ length (now out)) ⌝ }
-    ensures { λ r. ⌜ (now (marks .exit) ≡ now (marks .entry)) × (now (stack .exit) ≡ now (stack .entry)) × (now (out .exit) ≡ inFront (roomNumbers (now (sheet .entry))) (now (out .entry))) ⌝ }
+    requires { ⌜ (
+        Measured (now sheet) sizes × (sizes .«local_slots» ≤ length (now marks)) × (sizes .«local_slots» ≤ length (now stack))
+        × (now marks ≡ zeros (now marks)) × (now stack ≡ zeros (now stack)) × (4 ≤ length (now out))
+        ) ⌝ }
+    ensures { λ r. ⌜ (
+        (now (marks .exit) ≡ now (marks .entry)) × (now (stack .exit) ≡ now (stack .entry))
+        × (now (out .exit) ≡ inFront (roomNumbers (now (sheet .entry))) (now (out .entry)))
+        ) ⌝ }
 {
     let constant = count_tracked(AnalysisKind::Constant, sheet, sizes, marks, stack);
     let index = count_tracked(AnalysisKind::IndexCheck, sheet, sizes, marks, stack);
@@ -71,8 +74,13 @@ fn put_counts(sheet: &[u8], sizes: Sizes, marks: &mut [u8], stack: &mut [u16], o
 
 // The same, with marks and stack cleared first.
 fn put_room(sheet: &[u8], sizes: Sizes, marks: &mut [u8], stack: &mut [u16], out: &mut [u64])
-    requires { ⌜ Measured (now sheet) sizes × (sizes .«local_slots» ≤ length (now marks)) × (sizes .«local_slots» ≤ length (now stack)) × (4 ≤ length (now out)) ⌝ }
-    ensures { λ r. ⌜ (now (marks .exit) ≡ zeros (now (marks .entry))) × (now (stack .exit) ≡ zeros (now (stack .entry))) × (now (out .exit) ≡ inFront (roomNumbers (now (sheet .entry))) (now (out .entry))) ⌝ }
+    requires { ⌜ (
+        Measured (now sheet) sizes × (sizes .«local_slots» ≤ length (now marks)) × (sizes .«local_slots» ≤ length (now stack)) × (4 ≤ length (now out))
+        ) ⌝ }
+    ensures { λ r. ⌜ (
+        (now (marks .exit) ≡ zeros (now (marks .entry))) × (now (stack .exit) ≡ zeros (now (stack .entry)))
+        × (now (out .exit) ≡ inFront (roomNumbers (now (sheet .entry))) (now (out .entry)))
+        ) ⌝ }
 {
     clear_u8(marks);
     clear_u16(stack);
@@ -82,7 +90,10 @@ fn put_room(sheet: &[u8], sizes: Sizes, marks: &mut [u8], stack: &mut [u16], out
 // 0 with n and the s of each analysis at the front of out; the number of the first of the questions 1 to 6 that refuses; 255 where out has fewer
 // than 4 entries.
 pub fn room_of(sheet: &[u8], marks: &mut [u8], stack: &mut [u16], out: &mut [u64]) -> u8
-    ensures { λ r. ⌜ room r (now (marks .exit)) (now (stack .exit)) (now (out .exit)) ≡ roomOf (leb 4 (length (now (out .entry)))) (now (sheet .entry)) (now (marks .entry)) (now (stack .entry)) (now (out .entry)) ⌝ }
+    ensures { λ r. ⌜ (
+        room r (now (marks .exit)) (now (stack .exit)) (now (out .exit))
+        ≡ roomOf (leb 4 (length (now (out .entry)))) (now (sheet .entry)) (now (marks .entry)) (now (stack .entry)) (now (out .entry))
+        ) ⌝ }
 {
     if out.len() < 4 {
         return 255;
