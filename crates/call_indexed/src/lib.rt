@@ -4,10 +4,13 @@ ghost use mathlib.Core.Option.{some};
 ghost use Prim.Native.Nat.{_≤_};
 ghost use lib.ListN.{length};
 ghost use Rattle.model.specs.Sheet.{codeCount, firstRange, localSlots};
-ghost use Rattle.model.specs.Call.{table, scratch, lent, result, analyzed};
+ghost use Rattle.model.specs.Call.{result, analyzed};
+ghost use Rattle.model.specs.Promise.{lentTable, lentScratch, lentCall};
 ghost use Rattle.memory.specs.Front.{Holds};
 ghost use Rattle.sheet.specs.Measured.{Accepted};
 ghost use Rattle.sheet_layouts.specs.Classes.{Classes};
+use budget::refuses;
+use call_order::answer_of;
 use call_values::analyze_values;
 use model::AnalysisKind;
 use model::Answer;
@@ -15,10 +18,9 @@ use model::VerifierResources;
 use sheet::Sizes;
 use stage::analyze_stage;
 use stage_memory::clear_table_if;
-use stage_outcome::refuses;
 
 // The call of a sheet that questions 1 to 5 accept, with what `index_sheet` finds of it, and marks and stack that have room ("6. Have the marks and
-// the closure's stack at least L entries each?").
+// the closure's stack at least L entries each?"). It promises what `analyze` promises.
 pub fn analyze_indexed(
     sheet: &[u8],
     sizes: Sizes,
@@ -44,23 +46,16 @@ pub fn analyze_indexed(
     work_list: &mut [u16],
 ) -> Answer
     requires { ⌜ (
-        Accepted (now sheet) sizes
-        × Holds (firstRange (now sheet)) (codeCount (now sheet)) (now firsts)
-        × Classes (now sheet) (now classes)
-        × (localSlots (now sheet) ≤ length (now marks))
-        × (localSlots (now sheet) ≤ length (now stack))
+        Accepted (now sheet) sizes × Holds (firstRange (now sheet)) (codeCount (now sheet)) (now firsts) × Classes (now sheet) (now classes)
+        × (localSlots (now sheet) ≤ length (now marks)) × (localSlots (now sheet) ≤ length (now stack))
         ) ⌝ }
     ensures { λ r. ⌜ (
-        some (result r (
-        lent (table (now («constant_slots» .exit)) (now («constant_present» .exit)) (now («constant_kinds» .exit)) (now («constant_values» .exit)))
-        (table (now («index_slots» .exit)) (now («index_present» .exit)) (now («index_kinds» .exit)) (now («index_values» .exit)))
-        (table (now («container_slots» .exit)) (now («container_present» .exit)) (now («container_kinds» .exit)) (now («container_values» .exit)))
-        (scratch (now (marks .exit)) (now (stack .exit)) (now («row_kinds» .exit)) (now («row_values» .exit)) (now («work_list» .exit)))))
-        ≡ analyzed (now (sheet .entry)) resources (
-        lent (table (now («constant_slots» .entry)) (now («constant_present» .entry)) (now («constant_kinds» .entry)) (now («constant_values» .entry)))
-        (table (now («index_slots» .entry)) (now («index_present» .entry)) (now («index_kinds» .entry)) (now («index_values» .entry)))
-        (table (now («container_slots» .entry)) (now («container_present» .entry)) (now («container_kinds» .entry)) (now («container_values» .entry)))
-        (scratch (now (marks .entry)) (now (stack .entry)) (now («row_kinds» .entry)) (now («row_values» .entry)) (now («work_list» .entry))))
+        let l = lentCall
+        (lentTable «constant_slots» «constant_present» «constant_kinds» «constant_values»)
+        (lentTable «index_slots» «index_present» «index_kinds» «index_values»)
+        (lentTable «container_slots» «container_present» «container_kinds» «container_values»)
+        (lentScratch marks stack «row_kinds» «row_values» «work_list») in
+        some (result r (l .exit)) ≡ analyzed (now (sheet .entry)) resources (l .entry)
         ) ⌝ }
 {
     let values = analyze_values(
@@ -83,11 +78,12 @@ pub fn analyze_indexed(
         row_values,
         work_list,
     );
+    let ended = values.outcome;
     // "for index, the ended constant run": to the containers no length is known.
     let unknown_kinds = [0u8; 4096];
     let unknown_values = [0u16; 4096];
-    let answer = analyze_stage(
-        values,
+    let containers = analyze_stage(
+        ended,
         AnalysisKind::Container,
         sheet,
         sizes,
@@ -105,20 +101,21 @@ pub fn analyze_indexed(
         row_values,
         work_list,
     );
-    let cleared = refuses(answer);
+    let outcome = containers.outcome;
+    let refused = refuses(outcome);
     clear_table_if(
-        cleared,
+        refused,
         constant_slots,
         constant_present,
         constant_kinds,
         constant_values,
     );
     clear_table_if(
-        cleared,
+        refused,
         index_slots,
         index_present,
         index_kinds,
         index_values,
     );
-    answer
+    answer_of(outcome, values.constant, values.index, containers.counts)
 }

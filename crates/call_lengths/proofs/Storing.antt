@@ -11,14 +11,9 @@ use Rattle.model.specs.Sheet.{codeCount, instruction}
 use Rattle.model.specs.Fact.{Row}
 use Rattle.model.specs.Analyses.{Analysed, lengthFacts}
 use Rattle.model.specs.Transfer.{checkedFrom}
-use mathlib.Core.Bool.{true, false≢true}
 use Rattle.model.specs.declared.Counts.{Counts}
-use Rattle.model.specs.declared.VerifierResources.{VerifierResources}
-use Rattle.model.specs.declared.Answer.{Answer}
-use Rattle.model.specs.declared.Answer.the-variants.{Analyzed, Invalid, OverBudget, NoRoom}
 use Rattle.call_lengths.specs.Lengths.{EndedRows, lengthKinds, lengthValues}
 use Rattle.model.specs.Tables.{lengthTable}
-use Rattle.stage_outcome.specs.Answers.{refusing}
 use Rattle.call_lengths.specs.Stored.{Stored, Lengthened}
 
 module _ {sheet : List ℕ} {a : Analysed} {given : Counts} {slots present kinds values : List ℕ} (st : Stored sheet a given slots present kinds values) {n s : ℕ} (all : n ≡ codeCount sheet)
@@ -71,22 +66,3 @@ module _ {sheet : List ℕ} {a : Analysed} {given : Counts} {slots present kinds
 
 pub stored-cells-fit : (n s : ℕ) → n ≤ 4096 → s ≤ 65535 → n * s < 2 ^ 64
 stored-cells-fit n s h k = omega (arith, mul-le-mul-right s h)
-
--- ---- the cases of the answer so far
-
-module _ {before : Answer} {constant index container : Counts} {left : VerifierResources} where
-  pub tracked-same : {c i k : Counts} {l : VerifierResources} → before ≡ Analyzed constant index container left → before ≡ Analyzed c i k l → constant .tracked ≡ c .tracked
-  tracked-same {c} p q = let e : constant ≡ c = cc in ap (λ (x : Counts). x .tracked) e
-
-  pub not-refusing : {A : Type 0} → before ≡ Analyzed constant index container left → refusing before ≡ true → A
-  unfolding refusing
-  not-refusing p q = absurd (false≢true (rw p at q))
-
-  pub not-analyzed-1 : {A : Type 0} {number : ℕ} {l : VerifierResources} → before ≡ Invalid number l → before ≡ Analyzed constant index container left → A
-  not-analyzed-1 p q = let z : _≡_ {A = ℕ} 0 1 = cc in absurd (omega arith)
-
-  pub not-analyzed-2 : {A : Type 0} {number requested remaining : ℕ} {l : VerifierResources} → before ≡ OverBudget number requested remaining l → before ≡ Analyzed constant index container left → A
-  not-analyzed-2 p q = let z : _≡_ {A = ℕ} 0 1 = cc in absurd (omega arith)
-
-  pub not-analyzed-3 : {A : Type 0} {l : VerifierResources} → before ≡ NoRoom l → before ≡ Analyzed constant index container left → A
-  not-analyzed-3 p q = let z : _≡_ {A = ℕ} 0 1 = cc in absurd (omega arith)

@@ -31,7 +31,10 @@ fn row_fact(
     slot: usize,
 ) -> FactCell
     requires { ⌜ ((rows : List (Option Row)) × EndedRows (now slots) rows (now present) (now kinds) (now values)) × (pc < length (now present)) ⌝ }
-    ensures { λ r. ⌜ ((rows : List (Option Row)) → EndedRows (now (slots .entry)) rows (now (present .entry)) (now (kinds .entry)) (now (values .entry)) → r ≡ cellOf (rowFact (now (slots .entry)) (rowAt rows pc) slot)) ⌝ }
+    ensures { λ r. ⌜ (
+        (rows : List (Option Row)) → EndedRows (now (slots .entry)) rows (now (present .entry)) (now (kinds .entry)) (now (values .entry))
+        → r ≡ cellOf (rowFact (now (slots .entry)) (rowAt rows pc) slot)
+        ) ⌝ }
 {
     if present[pc] == 0 {
         return unknown_cell();
@@ -58,7 +61,10 @@ fn length_fact(
 ) -> FactCell
     requires { ⌜ Measured (now sheet) sizes × ((rows : List (Option Row)) × EndedRows (now slots) rows (now present) (now kinds) (now values)) ⌝ }
     requires { ⌜ (pc < sizes .«code_count») × (length (now present) ≡ sizes .«code_count») ⌝ }
-    ensures { λ r. ⌜ ((rows : List (Option Row)) → EndedRows (now (slots .entry)) rows (now (present .entry)) (now (kinds .entry)) (now (values .entry)) → r ≡ cellOf (lengthFact (now (sheet .entry)) (now (slots .entry)) rows pc)) ⌝ }
+    ensures { λ r. ⌜ (
+        (rows : List (Option Row)) → EndedRows (now (slots .entry)) rows (now (present .entry)) (now (kinds .entry)) (now (values .entry))
+        → r ≡ cellOf (lengthFact (now (sheet .entry)) (now (slots .entry)) rows pc)
+        ) ⌝ }
 {
     let inst = sheet_fields::instruction_at(sheet, pc);
     if inst.op == INDEX_CHECK {
@@ -81,8 +87,17 @@ pub fn length_facts(
 )
     requires { ⌜ Measured (now sheet) sizes × ((rows : List (Option Row)) × EndedRows (now slots) rows (now present) (now kinds) (now values)) ⌝ }
     requires { ⌜ (length (now present) ≡ sizes .«code_count») × (sizes .«code_count» ≤ length (now «out_kinds»)) × (sizes .«code_count» ≤ length (now «out_values»)) ⌝ }
-    ensures stored { λ r. ⌜ ((rows : List (Option Row)) → EndedRows (now (slots .entry)) rows (now (present .entry)) (now (kinds .entry)) (now (values .entry)) → (now («out_kinds» .exit) ≡ lengthKinds (now (sheet .entry)) (now (slots .entry)) rows (now («out_kinds» .entry))) × (now («out_values» .exit) ≡ lengthValues (now (sheet .entry)) (now (slots .entry)) rows (now («out_values» .entry)))) ⌝ }
-    ensures read { λ r. ⌜ ((constants : Analysed) → constants .slots ≡ now (slots .entry) → EndedRows (now (slots .entry)) (constants .rows) (now (present .entry)) (now (kinds .entry)) (now (values .entry)) → (pc : ℕ) → pc < codeCount (now (sheet .entry)) → instruction (now (sheet .entry)) pc .op ≡ 121 → checkedFrom (lengthTable (now («out_kinds» .exit)) (now («out_values» .exit)) pc) ≡ checkedFrom (lengthFacts (now (sheet .entry)) constants pc)) ⌝ }
+    ensures stored { λ r. ⌜ (
+        (rows : List (Option Row)) → EndedRows (now (slots .entry)) rows (now (present .entry)) (now (kinds .entry)) (now (values .entry))
+        → (now («out_kinds» .exit) ≡ lengthKinds (now (sheet .entry)) (now (slots .entry)) rows (now («out_kinds» .entry)))
+        × (now («out_values» .exit) ≡ lengthValues (now (sheet .entry)) (now (slots .entry)) rows (now («out_values» .entry)))
+        ) ⌝ }
+    ensures read { λ r. ⌜ (
+        (constants : Analysed) → constants .slots ≡ now (slots .entry)
+        → EndedRows (now (slots .entry)) (constants .rows) (now (present .entry)) (now (kinds .entry)) (now (values .entry))
+        → (pc : ℕ) → pc < codeCount (now (sheet .entry)) → instruction (now (sheet .entry)) pc .op ≡ 121
+        → checkedFrom (lengthTable (now («out_kinds» .exit)) (now («out_values» .exit)) pc) ≡ checkedFrom (lengthFacts (now (sheet .entry)) constants pc)
+        ) ⌝ }
 {
     let n = sizes.code_count;
     let mut pc = 0;

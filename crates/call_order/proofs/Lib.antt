@@ -1,9 +1,6 @@
+-- The laws of this crate.
+pub mod Then
 pub mod Same
-pub mod Zeroed
-pub mod Steps
+pub mod Cleared
 pub mod Constants
 pub mod Order
-pub mod Two
-pub mod Nexting
-pub mod Ready
-pub mod Whole

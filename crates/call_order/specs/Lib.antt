@@ -1,2 +1,3 @@
--- The first two analyses, and the third after them
+-- The first two analyses, and the answer of all three
 pub mod Values
+pub mod Answer

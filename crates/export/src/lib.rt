@@ -8,7 +8,7 @@ ghost use lib.Dec.{leb};
 ghost use lib.ListN.{length};
 ghost use Rattle.model.specs.Lookup.{factForSlot, isReachable, fixed};
 ghost use Rattle.model.specs.declared.AnalysisKind.the-variants.{Constant, IndexCheck, Container};
-ghost use Rattle.model.specs.Call.{table, scratch, lent};
+ghost use Rattle.model.specs.Promise.{lentTable, lentScratch, lentCall};
 ghost use Rattle.model.specs.Interface.{exported, exportedOf, looked, lookedUp, reachedNumber};
 use export_numbers::put_answer;
 use export_numbers::put_slot_fact;
@@ -47,7 +47,15 @@ pub extern "C" fn vo_facts_analyze(
     work_list: &mut [u16],
     answer: &mut [u64],
 ) -> u8
-    ensures { λ r. ⌜ some (exported r (lent (table (now («constant_slots» .exit)) (now («constant_present» .exit)) (now («constant_kinds» .exit)) (now («constant_values» .exit))) (table (now («index_slots» .exit)) (now («index_present» .exit)) (now («index_kinds» .exit)) (now («index_values» .exit))) (table (now («container_slots» .exit)) (now («container_present» .exit)) (now («container_kinds» .exit)) (now («container_values» .exit))) (scratch (now (marks .exit)) (now (stack .exit)) (now («row_kinds» .exit)) (now («row_values» .exit)) (now («work_list» .exit)))) (now (answer .exit))) ≡ exportedOf (leb 12 (length (now (answer .entry)))) (now (sheet .entry)) (record { bytes = bytes; work = work }) (lent (table (now («constant_slots» .entry)) (now («constant_present» .entry)) (now («constant_kinds» .entry)) (now («constant_values» .entry))) (table (now («index_slots» .entry)) (now («index_present» .entry)) (now («index_kinds» .entry)) (now («index_values» .entry))) (table (now («container_slots» .entry)) (now («container_present» .entry)) (now («container_kinds» .entry)) (now («container_values» .entry))) (scratch (now (marks .entry)) (now (stack .entry)) (now («row_kinds» .entry)) (now («row_values» .entry)) (now («work_list» .entry)))) (now (answer .entry)) ⌝ }
+    ensures { λ r. ⌜ (
+        let l = lentCall
+        (lentTable «constant_slots» «constant_present» «constant_kinds» «constant_values»)
+        (lentTable «index_slots» «index_present» «index_kinds» «index_values»)
+        (lentTable «container_slots» «container_present» «container_kinds» «container_values»)
+        (lentScratch marks stack «row_kinds» «row_values» «work_list») in
+        some (exported r (l .exit) (now (answer .exit)))
+        ≡ exportedOf (leb 12 (length (now (answer .entry)))) (now (sheet .entry)) (record { bytes = bytes; work = work }) (l .entry) (now (answer .entry))
+        ) ⌝ }
 {
     if answer.len() < 12 {
         return 255;
@@ -87,7 +95,10 @@ pub extern "C" fn vo_facts_constant(
     slot: u16,
     out: &mut [u64],
 ) -> u8
-    ensures { λ r. ⌜ looked r (now (out .exit)) ≡ lookedUp (leb 2 (length (now (out .entry)))) (factForSlot Constant (now (slots .entry)) (now (present .entry)) (now (kinds .entry)) (now (values .entry)) pc slot) (now (out .entry)) ⌝ }
+    ensures { λ r. ⌜ (
+        let fact = factForSlot Constant (now (slots .entry)) (now (present .entry)) (now (kinds .entry)) (now (values .entry)) pc slot in
+        looked r (now (out .exit)) ≡ lookedUp (leb 2 (length (now (out .entry)))) fact (now (out .entry))
+        ) ⌝ }
 {
     let fact = constant_fact_for_slot(slots, present, kinds, values, pc, slot);
     put_slot_fact(fact, out)
@@ -104,7 +115,10 @@ pub extern "C" fn vo_facts_index_check(
     slot: u16,
     out: &mut [u64],
 ) -> u8
-    ensures { λ r. ⌜ looked r (now (out .exit)) ≡ lookedUp (leb 2 (length (now (out .entry)))) (factForSlot IndexCheck (now (slots .entry)) (now (present .entry)) (now (kinds .entry)) (now (values .entry)) pc slot) (now (out .entry)) ⌝ }
+    ensures { λ r. ⌜ (
+        let fact = factForSlot IndexCheck (now (slots .entry)) (now (present .entry)) (now (kinds .entry)) (now (values .entry)) pc slot in
+        looked r (now (out .exit)) ≡ lookedUp (leb 2 (length (now (out .entry)))) fact (now (out .entry))
+        ) ⌝ }
 {
     let fact = index_check_fact_for_slot(slots, present, kinds, values, pc, slot);
     put_slot_fact(fact, out)
@@ -121,7 +135,10 @@ pub extern "C" fn vo_facts_container(
     slot: u16,
     out: &mut [u64],
 ) -> u8
-    ensures { λ r. ⌜ looked r (now (out .exit)) ≡ lookedUp (leb 2 (length (now (out .entry)))) (factForSlot Container (now (slots .entry)) (now (present .entry)) (now (kinds .entry)) (now (values .entry)) pc slot) (now (out .entry)) ⌝ }
+    ensures { λ r. ⌜ (
+        let fact = factForSlot Container (now (slots .entry)) (now (present .entry)) (now (kinds .entry)) (now (values .entry)) pc slot in
+        looked r (now (out .exit)) ≡ lookedUp (leb 2 (length (now (out .entry)))) fact (now (out .entry))
+        ) ⌝ }
 {
     let fact = container_fact_for_slot(slots, present, kinds, values, pc, slot);
     put_slot_fact(fact, out)
@@ -137,7 +154,10 @@ pub extern "C" fn vo_facts_fixed(
     slot: u16,
     out: &mut [u64],
 ) -> u8
-    ensures { λ r. ⌜ looked r (now (out .exit)) ≡ lookedUp (leb 2 (length (now (out .entry)))) (fixed (now (slots .entry)) (now (present .entry)) (now (kinds .entry)) (now (values .entry)) slot) (now (out .entry)) ⌝ }
+    ensures { λ r. ⌜ (
+        let fact = fixed (now (slots .entry)) (now (present .entry)) (now (kinds .entry)) (now (values .entry)) slot in
+        looked r (now (out .exit)) ≡ lookedUp (leb 2 (length (now (out .entry)))) fact (now (out .entry))
+        ) ⌝ }
 {
     let fact = fixed_fact(slots, present, kinds, values, slot);
     put_slot_fact(fact, out)

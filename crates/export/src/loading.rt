@@ -19,7 +19,10 @@ pub extern "C" fn vo_facts_room(
     stack: &mut [u16],
     out: &mut [u64],
 ) -> u8
-    ensures { λ r. ⌜ room r (now (marks .exit)) (now (stack .exit)) (now (out .exit)) ≡ roomOf (leb 4 (length (now (out .entry)))) (now (sheet .entry)) (now (marks .entry)) (now (stack .entry)) (now (out .entry)) ⌝ }
+    ensures { λ r. ⌜ (
+        room r (now (marks .exit)) (now (stack .exit)) (now (out .exit))
+        ≡ roomOf (leb 4 (length (now (out .entry)))) (now (sheet .entry)) (now (marks .entry)) (now (stack .entry)) (now (out .entry))
+        ) ⌝ }
 {
     room_of(sheet, marks, stack, out)
 }

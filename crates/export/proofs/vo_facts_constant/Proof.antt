@@ -4,18 +4,8 @@ use borrow.Author.Needs.{needs}
 use Rattle.export.proofs.vo_facts_constant.Statement.{statement}
 use Rattle.export.proofs.vo_facts_constant.Tie as tie
 
-constant-fact-for-slot-requires : tie.Need-constant-fact-for-slot-requires
-constant-fact-for-slot-requires c κs = search needs
-
-put-slot-fact-requires : tie.Need-put-slot-fact-requires
-put-slot-fact-requires c κs = search needs
-
-same-length : tie.Need-same-length
-same-length c = search needs
-
 returns : tie.Need-returns
 returns c = told (c .before .before .before .before .before .before .before .before .before .before .args .out .now) (c .before .before .put-slot-fact .ensures) (c .before .before .before .before .constant-fact-for-slot .ensures)
 
 pub vo-facts-constant-spec : {M : Type 1} → statement M
-vo-facts-constant-spec =
-    tie.close (tie.spec constant-fact-for-slot-requires put-slot-fact-requires same-length returns)
+vo-facts-constant-spec = tie.close (tie.spec (λ c κs. search needs) (λ c κs. search needs) (λ c. search needs) returns)

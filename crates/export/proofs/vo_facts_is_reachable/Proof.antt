@@ -7,14 +7,8 @@ use borrow.Author.Needs.{needs}
 use Rattle.export.proofs.vo_facts_is_reachable.Statement.{statement}
 use Rattle.export.proofs.vo_facts_is_reachable.Tie as tie
 
-is-reachable-requires : tie.Need-is-reachable-requires
-is-reachable-requires c κs = search needs
-
-reached-requires : tie.Need-reached-requires
-reached-requires c κs = search needs
-
 returns : tie.Need-returns
 returns c = c .reached .ensures ∙ ap (λ (a : WithNumbers Reachability). reachedNumber (a .answered)) (c .before .is-reachable .ensures)
 
 pub vo-facts-is-reachable-spec : {M : Type 1} → statement M
-vo-facts-is-reachable-spec = tie.close (tie.spec is-reachable-requires reached-requires returns)
+vo-facts-is-reachable-spec = tie.close (tie.spec (λ c κs. search needs) (λ c κs. search needs) returns)

@@ -17,16 +17,10 @@ instruction-at-requires c κs =
     let start = c .before .before .before .before .before in
     code-inside (start .pre .0 .0) _ (start .pre .1 .0)
 
-wide-requires : tie.Need-wide-requires
-wide-requires c κs = search needs
-
 row-fact-requires : tie.Need-row-fact-requires
 row-fact-requires c κs =
     let start = c .before .before .before .before .before .before .before .before .before in
     (start .pre .0 .1, omega arith)
-
-checked-cell-requires : tie.Need-checked-cell-requires
-checked-cell-requires c κs = search needs
 
 returns : tie.Need-returns
 returns c =
@@ -39,9 +33,6 @@ returns c =
     checked-of _ (c .before .row-fact .ensures rows e ∙ ap (λ (b : ℕ). cellOf (rowFact (start .args .slots .now) (rowAt rows (start .args .pc)) b)) slot) (c .checked-cell .ensures)
     ∙ ap cellOf (check-fact _ (start .args .slots .now) rows (start .args .pc) (sym (ap (λ (i : Instruction). i .op) read) ∙ then1 .if1 .taken))
 
-unknown-cell-requires : tie.Need-unknown-cell-requires
-unknown-cell-requires c κs = search needs
-
 returns-2 : tie.Need-returns-2
 returns-2 c =
     let instruction-at = c .before .before .before in
@@ -53,12 +44,5 @@ returns-2 c =
 
 pub length-fact-spec : {M : Type 1} → statement M
 length-fact-spec =
-    tie.close
-    (tie.spec
-    instruction-at-requires
-    wide-requires
-    row-fact-requires
-    checked-cell-requires
-    returns
-    unknown-cell-requires
+    tie.close (tie.spec instruction-at-requires (λ c κs. search needs) row-fact-requires (λ c κs. search needs) returns (λ c κs. search needs)
     returns-2)

@@ -23,26 +23,11 @@ length-fact-requires : tie.Need-length-fact-requires Inv-loop μ-loop
 length-fact-requires c κs =
     (c .before .before .before .before .before .before .before .before .before .pre .0, (c .loop-test .taken, c .before .before .before .before .before .before .before .before .before .pre .1 .0))
 
-slice-write-out-kinds : tie.Need-slice-write-out-kinds Inv-loop μ-loop
-slice-write-out-kinds c = omega arith
-
 cast-out-values : tie.Need-cast-out-values Inv-loop μ-loop
 cast-out-values c =
     let asked = c .before .before .before .before .before .before .before .before .before .before .before .pre in
     let rows = asked .0 .1 .0 in
     omega (arith, value-of _ (c .before .length-fact .ensures rows (asked .0 .1 .1)), small-fact (c .before .before .before .before .before .before .before .before .before .before .before .args .sheet .now) (c .before .before .before .before .before .before .before .before .before .before .before .args .slots .now) rows (c .before .before .before .loop .pc))
-
-mul-out-values : tie.Need-mul-out-values Inv-loop μ-loop
-mul-out-values c = omega arith
-
-slice-write-out-values : tie.Need-slice-write-out-values Inv-loop μ-loop
-slice-write-out-values c = omega arith
-
-add-pc : tie.Need-add-pc Inv-loop μ-loop
-add-pc c = omega arith
-
-loop-less : tie.Need-loop-less Inv-loop μ-loop
-loop-less c = omega arith
 
 loop-again : tie.Need-loop-again Inv-loop μ-loop
 loop-again c = stored-more _ _ _ _ _ _ _ _ (c .before .before .before .loop .inv) (c .before .before .loop-test .taken) (c .before .length-fact .ensures)
@@ -61,19 +46,5 @@ returns c =
 
 pub length-facts-spec : {M : Type 1} → statement M
 length-facts-spec =
-    tie.close
-    (tie.spec
-    Inv-loop
-    μ-loop
-    loop-holds
-    length-fact-requires
-    slice-write-out-kinds
-    cast-out-values
-    mul-out-values
-    slice-write-out-values
-    add-pc
-    loop-less
-    loop-again
-    same-length
-    same-length-2
-    returns)
+    tie.close (tie.spec Inv-loop μ-loop loop-holds length-fact-requires (λ c. omega arith) cast-out-values (λ c. omega arith) (λ c. omega arith)
+    (λ c. omega arith) (λ c. omega arith) loop-again same-length same-length-2 returns)

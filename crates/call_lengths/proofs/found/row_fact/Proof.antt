@@ -7,12 +7,6 @@ use borrow.Author.Needs.{needs}
 use Rattle.call_lengths.proofs.found.row_fact.Statement.{statement}
 use Rattle.call_lengths.proofs.found.row_fact.Tie as tie
 
-shared-slice-read-if1 : tie.Need-shared-slice-read-if1
-shared-slice-read-if1 c = search needs
-
-unknown-cell-requires : tie.Need-unknown-cell-requires
-unknown-cell-requires c κs = search needs
-
 returns : tie.Need-returns
 returns c rows e =
     absent-fact e (c .before .before .before .before .before .before .before .args .pc) (c .before .before .before .before .before .before .before .args .slot) (c .before .if1 .taken) (c .unknown-cell .ensures)
@@ -20,14 +14,8 @@ returns c rows e =
 find-requires : tie.Need-find-requires
 find-requires c κs = c .before .before .before .before .before .before .pre .0 .1 .ascending
 
-enum-known-j : tie.Need-enum-known-j
-enum-known-j c = search needs
-
 enum-told : tie.Need-enum-told
 enum-told c = search needs
-
-unknown-cell-requires-2 : tie.Need-unknown-cell-requires-2
-unknown-cell-requires-2 c κs = search needs
 
 returns-2 : tie.Need-returns-2
 returns-2 c rows e =
@@ -78,19 +66,5 @@ returns-3 c rows e =
 
 pub row-fact-spec : {M : Type 1} → statement M
 row-fact-spec =
-    tie.close
-    (tie.spec
-    shared-slice-read-if1
-    unknown-cell-requires
-    returns
-    find-requires
-    enum-known-j
-    enum-told
-    unknown-cell-requires-2
-    returns-2
-    mul-at
-    add-at
-    shared-slice-read-t10
-    mul-t14
-    shared-slice-read-t17
-    returns-3)
+    tie.close (tie.spec (λ c. search needs) (λ c κs. search needs) returns find-requires (λ c. search needs) enum-told (λ c κs. search needs)
+    returns-2 mul-at add-at shared-slice-read-t10 mul-t14 shared-slice-read-t17 returns-3)

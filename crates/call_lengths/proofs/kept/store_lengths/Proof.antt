@@ -1,90 +1,77 @@
 -- `store_lengths` meets its contract.
 -- Assumes nothing.
-use mathlib.Core.Path.{refl, sym}
+use mathlib.Core.Path.{_≡_, refl, sym, _∙_}
+use mathlib.Core.Bool.{false, false≢true}
 use native.Mathlib.Omega.{arith}
 use lib.Seq.{length-take-le}
+use Rattle.model.specs.Sheet.{codeCount}
+use Rattle.model.specs.Analyses.{Analysed}
 use Rattle.sheet.proofs.Counted.{counted}
 use Rattle.sheet.proofs.Limited.{limited}
-use Rattle.call_lengths.proofs.Storing.{stored-few, slots-fit, present-fits, kinds-fit, values-fit, stored-ended, lengthened, stored-cells-fit, tracked-same, not-refusing, not-analyzed-1, not-analyzed-2, not-analyzed-3}
+use Rattle.budget.specs.Outcome.{refusing}
+use Rattle.call_lengths.specs.Stored.{Stored}
+use Rattle.call_lengths.proofs.Storing.{stored-few, slots-fit, present-fits, kinds-fit, values-fit, stored-ended, lengthened, stored-cells-fit}
 use borrow.Author.Needs.{needs}
 use Rattle.call_lengths.proofs.kept.store_lengths.Statement.{statement}
 use Rattle.call_lengths.proofs.kept.store_lengths.Tie as tie
-use Rattle.call_lengths.proofs.found.length_facts.Reads as length-facts-reads
 
-enum-known-before : tie.Need-enum-known-before
-enum-known-before c = search needs
+-- ---- behind the test
 
-mul-cells : tie.Need-mul-cells
-mul-cells c = let start = c .before .before .before .before .before .before .before .before .before .before in omega (arith, stored-cells-fit _ _ (limited (start .pre .0 .0) .code-count) (stored-few (start .pre .1 _ _ _ _ (c .before .before2 .given .1) .1) (counted (start .pre .0 .0 .are) .code-count) refl))
+abbrev start : tie.Else1 → tie.Start
+start c = c .before .before .before .before .before .before .before .before .before
 
-slice-aggregate-length-facts : tie.Need-slice-aggregate-length-facts
-slice-aggregate-length-facts c = let start = c .before .before .before .before .before .before .before .before .before .before .before in sym (length-take-le _ (start .args .slots .now) (slots-fit (start .pre .1 _ _ _ _ (c .before .before .before2 .given .1) .1) (counted (start .pre .0 .0 .are) .code-count) refl))
+going : (c : tie.Else1) → refusing (start c .args .before) ≡ false
+going c = sym (c .before .refuses .ensures) ∙ c .if1 .left
 
-slice-aggregate-length-facts-2 : tie.Need-slice-aggregate-length-facts-2
-slice-aggregate-length-facts-2 c = let start = c .before .before .before .before .before .before .before .before .before .before .before .before in sym (length-take-le _ (start .args .present .now) (present-fits (start .pre .1 _ _ _ _ (c .before .before .before .before2 .given .1) .1) (counted (start .pre .0 .0 .are) .code-count) refl))
+there : (c : tie.Else1)
+    → (a : Analysed)
+    × Stored (start c .args .sheet .now) a (start c .args .constant) (start c .args .slots .now) (start c .args .present .now) (start c .args .kinds .now) (start c .args .values .now)
+there c = start c .pre .1 (going c)
 
-slice-aggregate-length-facts-3 : tie.Need-slice-aggregate-length-facts-3
-slice-aggregate-length-facts-3 c = let start = c .before .before .before .before .before .before .before .before .before .before .before .before .before in sym (length-take-le _ (start .args .kinds .now) (kinds-fit (start .pre .1 _ _ _ _ (c .before .before .before .before .before2 .given .1) .1) (counted (start .pre .0 .0 .are) .code-count) refl))
+many : (c : tie.Else1) → start c .args .sizes .«code_count» ≡ codeCount (start c .args .sheet .now)
+many c = counted (start c .pre .0 .0 .are) .code-count
 
-slice-aggregate-length-facts-4 : tie.Need-slice-aggregate-length-facts-4
-slice-aggregate-length-facts-4 c = let start = c .before .before .before .before .before .before .before .before .before .before .before .before .before .before in sym (length-take-le _ (start .args .values .now) (values-fit (start .pre .1 _ _ _ _ (c .before .before .before .before .before .before2 .given .1) .1) (counted (start .pre .0 .0 .are) .code-count) refl))
+abbrev back : tie.After-length-facts-arg6 → tie.Else1
+back c = c .before .before .before .before .before .before
 
-length-facts-requires : tie.Need-length-facts-requires
-length-facts-requires c κs = let start = c .before .before .before .before .before .before .before .before .before .before .before .before .before .before .before .before in (
-  (start .pre .0 .0, (_, stored-ended (start .pre .1 _ _ _ _ (c .before .before .before .before .before .before .before .before2 .given .1) .1) (counted (start .pre .0 .0 .are) .code-count) refl)),
-  (length-take-le _ (start .args .present .now) (present-fits (start .pre .1 _ _ _ _ (c .before .before .before .before .before .before .before .before2 .given .1) .1) (counted (start .pre .0 .0 .are) .code-count) refl), start .pre .0 .1, start .pre .0 .2),
-)
-
-enum-told : tie.Need-enum-told
-enum-told c = search needs
-
-enum-told-2 : tie.Need-enum-told-2
-enum-told-2 c = search needs
-
-enum-told-3 : tie.Need-enum-told-3
-enum-told-3 c = search needs
-
-same-length : tie.Need-same-length
-same-length c = search needs
-
-same-length-2 : tie.Need-same-length-2
-same-length-2 c = search needs
+-- ---- the needs
 
 returns : tie.Need-returns
-returns c = let start = c .before .before .before .before .before .before .before .before .before .before .before .before .before .before .before .before .before .before .before .before .before in
-    let is = c .before .before .before .before .before .before .before .before .before .before .before .before .before2 .given .1 in
-    let stored = c .before .before .before .before .length-facts .ensures .0 in
-    let read = c .before .before .before .before .length-facts .ensures .1 in (
-      λ constant index container left same a st. lengthened st (counted (start .pre .0 .0 .are) .code-count) (tracked-same is same) stored read,
-      λ refused. not-refusing is refused,
+returns c =
+    let refused = sym (c .before .refuses .ensures) ∙ c .if1 .taken in
+    (λ goes a st. absurd (false≢true (sym goes ∙ refused)), λ same. (refl, refl))
+
+mul-cells : tie.Need-mul-cells
+mul-cells c = omega (arith, stored-cells-fit _ _ (limited (start c .pre .0 .0) .code-count) (stored-few (there c .1) (many c) refl))
+
+slots-part : tie.Need-slice-aggregate-length-facts
+slots-part c = sym (length-take-le _ _ (slots-fit (there (c .before) .1) (many (c .before)) refl))
+
+present-part : tie.Need-slice-aggregate-length-facts-2
+present-part c = let e = c .before .before in sym (length-take-le _ _ (present-fits (there e .1) (many e) refl))
+
+kinds-part : tie.Need-slice-aggregate-length-facts-3
+kinds-part c = let e = c .before .before .before in sym (length-take-le _ _ (kinds-fit (there e .1) (many e) refl))
+
+values-part : tie.Need-slice-aggregate-length-facts-4
+values-part c = let e = c .before .before .before .before in sym (length-take-le _ _ (values-fit (there e .1) (many e) refl))
+
+length-facts-requires : tie.Need-length-facts-requires
+length-facts-requires c κs =
+    let e = back c in (
+      (start e .pre .0 .0, (_, stored-ended (there e .1) (many e) refl)),
+      (length-take-le _ _ (present-fits (there e .1) (many e) refl), start e .pre .0 .1, start e .pre .0 .2),
     )
 
 returns-2 : tie.Need-returns-2
-returns-2 c = let is = c .enum-told .given .1 in (λ constant index container left same a st. not-analyzed-1 is same, λ refused. (refl, refl))
-
-returns-3 : tie.Need-returns-3
-returns-3 c = let is = c .enum-told2 .given .1 in (λ constant index container left same a st. not-analyzed-2 is same, λ refused. (refl, refl))
-
-returns-4 : tie.Need-returns-4
-returns-4 c = let is = c .enum-told3 .given .1 in (λ constant index container left same a st. not-analyzed-3 is same, λ refused. (refl, refl))
+returns-2 c =
+    let found = c .before .before .before .before in
+    let e = back (found .before) in (
+      λ goes a st. lengthened st (many e) refl (found .length-facts .ensures .0) (found .length-facts .ensures .1),
+      λ refused. absurd (false≢true (sym (going e) ∙ refused)),
+    )
 
 pub store-lengths-spec : {M : Type 1} → statement M
 store-lengths-spec =
-    tie.close
-    (tie.spec
-    enum-known-before
-    mul-cells
-    slice-aggregate-length-facts
-    slice-aggregate-length-facts-2
-    slice-aggregate-length-facts-3
-    slice-aggregate-length-facts-4
-    length-facts-requires
-    enum-told
-    enum-told-2
-    enum-told-3
-    same-length
-    same-length-2
-    returns
-    returns-2
-    returns-3
-    returns-4)
+    tie.close (tie.spec (λ c κs. search needs) returns mul-cells slots-part present-part kinds-part values-part length-facts-requires
+    (λ c. search needs) (λ c. search needs) returns-2)

@@ -3,9 +3,6 @@ use borrow.Author.Needs.{needs}
 use Rattle.export.proofs.loading.vo_facts_room.Statement.{statement}
 use Rattle.export.proofs.loading.vo_facts_room.Tie as tie
 
-room-of-requires : tie.Need-room-of-requires
-room-of-requires c κs = search needs
-
 same-length : tie.Need-same-length
 same-length c = c .before .before .before .before .before .marks .given
 
@@ -19,4 +16,4 @@ returns : tie.Need-returns
 returns c = c .before .before .before .before .before .before .room-of .ensures
 
 pub vo-facts-room-spec : {M : Type 1} → statement M
-vo-facts-room-spec = tie.close (tie.spec room-of-requires same-length same-length-2 same-length-3 returns)
+vo-facts-room-spec = tie.close (tie.spec (λ c κs. search needs) same-length same-length-2 same-length-3 returns)

@@ -1,4 +1,4 @@
--- `stage_outcome::put_answer` meets its contract. Assumes nothing.
+-- `export_numbers::put_answer` meets its contract. Assumes nothing.
 use mathlib.Core.Path.{refl}
 use Rattle.export_numbers.specs.Numbers.{numbersCompute}
 use borrow.Author.Needs.{needs}

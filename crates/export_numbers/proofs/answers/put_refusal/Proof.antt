@@ -1,4 +1,4 @@
--- `stage_outcome::put_refusal` meets its contract. Assumes nothing.
+-- `export_numbers::put_refusal` meets its contract. Assumes nothing.
 use mathlib.Core.Path.{refl}
 use Rattle.export_numbers.specs.Numbers.{nothing}
 use borrow.Author.Needs.{needs}

@@ -1,4 +1,4 @@
--- `stage_outcome::put_twelve` meets its contract: twelve stores in a row. Assumes nothing.
+-- `export_numbers::put_twelve` meets its contract: twelve stores in a row. Assumes nothing.
 use native.Mathlib.Omega.{arith}
 use lib.ListN.{length-set}
 use lib.Seq.{sets-eq}

@@ -1,2 +1,0 @@
--- Question 6, answered with yes
-pub mod Admitted

@@ -1,1 +1,0 @@
--- This crate has no laws beside the proofs of its functions.

@@ -1,3 +1,0 @@
--- What a stage comes to, and the answer so far with it
-pub mod Answer
-pub mod Answers
