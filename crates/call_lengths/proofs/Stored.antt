@@ -12,7 +12,7 @@ use borrow.Author.Tests.{eq-eqb, ne-eqb}
 use Rattle.model.specs.Fact.{Fact, unknown, kind, value, Row}
 use Rattle.model.specs.Sheet.{codeCount, instruction}
 use Rattle.model.specs.Run.{rowAt}
-use Rattle.model.specs.Tables.{factIn, cellOf, lengthTable}
+use Rattle.model.specs.Tables.{factIn, cellOf, lengthTable, tableSlices}
 use Rattle.model.specs.Analyses.{Analysed, rowFact, lengthFacts}
 use Rattle.model.specs.Transfer.{checkedFrom}
 use Rattle.model.specs.declared.FactCell.{FactCell}
@@ -57,8 +57,8 @@ module _ (sheet slots present kinds values : List ℕ) (n : ℕ) (k₀ v₀ : Li
     pub values-room : n ≤ length v₀
     pub kinds-long : length k ≡ length k₀
     pub values-long : length v ≡ length v₀
-    pub kinds-turned : (rows : List (Option Row)) → EndedRows slots rows present kinds values → Turned (λ i. kind (lengthFact sheet slots rows i)) k₀ k pc
-    pub values-turned : (rows : List (Option Row)) → EndedRows slots rows present kinds values → Turned (λ i. value (lengthFact sheet slots rows i)) v₀ v pc
+    pub kinds-turned : (rows : List (Option Row)) → EndedRows slots rows (tableSlices present kinds values) → Turned (λ i. kind (lengthFact sheet slots rows i)) k₀ k pc
+    pub values-turned : (rows : List (Option Row)) → EndedRows slots rows (tableSlices present kinds values) → Turned (λ i. value (lengthFact sheet slots rows i)) v₀ v pc
 
   pub stored-none : n ≤ length k₀ → n ≤ length v₀ → StoredUpto k₀ v₀ 0
   stored-none hk hv = record {
@@ -72,7 +72,7 @@ module _ (sheet slots present kinds values : List ℕ) (n : ℕ) (k₀ v₀ : Li
   }
 
   module _ {k v : List ℕ} {pc : ℕ} (s : StoredUpto k v pc) where
-    pub stored-more : pc < n → {cell : FactCell} → ((rows : List (Option Row)) → EndedRows slots rows present kinds values → cell ≡ cellOf (lengthFact sheet slots rows pc))
+    pub stored-more : pc < n → {cell : FactCell} → ((rows : List (Option Row)) → EndedRows slots rows (tableSlices present kinds values) → cell ≡ cellOf (lengthFact sheet slots rows pc))
         → StoredUpto (set k pc (cell .kind)) (set v pc (cell .value)) (pc + 1)
     stored-more h {cell} is = record {
       within = omega arith;
@@ -84,7 +84,7 @@ module _ (sheet slots present kinds values : List ℕ) (n : ℕ) (k₀ v₀ : Li
       values-turned = λ rows e. turn (s .values-turned rows e) (omega (arith, s .values-room, s .values-long)) (value-of (lengthFact sheet slots rows pc) (is rows e));
     }
 
-    pub stored-all : n ≤ pc → n ≡ codeCount sheet → (rows : List (Option Row)) → EndedRows slots rows present kinds values
+    pub stored-all : n ≤ pc → n ≡ codeCount sheet → (rows : List (Option Row)) → EndedRows slots rows (tableSlices present kinds values)
         → (k ≡ lengthKinds sheet slots rows k₀) × (v ≡ lengthValues sheet slots rows v₀)
     unfolding lengthKinds lengthValues
     stored-all h m rows e =

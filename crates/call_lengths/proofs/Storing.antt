@@ -7,16 +7,17 @@ use Prim.Native.Nat.{ℕ, _*_, _^_, _≤_, _<_}
 use native.Mathlib.Nat.{mul-le-mul-right}
 use native.Mathlib.Omega.{arith}
 use lib.ListN.{length, take}
+use Rattle.model.specs.Call.{table}
 use Rattle.model.specs.Sheet.{codeCount, instruction}
 use Rattle.model.specs.Fact.{Row}
 use Rattle.model.specs.Analyses.{Analysed, lengthFacts}
 use Rattle.model.specs.Transfer.{checkedFrom}
 use Rattle.model.specs.declared.Counts.{Counts}
 use Rattle.call_lengths.specs.Lengths.{EndedRows, lengthKinds, lengthValues}
-use Rattle.model.specs.Tables.{lengthTable}
+use Rattle.model.specs.Tables.{lengthTable, tableSlices}
 use Rattle.call_lengths.specs.Stored.{Stored, Lengthened}
 
-module _ {sheet : List ℕ} {a : Analysed} {given : Counts} {slots present kinds values : List ℕ} (st : Stored sheet a given slots present kinds values) {n s : ℕ} (all : n ≡ codeCount sheet)
+module _ {sheet : List ℕ} {a : Analysed} {given : Counts} {slots present kinds values : List ℕ} (st : Stored sheet a given (table slots present kinds values)) {n s : ℕ} (all : n ≡ codeCount sheet)
     (is : s ≡ given .tracked) where
   many : s ≡ length (a .slots)
   many = is ∙ st .tracked-is
@@ -42,20 +43,17 @@ module _ {sheet : List ℕ} {a : Analysed} {given : Counts} {slots present kinds
   slots-are : take s slots ≡ a .slots
   slots-are = ap (λ (m : ℕ). take m slots) many ∙ st .slots-are
 
-  pub stored-ended : EndedRows (take s slots) (a .rows) (take n present) (take (n * s) kinds) (take (n * s) values)
-  stored-ended = rw (slots-are, cells-are, all, st .present-are, st .kinds-are, st .values-are) (record {
+  pub stored-ended : EndedRows (take s slots) (a .rows) (tableSlices (take n present) (take (n * s) kinds) (take (n * s) values))
+  stored-ended = rw (slots-are, cells-are, all, st .lie .present-are, st .lie .kinds-are, st .lie .values-are) (record {
     ascending = st .ascending;
-    sized = st .sized;
-    present-are = refl;
-    kinds-are = refl;
-    values-are = refl;
+    lie = record { sized = st .lie .sized; present-are = refl; kinds-are = refl; values-are = refl };
   })
 
   -- what was stored, by the analysis
   pub lengthened : {lk lv lk′ lv′ : List ℕ}
-      → ((rows : List (Option Row)) → EndedRows (take s slots) rows (take n present) (take (n * s) kinds) (take (n * s) values)
+      → ((rows : List (Option Row)) → EndedRows (take s slots) rows (tableSlices (take n present) (take (n * s) kinds) (take (n * s) values))
       → (lk′ ≡ lengthKinds sheet (take s slots) rows lk) × (lv′ ≡ lengthValues sheet (take s slots) rows lv))
-      → ((constants : Analysed) → constants .slots ≡ take s slots → EndedRows (take s slots) (constants .rows) (take n present) (take (n * s) kinds) (take (n * s) values)
+      → ((constants : Analysed) → constants .slots ≡ take s slots → EndedRows (take s slots) (constants .rows) (tableSlices (take n present) (take (n * s) kinds) (take (n * s) values))
       → (pc : ℕ) → pc < codeCount sheet → instruction sheet pc .op ≡ 121 → checkedFrom (lengthTable lk′ lv′ pc) ≡ checkedFrom (lengthFacts sheet constants pc))
       → Lengthened sheet a lk lv lk′ lv′
   lengthened {lk} {lv} stores reads = record {

@@ -11,7 +11,7 @@ use lib.Seq.{getD-take, getD-drop}
 use Rattle.model.specs.Fact.{Fact, unknown, kind, value, Row}
 use Rattle.model.specs.Run.{rowAt}
 use Rattle.model.specs.Lookup.{place}
-use Rattle.model.specs.Tables.{presentByte, rowCells, cells, cellOf}
+use Rattle.model.specs.Tables.{presentByte, rowCells, cells, cellOf, tableSlices}
 use Rattle.model.specs.Analyses.{rowFact}
 use Rattle.model.specs.declared.FactCell.{FactCell}
 use Rattle.finality.proofs.Cells.{length-present, present-at, length-cells, cells-part}
@@ -19,12 +19,12 @@ use Rattle.fact_row.proofs.Facts.{factCell}
 use Rattle.fact_row.proofs.Places.{fact-placed, fact-untracked, place-inside}
 use Rattle.call_lengths.specs.Lengths.{EndedRows}
 
-module _ {slots : List ℕ} {rows : List (Option Row)} {present kinds values : List ℕ} (e : EndedRows slots rows present kinds values) where
+module _ {slots : List ℕ} {rows : List (Option Row)} {present kinds values : List ℕ} (e : EndedRows slots rows (tableSlices present kinds values)) where
   pub rows-long : length rows ≡ length present
-  rows-long = sym (length-present rows) ∙ ap length (sym (e .present-are))
+  rows-long = sym (length-present rows) ∙ ap length (sym (e .lie .present-are))
 
   table-long : (f : Fact → ℕ) → length (cells f (length slots) rows) ≡ length present * length slots
-  table-long f = length-cells f (length slots) rows (e .sized) ∙ ap (λ (n : ℕ). n * length slots) rows-long
+  table-long f = length-cells f (length slots) rows (e .lie .sized) ∙ ap (λ (n : ℕ). n * length slots) rows-long
 
   -- a place of a row lies in both tables
   pub table-inside : (pc slot : ℕ) {j : ℕ} → pc < length present → place slots slot ≡ some j
@@ -32,7 +32,7 @@ module _ {slots : List ℕ} {rows : List (Option Row)} {present kinds values : L
   table-inside pc slot {j} h p =
       let l : suc pc * length slots ≤ length present * length slots = mul-le-mul-right (length slots) h in
       let k : j < length slots = place-inside slots slot p in
-      (omega (arith, ap length (e .kinds-are), table-long kind), omega (arith, ap length (e .values-are), table-long value))
+      (omega (arith, ap length (e .lie .kinds-are), table-long kind), omega (arith, ap length (e .lie .values-are), table-long value))
 
   -- the cell at place j of a present row
   cell-at : (f : Fact → ℕ) → f unknown ≡ 0 → (pc j : ℕ) (r : Row) → pc < length present → j < length slots → rowAt rows pc ≡ some r
@@ -40,14 +40,14 @@ module _ {slots : List ℕ} {rows : List (Option Row)} {present kinds values : L
   unfolding rowCells
   cell-at f z pc j r h k q =
       sym (getD-take (length slots) (drop (pc * length slots) (cells f (length slots) rows)) j 0 k ∙ getD-drop (pc * length slots) (cells f (length slots) rows) j 0)
-      ∙ ap (λ (l : List ℕ). getD l j 0) (cells-part f (length slots) rows pc (e .sized) (omega (arith, rows-long)) ∙ ap (rowCells f (length slots)) q)
+      ∙ ap (λ (l : List ℕ). getD l j 0) (cells-part f (length slots) rows pc (e .lie .sized) (omega (arith, rows-long)) ∙ ap (rowCells f (length slots)) q)
       ∙ ap (λ (d : ℕ). getD (map f r) j d) (sym z)
       ∙ List·getD-map f r j unknown
 
   module _ (pc slot : ℕ) where
     pub absent-fact : getD present pc 0 ≡ 0 → {r : FactCell} → r ≡ cellOf unknown → r ≡ cellOf (rowFact slots (rowAt rows pc) slot)
     unfolding presentByte rowFact
-    absent-fact h {r} u = go (rowAt rows pc) (sym (present-at rows pc) ∙ ap (λ (l : List ℕ). getD l pc 0) (sym (e .present-are)) ∙ h)
+    absent-fact h {r} u = go (rowAt rows pc) (sym (present-at rows pc) ∙ ap (λ (l : List ℕ). getD l pc 0) (sym (e .lie .present-are)) ∙ h)
       where
         go : (o : Option Row) → presentByte o ≡ 0 → r ≡ cellOf (rowFact slots o slot)
         go none p = u
@@ -67,12 +67,12 @@ module _ {slots : List ℕ} {rows : List (Option Row)} {present kinds values : L
     tracked-fact h there {j} p = go (rowAt rows pc) refl
       where
         go : (o : Option Row) → rowAt rows pc ≡ o → factCell (getD kinds (pc * length slots + j) 0) (getD values (pc * length slots + j) 0) ≡ cellOf (rowFact slots o slot)
-        go none q = absurd (there (ap (λ (l : List ℕ). getD l pc 0) (e .present-are) ∙ present-at rows pc ∙ ap presentByte q))
+        go none q = absurd (there (ap (λ (l : List ℕ). getD l pc 0) (e .lie .present-are) ∙ present-at rows pc ∙ ap presentByte q))
         go (some row) q =
             rw (
-              fact-placed slots row slot (e .ascending) (e .sized pc row q) p,
-              e .kinds-are,
-              e .values-are,
+              fact-placed slots row slot (e .ascending) (e .lie .sized pc row q) p,
+              e .lie .kinds-are,
+              e .lie .values-are,
               cell-at kind refl pc j row h (place-inside slots slot p) q,
               cell-at value refl pc j row h (place-inside slots slot p) q,
             )

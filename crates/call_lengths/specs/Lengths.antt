@@ -11,19 +11,16 @@ use Rattle.model.specs.Fact.{Fact, unknown, kind, value, Row}
 use Rattle.model.specs.Sheet.{codeCount, instruction}
 use Rattle.model.specs.Opcode as O
 use Rattle.model.specs.Run.{rowAt}
-use Rattle.model.specs.Tables.{presentBytes, cells}
+use Rattle.model.specs.Tables.{presentBytes, cells, TableSlices, RowsLie}
 use Rattle.model.specs.Analyses.{rowFact}
 use Rattle.model.specs.Transfer.{checkedFrom}
 use Rattle.model.specs.Lookup.{ascends}
 use Rattle.memory.specs.Front.{front}
 
 -- The rows of an ended run as they lie in memory: s facts to a row, and zeros for an absent one.
-pub record EndedRows (slots : List ℕ) (rows : List (Option Row)) (present kinds values : List ℕ) : Type 0 where
+pub record EndedRows (slots : List ℕ) (rows : List (Option Row)) (t : TableSlices) : Type 0 where
   pub ascending : ascends slots ≡ true
-  pub sized : (p : ℕ) (r : Row) → rowAt rows p ≡ some r → length r ≡ length slots
-  pub present-are : present ≡ presentBytes rows
-  pub kinds-are : kinds ≡ cells kind (length slots) rows
-  pub values-are : values ≡ cells value (length slots) rows
+  pub lie : RowsLie (length slots) rows t
 
 -- what IndexCheck makes of the fact of b, where the test holds
 unfoldable pub lengthFactIf : Bool → List ℕ → List ℕ → List (Option Row) → ℕ → Fact

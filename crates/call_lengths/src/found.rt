@@ -7,7 +7,7 @@ ghost use lib.ListN.{length};
 ghost use Rattle.model.specs.Fact.{Row};
 ghost use Rattle.model.specs.Sheet.{codeCount, instruction};
 ghost use Rattle.model.specs.Run.{rowAt};
-ghost use Rattle.model.specs.Tables.{cellOf, lengthTable};
+ghost use Rattle.model.specs.Tables.{cellOf, lengthTable, tableSlices};
 ghost use Rattle.model.specs.Transfer.{checkedFrom};
 ghost use Rattle.model.specs.Analyses.{Analysed, rowFact, lengthFacts};
 ghost use Rattle.sheet.specs.Measured.{Measured};
@@ -30,9 +30,9 @@ fn row_fact(
     pc: usize,
     slot: usize,
 ) -> FactCell
-    requires { ⌜ ((rows : List (Option Row)) × EndedRows (now slots) rows (now present) (now kinds) (now values)) × (pc < length (now present)) ⌝ }
+    requires { ⌜ ((rows : List (Option Row)) × EndedRows (now slots) rows (tableSlices (now present) (now kinds) (now values))) × (pc < length (now present)) ⌝ }
     ensures { λ r. ⌜ (
-        (rows : List (Option Row)) → EndedRows (now (slots .entry)) rows (now (present .entry)) (now (kinds .entry)) (now (values .entry))
+        (rows : List (Option Row)) → EndedRows (now (slots .entry)) rows (tableSlices (now (present .entry)) (now (kinds .entry)) (now (values .entry)))
         → r ≡ cellOf (rowFact (now (slots .entry)) (rowAt rows pc) slot)
         ) ⌝ }
 {
@@ -59,10 +59,10 @@ fn length_fact(
     values: &[u64],
     pc: usize,
 ) -> FactCell
-    requires { ⌜ Measured (now sheet) sizes × ((rows : List (Option Row)) × EndedRows (now slots) rows (now present) (now kinds) (now values)) ⌝ }
+    requires { ⌜ Measured (now sheet) sizes × ((rows : List (Option Row)) × EndedRows (now slots) rows (tableSlices (now present) (now kinds) (now values))) ⌝ }
     requires { ⌜ (pc < sizes .«code_count») × (length (now present) ≡ sizes .«code_count») ⌝ }
     ensures { λ r. ⌜ (
-        (rows : List (Option Row)) → EndedRows (now (slots .entry)) rows (now (present .entry)) (now (kinds .entry)) (now (values .entry))
+        (rows : List (Option Row)) → EndedRows (now (slots .entry)) rows (tableSlices (now (present .entry)) (now (kinds .entry)) (now (values .entry)))
         → r ≡ cellOf (lengthFact (now (sheet .entry)) (now (slots .entry)) rows pc)
         ) ⌝ }
 {
@@ -85,16 +85,16 @@ pub fn length_facts(
     out_kinds: &mut [u8],
     out_values: &mut [u16],
 )
-    requires { ⌜ Measured (now sheet) sizes × ((rows : List (Option Row)) × EndedRows (now slots) rows (now present) (now kinds) (now values)) ⌝ }
+    requires { ⌜ Measured (now sheet) sizes × ((rows : List (Option Row)) × EndedRows (now slots) rows (tableSlices (now present) (now kinds) (now values))) ⌝ }
     requires { ⌜ (length (now present) ≡ sizes .«code_count») × (sizes .«code_count» ≤ length (now «out_kinds»)) × (sizes .«code_count» ≤ length (now «out_values»)) ⌝ }
     ensures stored { λ r. ⌜ (
-        (rows : List (Option Row)) → EndedRows (now (slots .entry)) rows (now (present .entry)) (now (kinds .entry)) (now (values .entry))
+        (rows : List (Option Row)) → EndedRows (now (slots .entry)) rows (tableSlices (now (present .entry)) (now (kinds .entry)) (now (values .entry)))
         → (now («out_kinds» .exit) ≡ lengthKinds (now (sheet .entry)) (now (slots .entry)) rows (now («out_kinds» .entry)))
         × (now («out_values» .exit) ≡ lengthValues (now (sheet .entry)) (now (slots .entry)) rows (now («out_values» .entry)))
         ) ⌝ }
     ensures read { λ r. ⌜ (
         (constants : Analysed) → constants .slots ≡ now (slots .entry)
-        → EndedRows (now (slots .entry)) (constants .rows) (now (present .entry)) (now (kinds .entry)) (now (values .entry))
+        → EndedRows (now (slots .entry)) (constants .rows) (tableSlices (now (present .entry)) (now (kinds .entry)) (now (values .entry)))
         → (pc : ℕ) → pc < codeCount (now (sheet .entry)) → instruction (now (sheet .entry)) pc .op ≡ 121
         → checkedFrom (lengthTable (now («out_kinds» .exit)) (now («out_values» .exit)) pc) ≡ checkedFrom (lengthFacts (now (sheet .entry)) constants pc)
         ) ⌝ }

@@ -3,6 +3,7 @@ ghost use mathlib.Core.Path.{_≡_};
 ghost use mathlib.Core.Bool.{true, false};
 ghost use Prim.Native.Nat.{_≤_};
 ghost use lib.ListN.{length};
+ghost use Rattle.model.specs.Call.{table};
 ghost use Rattle.model.specs.Analyses.{Analysed};
 ghost use Rattle.sheet.specs.Measured.{Measured};
 ghost use Rattle.budget.specs.Outcome.{refusing};
@@ -29,11 +30,11 @@ pub fn store_lengths(
     requires { ⌜ Measured (now sheet) sizes × (sizes .«code_count» ≤ length (now «length_kinds»)) × (sizes .«code_count» ≤ length (now «length_values»)) ⌝ }
     requires { ⌜ (
         refusing before ≡ false
-        → (a : Analysed) × Stored (now sheet) a constant (now slots) (now present) (now kinds) (now values)
+        → (a : Analysed) × Stored (now sheet) a constant (table (now slots) (now present) (now kinds) (now values))
         ) ⌝ }
     ensures stored { λ r. ⌜ (
         refusing before ≡ false
-        → (a : Analysed) → Stored (now (sheet .entry)) a constant (now (slots .entry)) (now (present .entry)) (now (kinds .entry)) (now (values .entry))
+        → (a : Analysed) → Stored (now (sheet .entry)) a constant (table (now (slots .entry)) (now (present .entry)) (now (kinds .entry)) (now (values .entry)))
         → Lengthened (now (sheet .entry)) a (now («length_kinds» .entry)) (now («length_values» .entry)) (now («length_kinds» .exit)) (now («length_values» .exit))
         ) ⌝ }
     ensures kept { λ r. ⌜ (

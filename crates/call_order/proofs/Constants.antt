@@ -12,7 +12,7 @@ use Rattle.model.specs.Charges.{ok, _>>=_, continue}
 use Rattle.model.specs.Fact.{Fact, kind, value}
 use Rattle.model.specs.Tables.{presentBytes, cells}
 use Rattle.model.specs.Analyses.{Analysed, stage}
-use Rattle.model.specs.Call.{Table, Scratch, counts, tables, filled, zeroTable, filledTable}
+use Rattle.model.specs.Call.{Table, Scratch, counts, tables, filled, zeroTable, filledTable, table}
 use Rattle.model.specs.declared.VerifierResources.{VerifierResources}
 use Rattle.model.specs.declared.AnalysisKind.the-variants.{Constant}
 use Rattle.model.specs.declared.Counts.{Counts}
@@ -41,7 +41,7 @@ module _ (sheet : List ℕ) {sizes : Sizes} (accepted : Accepted sheet sizes) (o
   enough = roomIn sheet old w
 
   abbrev StoredIn : Analysed → Counts → Table → Type 0
-  StoredIn x given t = Stored sheet x given (t .slots) (t .present) (t .kinds) (t .values)
+  StoredIn x given t = Stored sheet x given t
 
   filled-stored : (before : VerifierResources) (x : Analysed) (after : VerifierResources) → stage Constant sheet enough f before ≡ ok x after
       → StoredIn x (counts x) (filledTable (tables x) old)
@@ -57,17 +57,19 @@ module _ (sheet : List ℕ) {sizes : Sizes} (accepted : Accepted sheet sizes) (o
         ascending = exact .ascending;
         few = omega (arith, few-below (localSlots sheet) (x .slots) (exact .ascending) (exact .below), counted (accepted .are) .local-slots, limited (measured accepted) .local-slots);
         rows-count = size .0;
-        sized = size .1;
         slots-fit = omega (arith, room .0, same .slots);
         present-fits = omega (arith, room .1, same .present);
         kinds-fit = omega (arith, room .2, same .kinds);
         values-fit = omega (arith, room .3, same .values);
         slots-are = front (x .slots) (old .slots) (length (x .slots)) refl;
-        present-are = front (presentBytes (x .rows)) (old .present) (codeCount sheet) (length-present (x .rows) ∙ size .0);
-        kinds-are = front (cells kind (length (x .slots)) (x .rows)) (old .kinds) (codeCount sheet * length (x .slots))
-            (length-cells kind (length (x .slots)) (x .rows) (size .1) ∙ ap (λ (n : ℕ). n * length (x .slots)) (size .0));
-        values-are = front (cells value (length (x .slots)) (x .rows)) (old .values) (codeCount sheet * length (x .slots))
-            (length-cells value (length (x .slots)) (x .rows) (size .1) ∙ ap (λ (n : ℕ). n * length (x .slots)) (size .0));
+        lie = record {
+          sized = size .1;
+          present-are = front (presentBytes (x .rows)) (old .present) (codeCount sheet) (length-present (x .rows) ∙ size .0);
+          kinds-are = front (cells kind (length (x .slots)) (x .rows)) (old .kinds) (codeCount sheet * length (x .slots))
+              (length-cells kind (length (x .slots)) (x .rows) (size .1) ∙ ap (λ (n : ℕ). n * length (x .slots)) (size .0));
+          values-are = front (cells value (length (x .slots)) (x .rows)) (old .values) (codeCount sheet * length (x .slots))
+              (length-cells value (length (x .slots)) (x .rows) (size .1) ∙ ap (λ (n : ℕ). n * length (x .slots)) (size .0));
+        };
       }
     where
       front : (table xs : List ℕ) (k : ℕ) → length table ≡ k → take k (filled table xs) ≡ table

@@ -43,7 +43,7 @@ use Rattle.budget.proofs.Left.{Left, covered, stopped, left-by}
 module _ (sheet : List ℕ) {sizes : Sizes} (accepted : Accepted sheet sizes) (budget : VerifierResources) (C I : Table) (W : Scratch) (lk lv lk′ lv′ : List ℕ)
     (begun : Outcome) {o₁ o₂ : Outcome} {n₁ n₂ : Counts} {w w₁ w₂ : Scratch} {c₁ i₁ : Table} (wz : w ≡ zeroScratch W) (graph : asSpent begun ≡ chargeGraph sheet budget)
     (e₁ : StageEnds Constant sheet (lengthTable lk lv) begun C w o₁ (staged n₁ c₁ w₁))
-    (lengths : refusing o₁ ≡ false → (x : Analysed) → Stored sheet x n₁ (c₁ .slots) (c₁ .present) (c₁ .kinds) (c₁ .values) → Lengthened sheet x lk lv lk′ lv′)
+    (lengths : refusing o₁ ≡ false → (x : Analysed) → Stored sheet x n₁ c₁ → Lengthened sheet x lk lv lk′ lv′)
     (e₂ : StageEnds IndexCheck sheet (lengthTable lk′ lv′) o₁ I w₁ o₂ (staged n₂ i₁ w₂))
     (same : SameLengths c₁ C) where
   c-zero : w₁ ≡ zeroScratch W

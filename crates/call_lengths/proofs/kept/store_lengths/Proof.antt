@@ -4,6 +4,7 @@ use mathlib.Core.Path.{_≡_, refl, sym, _∙_}
 use mathlib.Core.Bool.{false, false≢true}
 use native.Mathlib.Omega.{arith}
 use lib.Seq.{length-take-le}
+use Rattle.model.specs.Call.{table}
 use Rattle.model.specs.Sheet.{codeCount}
 use Rattle.model.specs.Analyses.{Analysed}
 use Rattle.sheet.proofs.Counted.{counted}
@@ -25,7 +26,7 @@ going c = sym (c .before .refuses .ensures) ∙ c .if1 .left
 
 there : (c : tie.Else1)
     → (a : Analysed)
-    × Stored (start c .args .sheet .now) a (start c .args .constant) (start c .args .slots .now) (start c .args .present .now) (start c .args .kinds .now) (start c .args .values .now)
+    × Stored (start c .args .sheet .now) a (start c .args .constant) (table (start c .args .slots .now) (start c .args .present .now) (start c .args .kinds .now) (start c .args .values .now))
 there c = start c .pre .1 (going c)
 
 many : (c : tie.Else1) → start c .args .sizes .«code_count» ≡ codeCount (start c .args .sheet .now)
