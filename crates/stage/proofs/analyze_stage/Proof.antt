@@ -49,16 +49,14 @@ told-there : (c : tie.After-struct-known)
     → PreparedTold (begun c .args .before) (begun c .args .which) (begun c .args .sheet .now) (old (begun c)) (work (begun c)) (at-prepare c .prepare .result)
     (at-prepare c .prepare .last .1 .1 .1 .1 .1 .0) (at-prepare c .prepare .last .1 .1 .1 .1 .1 .1 .1 .1 .0) (at-prepare c .prepare .last .1 .1 .1 .1 .1 .1 .1 .1 .1 .0)
 told-there c =
-    let q = at-clear (at-prepare c) in
-    let s = begun c in
+    let q = at-clear (at-prepare c) in let s = begun c in
     asked-lent (s .args .before) (s .args .which) (s .args .sheet .now) (old s) (work s) (q .clear-rows .kept .0) (q .clear-rows .kept .1 .0) (q .clear-rows .kept .1 .1 .0)
     (at-prepare c .prepare .result) _ _ _ (at-prepare c .prepare .ensures .0)
 
 ready-there : (c : tie.Else1)
     → Ready (begun (c .before) .args .before) (begun (c .before) .args .which) (begun (c .before) .args .sheet .now) (old (begun (c .before))) (work (begun (c .before))) (at-prepare (c .before) .prepare .result)
     (at-prepare (c .before) .prepare .last .1 .1 .1 .1 .1 .0) (at-prepare (c .before) .prepare .last .1 .1 .1 .1 .1 .1 .1 .1 .0) (at-prepare (c .before) .prepare .last .1 .1 .1 .1 .1 .1 .1 .1 .1 .0)
-ready-there c =
-    let s = begun (c .before) in
+ready-there c = let s = begun (c .before) in
     ready (s .args .before) (s .args .which) (s .args .sheet .now) (old s) (work s) (told-there (c .before)) (not-false _ (c .if1 .left))
 
 lent-there : (c : tie.Else1)
@@ -66,8 +64,7 @@ lent-there : (c : tie.Else1)
     (runMemory (at-clear (at-prepare (c .before)) .clear-rows .last .0) (at-clear (at-prepare (c .before)) .clear-rows .last .1 .0) (at-clear (at-prepare (c .before)) .clear-rows .last .1 .1 .0)
     (at-prepare (c .before) .prepare .last .1 .1 .1 .1 .1 .1 .1 .1 .0) (at-prepare (c .before) .prepare .last .1 .1 .1 .1 .1 .1 .1 .1 .1 .0) (begun (c .before) .args .work-list .now))
 lent-there c =
-    let q = at-clear (at-prepare (c .before)) in
-    let s = begun (c .before) in
+    let q = at-clear (at-prepare (c .before)) in let s = begun (c .before) in
     run-lent (s .args .before) (s .args .which) (s .args .sheet .now) (s .pre .0) (old s) (work s) (s .pre .1) (counted (s .pre .0 .accepted .are) .code-count) (ready-there c) (not-false _ (c .if1 .left))
     (q .clear-rows .ensures .0) (q .clear-rows .ensures .1) (q .clear-rows .ensures .2)
 
@@ -80,103 +77,43 @@ prepare-requires c κs =
 
 returns : tie.Need-returns
 returns c =
-    let p = at-prepare (c .before) in
-    let q = at-clear p in
-    let s = at-start q in
+    let p = at-prepare (c .before) in let q = at-clear p in let s = at-start q in
     idles (s .args .before) (s .args .which) (s .args .sheet .now) (old s) (work s) _ (s .pre .1) (told-there (c .before)) (not-true _ (c .if1 .taken))
     (q .clear-rows .ensures .0) (q .clear-rows .ensures .1) (q .clear-rows .ensures .2) (p .prepare .ensures .1) (p .prepare .ensures .2)
-
-mul-cells : tie.Need-mul-cells
-mul-cells c = record { fits = lent-there c .cells-fit }
-
-slice-reshare-prefix-run-to-fixpoint : tie.Need-slice-reshare-prefix-run-to-fixpoint
-slice-reshare-prefix-run-to-fixpoint c = lent-there c .slots-fit
-
-slice-aggregate-run-to-fixpoint : tie.Need-slice-aggregate-run-to-fixpoint
-slice-aggregate-run-to-fixpoint c = sym (length-take-le _ _ (lent-there (c .before) .slots-fit))
-
-slice-relend-prefix-run-to-fixpoint : tie.Need-slice-relend-prefix-run-to-fixpoint
-slice-relend-prefix-run-to-fixpoint c = lent-there (c .before .before) .present-fits
-
-slice-aggregate-run-to-fixpoint-2 : tie.Need-slice-aggregate-run-to-fixpoint-2
-slice-aggregate-run-to-fixpoint-2 c = sym (length-take-le _ _ (lent-there (c .before .before .before) .present-fits))
-
-slice-relend-prefix-run-to-fixpoint-2 : tie.Need-slice-relend-prefix-run-to-fixpoint-2
-slice-relend-prefix-run-to-fixpoint-2 c = lent-there (c .before .before .before) .kinds-fit
-
-slice-aggregate-run-to-fixpoint-3 : tie.Need-slice-aggregate-run-to-fixpoint-3
-slice-aggregate-run-to-fixpoint-3 c = sym (length-take-le _ _ (lent-there (c .before .before .before .before) .kinds-fit))
-
-slice-relend-prefix-run-to-fixpoint-3 : tie.Need-slice-relend-prefix-run-to-fixpoint-3
-slice-relend-prefix-run-to-fixpoint-3 c = lent-there (c .before .before .before .before) .values-fit
-
-slice-aggregate-run-to-fixpoint-4 : tie.Need-slice-aggregate-run-to-fixpoint-4
-slice-aggregate-run-to-fixpoint-4 c = sym (length-take-le _ _ (lent-there (c .before .before .before .before .before) .values-fit))
-
-slice-relend-prefix-run-to-fixpoint-4 : tie.Need-slice-relend-prefix-run-to-fixpoint-4
-slice-relend-prefix-run-to-fixpoint-4 c = lent-there (c .before .before .before .before .before) .row-kinds-fit
-
-slice-aggregate-run-to-fixpoint-5 : tie.Need-slice-aggregate-run-to-fixpoint-5
-slice-aggregate-run-to-fixpoint-5 c = sym (length-take-le _ _ (lent-there (c .before .before .before .before .before .before) .row-kinds-fit))
-
-slice-relend-prefix-run-to-fixpoint-5 : tie.Need-slice-relend-prefix-run-to-fixpoint-5
-slice-relend-prefix-run-to-fixpoint-5 c = lent-there (c .before .before .before .before .before .before) .row-values-fit
-
-slice-aggregate-run-to-fixpoint-6 : tie.Need-slice-aggregate-run-to-fixpoint-6
-slice-aggregate-run-to-fixpoint-6 c = sym (length-take-le _ _ (lent-there (c .before .before .before .before .before .before .before) .row-values-fit))
 
 run-to-fixpoint-requires : tie.Need-run-to-fixpoint-requires
 run-to-fixpoint-requires c κs =
     let e = c .before .before .before .before .before .before .before .before in
     ((begun (e .before) .pre .0, lent-there e .tracked), lent-there e .run)
 
-same-length-9 : tie.Need-same-length-9
-same-length-9 c = c .before .before .conclude .kept .1 .1 .1 .0 ∙ at-prepare (at-else (at-run c) .before) .prepare .kept .1 .1 .1 .1 .1 .0
-
 same-length-10 : tie.Need-same-length-10
-same-length-10 c =
-    let run = at-run c in
+same-length-10 c = let run = at-run c in
     whole-length _ _ (lent-there (at-else run) .present-fits) (run .run-to-fixpoint .last .1 .1 .1 .1 .1 .1 .1 .1 .1 .0) (run .run-to-fixpoint .kept .1 .1 .1 .1 .1 .1 .1 .1 .1 .0)
     ∙ at-clear (at-prepare (at-else run .before)) .clear-rows .kept .0
 
 same-length-11 : tie.Need-same-length-11
-same-length-11 c =
-    let run = at-run c in
+same-length-11 c = let run = at-run c in
     whole-length _ _ (lent-there (at-else run) .kinds-fit) (run .run-to-fixpoint .last .1 .1 .1 .1 .1 .1 .1 .1 .1 .1 .0) (run .run-to-fixpoint .kept .1 .1 .1 .1 .1 .1 .1 .1 .1 .1 .0)
     ∙ at-clear (at-prepare (at-else run .before)) .clear-rows .kept .1 .0
 
 same-length-12 : tie.Need-same-length-12
-same-length-12 c =
-    let run = at-run c in
+same-length-12 c = let run = at-run c in
     whole-length _ _ (lent-there (at-else run) .values-fit) (run .run-to-fixpoint .last .1 .1 .1 .1 .1 .1 .1 .1 .1 .1 .1 .0) (run .run-to-fixpoint .kept .1 .1 .1 .1 .1 .1 .1 .1 .1 .1 .1 .0)
     ∙ at-clear (at-prepare (at-else run .before)) .clear-rows .kept .1 .1 .0
 
-same-length-13 : tie.Need-same-length-13
-same-length-13 c = at-prepare (at-else (at-run c) .before) .prepare .kept .1 .1 .1 .1 .1 .1 .0
-
-same-length-14 : tie.Need-same-length-14
-same-length-14 c = at-prepare (at-else (at-run c) .before) .prepare .kept .1 .1 .1 .1 .1 .1 .1 .0
-
 same-length-15 : tie.Need-same-length-15
-same-length-15 c =
-    let run = at-run c in
+same-length-15 c = let run = at-run c in
     whole-length _ _ (lent-there (at-else run) .row-kinds-fit) (run .run-to-fixpoint .last .1 .1 .1 .1 .1 .1 .1 .1 .1 .1 .1 .1 .0) (run .run-to-fixpoint .kept .1 .1 .1 .1 .1 .1 .1 .1 .1 .1 .1 .1 .0)
     ∙ at-prepare (at-else run .before) .prepare .kept .1 .1 .1 .1 .1 .1 .1 .1 .0
 
 same-length-16 : tie.Need-same-length-16
-same-length-16 c =
-    let run = at-run c in
+same-length-16 c = let run = at-run c in
     whole-length _ _ (lent-there (at-else run) .row-values-fit) (run .run-to-fixpoint .last .1 .1 .1 .1 .1 .1 .1 .1 .1 .1 .1 .1 .1 .0) (run .run-to-fixpoint .kept .1 .1 .1 .1 .1 .1 .1 .1 .1 .1 .1 .1 .1 .0)
     ∙ at-prepare (at-else run .before) .prepare .kept .1 .1 .1 .1 .1 .1 .1 .1 .1 .0
 
 returns-2 : tie.Need-returns-2
 returns-2 c =
-    let end = c .before .before in
-    let run = at-run c in
-    let e = at-else run in
-    let p = at-prepare (e .before) in
-    let q = at-clear p in
-    let s = at-start q in
+    let end = c .before .before in let run = at-run c in let e = at-else run in let p = at-prepare (e .before) in let q = at-clear p in let s = at-start q in
     concluded (s .args .before) (s .args .which) (s .args .sheet .now) (s .pre .0) (old s) (work s) (s .pre .1) (counted (s .pre .0 .accepted .are) .code-count) (ready-there e) (not-false _ (e .if1 .left))
     (q .clear-rows .ensures .0) (q .clear-rows .ensures .1) (q .clear-rows .ensures .2) (p .prepare .ensures .1) (p .prepare .ensures .2) (at-left run .left-of .ensures) (run .run-to-fixpoint .result) _
     (record {
@@ -192,7 +129,13 @@ pub analyze-stage-spec : {M : Type 1} → statement M
 analyze-stage-spec =
     tie.close
     (tie.spec (λ c κs. search needs) prepare-requires (λ c. search needs) (λ c. search needs) (λ c. search needs) (λ c. search needs) (λ c. search needs) (λ c. search needs) (λ c. search needs)
-    (λ c. search needs) returns mul-cells slice-reshare-prefix-run-to-fixpoint slice-aggregate-run-to-fixpoint (λ c κs. search needs) slice-relend-prefix-run-to-fixpoint slice-aggregate-run-to-fixpoint-2
-    slice-relend-prefix-run-to-fixpoint-2 slice-aggregate-run-to-fixpoint-3 slice-relend-prefix-run-to-fixpoint-3 slice-aggregate-run-to-fixpoint-4 slice-relend-prefix-run-to-fixpoint-4
-    slice-aggregate-run-to-fixpoint-5 slice-relend-prefix-run-to-fixpoint-5 slice-aggregate-run-to-fixpoint-6 run-to-fixpoint-requires (λ c κs. search needs) same-length-9 same-length-10 same-length-11
-    same-length-12 same-length-13 same-length-14 same-length-15 same-length-16 (λ c. search needs) returns-2)
+    (λ c. search needs) returns (λ c. record { fits = lent-there c .cells-fit }) (λ c. lent-there c .slots-fit) (λ c. sym (length-take-le _ _ (lent-there (c .before) .slots-fit))) (λ c κs. search needs)
+    (λ c. lent-there (c .before .before) .present-fits) (λ c. sym (length-take-le _ _ (lent-there (c .before .before .before) .present-fits)))
+    (λ c. lent-there (c .before .before .before) .kinds-fit) (λ c. sym (length-take-le _ _ (lent-there (c .before .before .before .before) .kinds-fit)))
+    (λ c. lent-there (c .before .before .before .before) .values-fit) (λ c. sym (length-take-le _ _ (lent-there (c .before .before .before .before .before) .values-fit)))
+    (λ c. lent-there (c .before .before .before .before .before) .row-kinds-fit) (λ c. sym (length-take-le _ _ (lent-there (c .before .before .before .before .before .before) .row-kinds-fit)))
+    (λ c. lent-there (c .before .before .before .before .before .before) .row-values-fit)
+    (λ c. sym (length-take-le _ _ (lent-there (c .before .before .before .before .before .before .before) .row-values-fit)))
+    run-to-fixpoint-requires (λ c κs. search needs) (λ c. c .before .before .conclude .kept .1 .1 .1 .0 ∙ at-prepare (at-else (at-run c) .before) .prepare .kept .1 .1 .1 .1 .1 .0)
+    same-length-10 same-length-11 same-length-12 (λ c. at-prepare (at-else (at-run c) .before) .prepare .kept .1 .1 .1 .1 .1 .1 .0)
+    (λ c. at-prepare (at-else (at-run c) .before) .prepare .kept .1 .1 .1 .1 .1 .1 .1 .0) same-length-15 same-length-16 (λ c. search needs) returns-2)
