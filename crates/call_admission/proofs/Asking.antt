@@ -3,6 +3,7 @@
 use mathlib.Core.Path.{_≡_, refl, sym, ap, _∙_}
 use mathlib.Core.Bool.{Bool, true, false, _&&_}
 use mathlib.Core.List.{List}
+use mathlib.Core.Logic.{_⊎_, inl, inr}
 use mathlib.Core.Option.{Option, none, some}
 use Prim.Native.Nat.{ℕ, _≤_, _<_}
 use native.Mathlib.Omega.{arith}
@@ -14,15 +15,14 @@ use Rattle.model.specs.Call.{Lent, closureRoom, afterSix, afterFive, call, answ
 use Rattle.model.specs.declared.VerifierResources.{VerifierResources}
 use Rattle.model.specs.declared.Answer.the-variants.{Invalid}
 use Rattle.model.proofs.Tests.{both}
-use Rattle.sheet.specs.Sizes.{sizesOf}
-use Rattle.sheet_questions.specs.Check.{checkOf, sheetCheck}
+use Rattle.sheet_questions.specs.Check.{sheetCheck}
+use Rattle.sheet_questions.proofs.Refused.{accepted, refused}
+use Rattle.sheet.proofs.Counted.{counted}
 use Rattle.sheet.specs.Measured.{Accepted}
 use Rattle.sheet.specs.declared.Sizes.{Sizes}
-use Rattle.sheet_questions.specs.declared.SheetCheck.{SheetCheck}
-use Rattle.sheet_questions.specs.declared.SheetCheck.the-variants as Q
-use Rattle.call_admission.specs.Admitted.{admittedIf, admissionOf, admission}
-use Rattle.call_admission.specs.declared.Admission.{Admission}
-use Rattle.call_admission.specs.declared.Admission.the-variants.{Admitted, Refused}
+use Rattle.call_admission.specs.Admitted.{admittedIf, askedLast, admission}
+use Rattle.sheet_questions.specs.declared.Admission.{Admission}
+use Rattle.sheet_questions.specs.declared.Admission.the-variants.{Admitted, Refused}
 
 -- ---- question 6
 
@@ -41,61 +41,68 @@ module _ (l marks stack : ℕ) (sizes : Sizes) where
 
 -- ---- questions 1 to 6
 
-module _ (sheet : List ℕ) (marks stack : ℕ) {checked : SheetCheck} (e : checked ≡ sheetCheck sheet) where
-  pub refused-before : {number : ℕ} → checked ≡ Q.Refused number → Refused number ≡ admission sheet marks stack
-  unfolding sheetCheck checkOf admission admissionOf
-  refused-before {number} c = go (sheetRefusal sheet) (sym c ∙ e)
-    where
-      go : (r : Option ℕ) → Q.Refused number ≡ checkOf (sizesOf sheet) r → Refused number ≡ admissionOf r sheet marks stack
-      go none p = let z : _≡_ {A = ℕ} 0 1 = cc in absurd (omega arith)
-      go (some n) p = let q : number ≡ n = cc in ap (λ (k : ℕ). Refused k) q
+module _ (sheet : List ℕ) (marks stack : ℕ) {checked : Admission} (e : checked ≡ sheetCheck sheet) where
+  pub refused-before : {number : ℕ} → checked ≡ Refused number → checked ≡ admission sheet marks stack
+  unfolding admission askedLast
+  refused-before c = rw (← e, c)
 
-  pub asked-last : {sizes : Sizes} {given : Admission} → checked ≡ Q.Accepted sizes → given ≡ admittedIf (leb (sizes .«local_slots») marks && leb (sizes .«local_slots») stack) sizes
+  pub asked-last : {sizes : Sizes} {given : Admission} → checked ≡ Admitted sizes → given ≡ admittedIf (leb (sizes .«local_slots») marks && leb (sizes .«local_slots») stack) sizes
       → given ≡ admission sheet marks stack
-  unfolding sheetCheck checkOf admission admissionOf sizesOf
-  asked-last {sizes} {given} c k = go (sheetRefusal sheet) (sym c ∙ e)
-    where
-      go : (r : Option ℕ) → Q.Accepted sizes ≡ checkOf (sizesOf sheet) r → given ≡ admissionOf r sheet marks stack
-      go none p = let q : sizes ≡ sizesOf sheet = cc in k ∙ rw q refl
-      go (some n) p = let z : _≡_ {A = ℕ} 0 1 = cc in absurd (omega arith)
+  unfolding admission askedLast
+  asked-last c k = rw (← e, c) k
 
--- ---- what the analyses begin with
+-- ---- what the answer says
 
-module _ (sheet : List ℕ) (marks stack : ℕ) {given : Admission} (e : given ≡ admission sheet marks stack) {sizes : Sizes} (c : given ≡ Admitted sizes) where
-  admitted : Accepted sheet sizes × (leb (localSlots sheet) marks && leb (localSlots sheet) stack ≡ true)
+module _ (sheet : List ℕ) (marks stack : ℕ) {given : Admission} (e : given ≡ admission sheet marks stack) where
+  abbrev roomy : Bool
+  roomy = leb (localSlots sheet) marks && leb (localSlots sheet) stack
+
+  same-room : {sizes : Sizes} {b : Bool} → Accepted sheet sizes → leb (sizes .«local_slots») marks && leb (sizes .«local_slots») stack ≡ b → roomy ≡ b
+  same-room a h = rw (← (counted (a .are) .local-slots)) h
+
+  admitted : {sizes : Sizes} → given ≡ Admitted sizes → Accepted sheet sizes × (roomy ≡ true)
   unfolding admission
-  admitted = go (sheetRefusal sheet) refl (sym c ∙ e)
+  admitted {sizes} c = go (sheetCheck sheet) refl (sym c ∙ e)
     where
-      six : (b : Bool) → Admitted sizes ≡ admittedIf b (sizesOf sheet) → (sizes ≡ sizesOf sheet) × (b ≡ true)
-      six true p = unfold admittedIf in (let q : sizes ≡ sizesOf sheet = cc in (q, refl))
+      six : (b : Bool) {s : Sizes} → Admitted sizes ≡ admittedIf b s → (Admitted sizes ≡ Admitted s) × (b ≡ true)
+      six true p = unfold admittedIf in (p, refl)
       six false p = unfold admittedIf in (let z : _≡_ {A = ℕ} 0 1 = cc in absurd (omega arith))
 
-      go : (r : Option ℕ) → sheetRefusal sheet ≡ r → Admitted sizes ≡ admissionOf r sheet marks stack
-          → Accepted sheet sizes × (leb (localSlots sheet) marks && leb (localSlots sheet) stack ≡ true)
-      go none h p = unfold admissionOf in (let s = six _ p in (record { are = s .0; accepted = h }, s .1))
-      go (some n) h p = unfold admissionOf in (let z : _≡_ {A = ℕ} 0 1 = cc in absurd (omega arith))
+      go : (q : Admission) → sheetCheck sheet ≡ q → Admitted sizes ≡ askedLast q marks stack → Accepted sheet sizes × (roomy ≡ true)
+      go (Admitted s) h p = unfold askedLast in (let x = six _ p in let a = accepted sheet (sym h) in let q : sizes ≡ s = cc in (rw q a, same-room a (x .1)))
+      go (Refused n) h p = unfold askedLast in (let z : _≡_ {A = ℕ} 0 1 = cc in absurd (omega arith))
 
-  pub admitted-lengths : Accepted sheet sizes × (localSlots sheet ≤ marks) × (localSlots sheet ≤ stack)
-  admitted-lengths =
-      let room = both (leb (localSlots sheet) marks) _ (admitted .1) in
-      (admitted .0, leb-true _ _ (room .0), leb-true _ _ (room .1))
+  pub admitted-lengths : {sizes : Sizes} → given ≡ Admitted sizes → Accepted sheet sizes × (localSlots sheet ≤ marks) × (localSlots sheet ≤ stack)
+  admitted-lengths c =
+      let a = admitted c in
+      let room = both (leb (localSlots sheet) marks) _ (a .1) in
+      (a .0, leb-true _ _ (room .0), leb-true _ _ (room .1))
+
+  -- one of the questions 1 to 5 refuses, or 6 does
+  pub refused-by : {number : ℕ} → given ≡ Refused number → (sheetRefusal sheet ≡ some number) ⊎ ((sheetRefusal sheet ≡ none) × (roomy ≡ false) × (number ≡ 6))
+  unfolding admission
+  refused-by {number} c = go (sheetCheck sheet) refl (sym c ∙ e)
+    where
+      six : (b : Bool) (s : Sizes) → Refused number ≡ admittedIf b s → (b ≡ false) × (number ≡ 6)
+      six true s p = unfold admittedIf in (let z : _≡_ {A = ℕ} 0 1 = cc in absurd (omega arith))
+      six false s p = unfold admittedIf in (let q : number ≡ 6 = cc in (refl, q))
+
+      go : (q : Admission) → sheetCheck sheet ≡ q → Refused number ≡ askedLast q marks stack → (sheetRefusal sheet ≡ some number) ⊎ ((sheetRefusal sheet ≡ none) × (roomy ≡ false) × (number ≡ 6))
+      go (Admitted s) h p = unfold askedLast in (let x = six _ s p in let a = accepted sheet (sym h) in inr (a .accepted, same-room a (x .0), x .1))
+      go (Refused n) h p = unfold askedLast in (let q : number ≡ n = cc in inl (refused sheet (sym h) ∙ ap some (sym q)))
 
 -- ---- what it says of the call
 
 module _ (sheet : List ℕ) (lent : Lent) {given : Admission} (e : given ≡ admission sheet (length (lent .marks)) (length (lent .stack))) where
   -- "After 1 to 6 and 9 nothing lent changes .. and the budget stays."
   pub turned-away : (budget : VerifierResources) {number : ℕ} → given ≡ Refused number → some (result (Invalid number budget) lent) ≡ analyzed sheet budget lent
-  unfolding admission analyzed call
-  turned-away budget {number} c = go (sheetRefusal sheet) (sym c ∙ e)
+  unfolding analyzed call closureRoom afterFive afterSix resultOf answer lentAfter
+  turned-away budget {number} c = go (refused-by sheet _ _ e c)
     where
-      six : (b : Bool) → Refused number ≡ admittedIf b (sizesOf sheet) → some (result (Invalid number budget) lent) ≡ resultOf budget lent (afterSix b sheet budget lent)
-      six true p = unfold admittedIf in (let z : _≡_ {A = ℕ} 0 1 = cc in absurd (omega arith))
-      six false p = unfold admittedIf afterSix resultOf answer lentAfter in (let q : number ≡ 6 = cc in ap (λ (k : ℕ). some (result (Invalid k budget) lent)) q)
-
-      go : (r : Option ℕ) → Refused number ≡ admissionOf r sheet (length (lent .marks)) (length (lent .stack))
-          → some (result (Invalid number budget) lent) ≡ resultOf budget lent (afterFive r sheet budget lent)
-      go none p = unfold admissionOf afterFive closureRoom in (six _ p)
-      go (some n) p = unfold admissionOf afterFive resultOf answer lentAfter in (let q : number ≡ n = cc in ap (λ (k : ℕ). some (result (Invalid k budget) lent)) q)
+      go : (sheetRefusal sheet ≡ some number) ⊎ ((sheetRefusal sheet ≡ none) × (roomy sheet (length (lent .marks)) (length (lent .stack)) e ≡ false) × (number ≡ 6))
+          → some (result (Invalid number budget) lent) ≡ analyzed sheet budget lent
+      go (inl h) = rw h
+      go (inr h) = rw (h .0, h .1, h .2)
 
   pub taken-in : {sizes : Sizes} → given ≡ Admitted sizes → Accepted sheet sizes × (closureRoom sheet lent ≡ true)
   unfolding closureRoom

@@ -3,9 +3,8 @@ ghost use mathlib.Core.Path.{_≡_};
 ghost use mathlib.Core.Bool.{_&&_};
 ghost use lib.Dec.{leb};
 ghost use Rattle.call_admission.specs.Admitted.{admittedIf, admission};
-use crate::Admission;
 use sheet::Sizes;
-use sheet_questions::SheetCheck;
+use sheet_questions::Admission;
 use sheet_questions::check_sheet;
 
 // "6. Have the marks and the closure's stack at least L entries each?"
@@ -26,8 +25,8 @@ pub fn admit(sheet: &[u8], marks: usize, stack: usize) -> Admission
     ensures { λ r. ⌜ r ≡ admission (now (sheet .entry)) marks stack ⌝ }
 {
     let checked = check_sheet(sheet);
-    match checked {
-        SheetCheck::Refused { number } => Admission::Refused { number },
-        SheetCheck::Accepted { sizes } => closure_room(sizes, marks, stack),
-    }
+    let Admission::Admitted { sizes } = checked else {
+        return checked;
+    };
+    closure_room(sizes, marks, stack)
 }

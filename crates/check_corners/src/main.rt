@@ -18,7 +18,7 @@ use check_input::read_front;
 use libc::STDIN_FILENO;
 use libc::STDOUT_FILENO;
 use sheet::Sizes;
-use sheet_questions::SheetCheck;
+use sheet_questions::Admission;
 
 // A proved loop has to end, and nothing says that the input does. So the loop counts its turns down, from a number that no run uses up.
 fn main() {
@@ -92,13 +92,13 @@ fn answer_sheet(length: usize, questions: u16) -> bool {
 // A sheet that is refused can be asked nothing more.
 fn check_and_answer(sheet: &[u8], questions: u16) -> bool {
     match sheet_questions::check_sheet(sheet) {
-        SheetCheck::Accepted { sizes } => {
+        Admission::Admitted { sizes } => {
             if !print_accepted(sizes) {
                 return false;
             }
             answer_accepted(sheet, sizes, questions)
         }
-        SheetCheck::Refused { number } => {
+        Admission::Refused { number } => {
             if !print_refused(number) {
                 return false;
             }

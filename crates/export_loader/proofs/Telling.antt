@@ -1,9 +1,10 @@
 -- What a loader is room-told, by each way out of the functions.
 -- Assumes nothing.
 use mathlib.Core.Path.{_≡_, refl, sym, ap, _∙_}
-use mathlib.Core.Bool.{Bool, true, false}
+use mathlib.Core.Bool.{false, _&&_}
+use mathlib.Core.Logic.{_⊎_, inl, inr}
 use mathlib.Core.List.{List, [], _∷_}
-use mathlib.Core.Option.{Option, none, some}
+use mathlib.Core.Option.{none, some}
 use Prim.Native.Nat.{ℕ, _*_, _≤_, _<_}
 use native.Mathlib.Nat.{mul-le-mul}
 use native.Mathlib.Omega.{arith}
@@ -21,19 +22,16 @@ use Rattle.model.specs.declared.AnalysisKind.the-variants.{Constant, IndexCheck
 use Rattle.budget.specs.Outcome.{leaves, leavesOf}
 use Rattle.budget.specs.declared.Outcome.{Outcome}
 use Rattle.budget.proofs.Left.{Left, covered, stopped, left-by}
-use Rattle.sheet.specs.Sizes.{sizesOf}
 use Rattle.sheet.specs.Measured.{Measured, Accepted}
 use Rattle.sheet.specs.declared.Sizes.{Sizes}
 use Rattle.sheet.proofs.Counted.{counted}
 use Rattle.sheet.proofs.Limited.{limited}
-use Rattle.sheet_questions.specs.Check.{checkOf, sheetCheck}
-use Rattle.sheet_questions.proofs.Refused.{accepted}
-use Rattle.sheet_questions.specs.declared.SheetCheck.{SheetCheck}
-use Rattle.sheet_questions.specs.declared.SheetCheck.the-variants as Q
-use Rattle.call_admission.specs.Admitted.{admittedIf, admissionOf, admission}
-use Rattle.call_admission.specs.declared.Admission.{Admission}
-use Rattle.call_admission.specs.declared.Admission.the-variants as A
-use Rattle.call_admission.proofs.Asking.{admitted-lengths}
+use Rattle.sheet_questions.specs.Check.{sheetCheck}
+use Rattle.sheet_questions.specs.declared.Admission.{Admission}
+use Rattle.sheet_questions.specs.declared.Admission.the-variants.{Admitted, Refused}
+use Rattle.sheet_questions.proofs.Refused.{accepted, refused}
+use Rattle.call_admission.specs.Admitted.{admission}
+use Rattle.call_admission.proofs.Asking.{admitted-lengths, refused-by}
 use Rattle.closure.specs.Closed.{Closed, closed, closedBy}
 use Rattle.finality.proofs.Lengths.{zeros-length, zeros-same}
 use Rattle.model.specs.Interface.{looked, inFront}
@@ -89,20 +87,18 @@ module _ (sheet marks stack out : List ℕ) where
   out-too-short h = rw (lt-leb 4 (length out) h) refl
 
   module _ (long : 4 ≤ length out) {given : Admission} (e : given ≡ admission sheet (length marks) (length stack)) where
-    pub room-refused : {number : ℕ} → given ≡ A.Refused number → room number marks stack out ≡ roomOf (leb 4 (length out)) sheet marks stack out
-    unfolding roomOf admission
-    room-refused {number} c = rw (le-leb 4 (length out) long) (go (sheetRefusal sheet) (sym c ∙ e))
+    pub room-refused : {number : ℕ} → given ≡ Refused number → room number marks stack out ≡ roomOf (leb 4 (length out)) sheet marks stack out
+    unfolding roomOf roomAfterFive roomIf
+    room-refused c = rw (le-leb 4 (length out) long) (go (refused-by sheet _ _ e c))
       where
-        six : (b : Bool) → A.Refused number ≡ admittedIf b (sizesOf sheet) → room number marks stack out ≡ roomIf b sheet marks stack out
-        six true p = unfold admittedIf in (let z : _≡_ {A = ℕ} 0 1 = cc in absurd (omega arith))
-        six false p = unfold admittedIf roomIf in (let q : number ≡ 6 = cc in ap (λ (k : ℕ). room k marks stack out) q)
-
-        go : (r : Option ℕ) → A.Refused number ≡ admissionOf r sheet (length marks) (length stack) → room number marks stack out ≡ roomAfterFive r sheet marks stack out
-        go none p = unfold admissionOf roomAfterFive in (six _ p)
-        go (some n) p = unfold admissionOf roomAfterFive in (let q : number ≡ n = cc in ap (λ (k : ℕ). room k marks stack out) q)
+        go : {number : ℕ}
+            → (sheetRefusal sheet ≡ some number) ⊎ ((sheetRefusal sheet ≡ none) × (leb (localSlots sheet) (length marks) && leb (localSlots sheet) (length stack) ≡ false) × (number ≡ 6))
+            → room number marks stack out ≡ roomAfterFive (sheetRefusal sheet) sheet marks stack out
+        go (inl h) = rw h
+        go (inr h) = rw (h .0, h .1, h .2)
 
     -- all four room-told
-    pub room-told : {sizes : Sizes} {marks′ stack′ out′ : List ℕ} → given ≡ A.Admitted sizes → marks′ ≡ zeros marks → stack′ ≡ zeros stack → out′ ≡ inFront (roomNumbers sheet) out
+    pub room-told : {sizes : Sizes} {marks′ stack′ out′ : List ℕ} → given ≡ Admitted sizes → marks′ ≡ zeros marks → stack′ ≡ zeros stack → out′ ≡ inFront (roomNumbers sheet) out
         → room 0 marks′ stack′ out′ ≡ roomOf (leb 4 (length out)) sheet marks stack out
     unfolding roomOf roomAfterFive roomIf
     room-told c p q o =
@@ -129,16 +125,12 @@ module _ (sheet : List ℕ) (layout : ℕ) (out : List ℕ) where
   unfolding lowestOf
   no-entry h = rw (lt-leb 1 (length out) h) refl
 
-  module _ (long : 1 ≤ length out) {checked : SheetCheck} (e : checked ≡ sheetCheck sheet) where
-    pub sheet-refused : {number : ℕ} → checked ≡ Q.Refused number → looked number out ≡ lowestOf (leb 1 (length out)) sheet layout out
-    unfolding lowestOf sheetCheck
-    sheet-refused {number} c = rw (le-leb 1 (length out) long) (go (sheetRefusal sheet) (sym c ∙ e))
-      where
-        go : (r : Option ℕ) → Q.Refused number ≡ checkOf (sizesOf sheet) r → looked number out ≡ lowestAfterFive r sheet layout out
-        go none p = unfold checkOf in (let z : _≡_ {A = ℕ} 0 1 = cc in absurd (omega arith))
-        go (some n) p = unfold checkOf lowestAfterFive in (let q : number ≡ n = cc in ap (λ (k : ℕ). looked k out) q)
+  module _ (long : 1 ≤ length out) {checked : Admission} (e : checked ≡ sheetCheck sheet) where
+    pub sheet-refused : {number : ℕ} → checked ≡ Refused number → looked number out ≡ lowestOf (leb 1 (length out)) sheet layout out
+    unfolding lowestOf lowestAfterFive
+    sheet-refused c = rw (le-leb 1 (length out) long, refused sheet (sym c ∙ e))
 
-    pub searched : {sizes : Sizes} {returned : ℕ} {out′ : List ℕ} → checked ≡ Q.Accepted sizes
+    pub searched : {sizes : Sizes} {returned : ℕ} {out′ : List ℕ} → checked ≡ Admitted sizes
         → looked returned out′ ≡ lowestIf (ltb layout (layoutCount sheet)) sheet layout out → looked returned out′ ≡ lowestOf (leb 1 (length out)) sheet layout out
     unfolding lowestOf lowestAfterFive
     searched c p = rw (le-leb 1 (length out) long, accepted sheet (sym c ∙ e) .accepted) p

@@ -10,7 +10,7 @@ ghost use Rattle.model.specs.Room.{lowestIf, lowestOf};
 use sheet::Sizes;
 use sheet_index::layout_starts;
 use sheet_layouts::lowest;
-use sheet_questions::SheetCheck;
+use sheet_questions::Admission;
 use sheet_questions::check_sheet;
 
 // Of a sheet that questions 1 to 5 do not refuse: the lowest number of a layout with this one's content, or 254.
@@ -37,7 +37,7 @@ pub fn lowest_layout(sheet: &[u8], layout: u64, out: &mut [u64]) -> u8
     }
     let checked = check_sheet(sheet);
     match checked {
-        SheetCheck::Refused { number } => number,
-        SheetCheck::Accepted { sizes } => put_lowest(sheet, sizes, layout, out),
+        Admission::Refused { number } => number,
+        Admission::Admitted { sizes } => put_lowest(sheet, sizes, layout, out),
     }
 }

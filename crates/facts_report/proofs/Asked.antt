@@ -14,7 +14,7 @@ use Rattle.model.specs.Call.{call}
 use Rattle.model.specs.Listing.{tooLarge, refusedLine, callLines, listingLent, sized, asked, fits, listing}
 use Rattle.sheet.specs.Sizes.{sizesOf}
 use Rattle.sheet_questions.specs.Check.{checkOf, sheetCheck}
-use Rattle.sheet_questions.specs.declared.SheetCheck.the-variants.{Refused}
+use Rattle.sheet_questions.specs.declared.Admission.the-variants.{Refused}
 use Rattle.text_words.specs.Text.{ShowsText}
 
 -- the same text under another name

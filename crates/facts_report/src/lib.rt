@@ -9,7 +9,7 @@ ghost use Rattle.text_words.specs.Text.{ShowsText};
 use facts_call::list_facts;
 use sheet::Sizes;
 use sheet_index::index_sheet;
-use sheet_questions::SheetCheck;
+use sheet_questions::Admission;
 use sheet_questions::check_sheet;
 use text_lines::refused_line;
 use text_lines::too_large;
@@ -35,8 +35,8 @@ pub fn list(sheet: &[u8], out: &mut [u8; 2187530]) -> usize
         return too_large(0, out);
     }
     match check_sheet(sheet) {
-        SheetCheck::Refused { number } => refused_line(number, 0, out),
-        SheetCheck::Accepted { sizes } => list_accepted(sheet, sizes, out),
+        Admission::Refused { number } => refused_line(number, 0, out),
+        Admission::Admitted { sizes } => list_accepted(sheet, sizes, out),
     }
 }
 

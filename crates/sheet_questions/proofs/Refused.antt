@@ -14,16 +14,24 @@ use Rattle.sheet.specs.Measured.{Measured, Accepted}
 use Rattle.sheet.specs.declared.Sizes.{Sizes}
 use Rattle.sheet.proofs.Laid.{laid}
 use Rattle.sheet_questions.specs.Check.{checkOf, sheetCheck}
-use Rattle.sheet_questions.specs.declared.SheetCheck.the-variants.{Accepted as Accepts, Refused}
+use Rattle.sheet_questions.specs.declared.Admission.the-variants.{Admitted, Refused}
 
 -- what `check_sheet` has answered
-pub accepted : (sheet : List ℕ) {sizes : Sizes} → Accepts sizes ≡ sheetCheck sheet → Accepted sheet sizes
+pub accepted : (sheet : List ℕ) {sizes : Sizes} → Admitted sizes ≡ sheetCheck sheet → Accepted sheet sizes
 unfolding sheetCheck checkOf
 accepted sheet {sizes} e = go (sheetRefusal sheet) refl e
   where
-    go : (o : Option ℕ) → sheetRefusal sheet ≡ o → Accepts sizes ≡ checkOf (sizesOf sheet) o → Accepted sheet sizes
+    go : (o : Option ℕ) → sheetRefusal sheet ≡ o → Admitted sizes ≡ checkOf (sizesOf sheet) o → Accepted sheet sizes
     go none p q = record { are = cc; accepted = p }
     go (some number) p q = let z : _≡_ {A = ℕ} 0 1 = cc in absurd (omega arith)
+
+pub refused : (sheet : List ℕ) {number : ℕ} → Refused number ≡ sheetCheck sheet → sheetRefusal sheet ≡ some number
+unfolding sheetCheck checkOf
+refused sheet {number} e = go (sheetRefusal sheet) e
+  where
+    go : (o : Option ℕ) → Refused number ≡ checkOf (sizesOf sheet) o → o ≡ some number
+    go none q = let z : _≡_ {A = ℕ} 0 1 = cc in absurd (omega arith)
+    go (some other) q = cc
 
 -- ---- the first question that refuses a sheet
 
@@ -55,6 +63,6 @@ module _ {sheet : List ℕ} {sizes : Sizes} (m : Measured sheet sizes) where
   unfolding checkOf ask
   refused-5 sums unnamed = rw (asked-two, not-false (sumsMatch sheet) sums, not-true (kindsNamed sheet) unnamed)
 
-  pub unrefused : not (sumsMatch sheet) ≡ false → not (kindsNamed sheet) ≡ false → Accepts sizes ≡ sheetCheck sheet
+  pub unrefused : not (sumsMatch sheet) ≡ false → not (kindsNamed sheet) ≡ false → Admitted sizes ≡ sheetCheck sheet
   unfolding checkOf ask
   unrefused sums kinds = rw (asked-two, not-false (sumsMatch sheet) sums, not-false (kindsNamed sheet) kinds)

@@ -6,14 +6,14 @@ use Prim.Native.Nat.{ℕ}
 use Rattle.model.specs.Sheet.{sheetRefusal}
 use Rattle.sheet.specs.Sizes.{sizesOf}
 use Rattle.sheet.specs.declared.Sizes.{Sizes}
-use Rattle.sheet_questions.specs.declared.SheetCheck.{SheetCheck}
-use Rattle.sheet_questions.specs.declared.SheetCheck.the-variants.{Accepted, Refused}
+use Rattle.sheet_questions.specs.declared.Admission.{Admission}
+use Rattle.sheet_questions.specs.declared.Admission.the-variants.{Admitted, Refused}
 
 -- the sizes of a sheet that no question refuses, or the number of the first that does
-unfoldable pub checkOf : Sizes → Option ℕ → SheetCheck
-checkOf sizes none = Accepted sizes
+unfoldable pub checkOf : Sizes → Option ℕ → Admission
+checkOf sizes none = Admitted sizes
 checkOf sizes (some number) = Refused number
 
 -- of a sheet
-unfoldable pub sheetCheck : List ℕ → SheetCheck
+unfoldable pub sheetCheck : List ℕ → Admission
 sheetCheck sheet = checkOf (sizesOf sheet) (sheetRefusal sheet)

@@ -10,8 +10,9 @@ pub use question_5::kinds_named;
 use sheet::Sizes;
 pub use whole::check_sheet;
 
-// What questions 1 to 5 come to: the sheet's sizes, or the number of the first that refuses it.
-pub enum SheetCheck {
-    Accepted { sizes: Sizes },
+// What the questions come to that are asked before any charge, 1 to 5 of a sheet and 6 of a call: the sheet's sizes, or the number of the
+// first that refuses.
+pub enum Admission {
+    Admitted { sizes: Sizes },
     Refused { number: u8 },
 }
