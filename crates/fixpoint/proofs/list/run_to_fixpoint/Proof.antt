@@ -4,7 +4,7 @@ use mathlib.Core.Logic.{⊎-elim}
 use mathlib.Core.Path.{_≡_, ap, _∙_}
 use Prim.Native.Nat.{_+_, _*_, _-_, _<_, _≤_}
 use native.Mathlib.Omega.{arith}
-use borrow.Author.Tests.{leb-true, leb-false}
+use borrow.Author.Tests.{leb-true, leb-false, ltb-true, ltb-false}
 use lib.ListN.{length}
 use Rattle.model.specs.Call.{zeros}
 use Rattle.model.specs.Sheet.{codeCount}
@@ -82,7 +82,7 @@ take-requires : tie.Need-take-requires Inv-loop μ-loop
 take-requires c κs = let inv = c .before .before .before .loop .inv in (c .before .before .loop-test .taken, omega (arith, inv .fits, inv .list-fits, inv .list-length))
 
 enough : (c : tie.After-take Inv-loop μ-loop) → length (at-start (at-loop c) .args .slots .now) ≤ at-loop c .loop .rest
-enough c = leb-true _ _ (c .before .before .if1 .taken)
+enough c = omega (arith, leb-true, ltb-true, c .before .before .if1 .taken)
 
 add-pops : tie.Need-add-pops Inv-loop μ-loop
 add-pops c =
@@ -136,7 +136,7 @@ loop-again c =
 -- behind the loop: entries are left where a charge is refused
 
 low : (c : tie.Left-loop Inv-loop μ-loop) → 0 < c .before .loop .top → c .before .loop .rest < length (at-start (c .before) .args .slots .now)
-low c h = ⊎-elim (λ w. leb-false _ _ (w .1 .left)) (λ w. absurd (omega (arith, w .left))) (c .loop-test .came)
+low c h = ⊎-elim (λ w. omega (arith, leb-false, ltb-false, w .1 .left)) (λ w. absurd (omega (arith, w .left))) (c .loop-test .came)
 
 abbrev memory : tie.At-loop Inv-loop μ-loop → RunMemory
 memory c = let now = c .loop in runMemory (now .present) (now .kinds) (now .values) (now .row-kinds) (now .row-values) (now .work-list)
