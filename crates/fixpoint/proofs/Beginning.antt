@@ -1,6 +1,6 @@
--- The whole run: from the first row, through the loop, to what is left.
+-- From what the run is lent to the first turn, and the lengths that every turn keeps.
 -- Assumes nothing.
-use mathlib.Core.Path.{_≡_, sym, ap, _∙_, subst}
+use mathlib.Core.Path.{_≡_, sym, ap, _∙_}
 use mathlib.Core.Bool.{Bool, true, cond}
 use mathlib.Core.List.{List, [], _∷_}
 use mathlib.Core.Option.{Option, none}
@@ -25,12 +25,34 @@ use Rattle.fixpoint_list.proofs.Listed.{empty-listed, listed-enter}
 use Rattle.fixpoint_visit.specs.News.{rowsVisited}
 use Rattle.fixpoint_visit.specs.Visits.{JoinRequires, JoinEnsures}
 use Rattle.fixpoint_step.specs.Stepped.{SheetIndex, TrackedSlots}
-use Rattle.fixpoint.specs.declared.Ran.{Ran}
 use Rattle.fixpoint.specs.Memory.{RunMemory, runMemory}
-use Rattle.fixpoint.specs.Turn.{ranAnalysis, firstOf, Turn, RunRequires}
+use Rattle.fixpoint.specs.Turn.{ranAnalysis, Turn, RunRequires}
 use Rattle.fixpoint.proofs.Loop.{law, turn-of}
 use Rattle.fixpoint.proofs.Running as T
-use Rattle.fixpoint.proofs.Finishing.{RunTold}
+use Rattle.fixpoint.proofs.Finishing.{RunLengths}
+
+-- the lengths of what the run is lent
+lent-lengths : {n s : ℕ} {m : RunMemory} → RunRequires n s m
+    → (length (m .present) ≡ n) × (length (m .kinds) ≡ n * s) × (length (m .values) ≡ n * s) × (length (m .rowKinds) ≡ s) × (length (m .rowValues) ≡ s)
+lent-lengths {n} {s} f = (
+  ap length (f .present-zero) ∙ length-replicate {A = ℕ} n 0,
+  ap length (f .kinds-zero) ∙ length-replicate {A = ℕ} (n * s) 0,
+  ap length (f .values-zero) ∙ length-replicate {A = ℕ} (n * s) 0,
+  lies-kinds (f .row-lies) ∙ f .row-length,
+  lies-values (f .row-lies) ∙ f .row-length,
+)
+
+-- a turn keeps them
+pub turn-lengths : {which : AnalysisKind} {sheet slots lengthKinds lengthValues : List ℕ} {entry : Row} {left room : ℕ} {m old : RunMemory} {top pops rest : ℕ}
+    → Turn which sheet slots lengthKinds lengthValues entry left room m top pops rest → RunRequires (codeCount sheet) (length slots) old → RunLengths m old
+turn-lengths t f =
+    let w = lent-lengths f in record {
+      present = t .present-length ∙ sym (w .0);
+      kinds = t .kinds-length ∙ sym (w .1);
+      values = t .values-length ∙ sym (w .2);
+      rowKinds = t .row-kinds-length ∙ sym (w .3);
+      rowValues = t .row-values-length ∙ sym (w .4);
+    }
 
 module _ (which : AnalysisKind) {sheet : List ℕ} {sizes : Sizes} {firsts classes slots lengthKinds lengthValues : List ℕ} (resources : VerifierResources)
     {present kinds values rowKinds rowValues list : List ℕ}
@@ -45,28 +67,22 @@ module _ (which : AnalysisKind) {sheet : List ℕ} {sizes : Sizes} {firsts class
   lawful : Lawful (ranAnalysis which sheet slots lengthKinds lengthValues (factsOf rowKinds rowValues))
   lawful = law which sheet sizes firsts classes slots lengthKinds lengthValues first resources (length list) i s (f .row-length) (f .list-fits)
 
-  row-lengths : (length rowKinds ≡ length slots) × (length rowValues ≡ length slots)
-  row-lengths = (lies-kinds (f .row-lies) ∙ f .row-length, lies-values (f .row-lies) ∙ f .row-length)
-
   none-lie : RowsLie (length slots) (replicate (codeCount sheet) none) (tableSlices present kinds values)
   unfolding ranAnalysis analysis
   none-lie = rw (f .present-zero, f .kinds-zero, f .values-zero) (T.none-lie a lawful)
 
-  present-length : length present ≡ codeCount sheet
-  present-length = ap length (f .present-zero) ∙ length-replicate {A = ℕ} (codeCount sheet) 0
-
   -- instruction 0 gets the first row
   pub start-joins : JoinRequires 0 (rowSlices rowKinds rowValues) (tableSlices present kinds values)
   start-joins =
-      let w = row-lengths in record {
-        below = rw present-length (s .some-code);
+      let w = lent-lengths f in record {
+        below = rw (w .0) (s .some-code);
         visitable = record {
-          row-values-length = w .1 ∙ sym (w .0);
-          kinds-length = rw (w .0, present-length) (ap length (f .kinds-zero) ∙ length-replicate {A = ℕ} (codeCount sheet * length slots) 0);
-          values-length = rw (w .0, present-length) (ap length (f .values-zero) ∙ length-replicate {A = ℕ} (codeCount sheet * length slots) 0);
+          row-values-length = w .4 ∙ sym (w .3);
+          kinds-length = rw (w .3, w .0) (w .1);
+          values-length = rw (w .3, w .0) (w .2);
           rows = replicate (codeCount sheet) none;
           copy = first;
-          rows-lie = rw (w .0) none-lie;
+          rows-lie = rw (w .3) none-lie;
           copy-lies = f .row-lies;
         };
       }
@@ -83,7 +99,7 @@ module _ (which : AnalysisKind) {sheet : List ℕ} {sizes : Sizes} {firsts class
     joined : RowsLie (length slots) (rowsVisited (equalKnown which sheet) first 0 (replicate (codeCount sheet) none)) new × (fresh ≡ true)
     unfolding JoinEnsures ranAnalysis analysis
     joined =
-        let x = (rw (row-lengths .0, equal-by (i .classes-are) which) at j) (replicate (codeCount sheet) none) first none-lie (f .row-lies)
+        let x = (rw (lent-lengths f .3, equal-by (i .classes-are) which) at j) (replicate (codeCount sheet) none) first none-lie (f .row-lies)
         (rw (length-replicate {A = Option Row} (codeCount sheet) none) (s .some-code)) in
         (x .0, x .1 ∙ T.first-news a lawful)
 
@@ -93,19 +109,10 @@ module _ (which : AnalysisKind) {sheet : List ℕ} {sizes : Sizes} {firsts class
     list-length : length lisnew ≡ length list
     list-length = rw (l′, joined .1) (length-set list 0 0)
 
-    first-is : firstOf slots (new .kinds) (new .values) ≡ factsOf rowKinds rowValues
-    unfolding firstOf ranAnalysis analysis
-    first-is = T.started-row a lawful new (s .some-code) (joined .0)
-
     -- what the loop asks
-    pub start-turn : Turn which sheet slots lengthKinds lengthValues (firstOf slots (new .kinds) (new .values)) (resources .work) (length lisnew) (runMemory (new .present) (new .kinds) (new .values) rowKinds rowValues lisnew) top′ 0 (resources .work)
+    pub start-turn : Turn which sheet slots lengthKinds lengthValues (factsOf rowKinds rowValues) (resources .work) (length lisnew) (runMemory (new .present) (new .kinds) (new .values) rowKinds rowValues lisnew) top′ 0 (resources .work)
     unfolding ranAnalysis analysis
     start-turn =
-        rw (first-is, list-length) (turn-of which sheet sizes firsts classes slots lengthKinds lengthValues first resources (length list) i s (f .row-length) (f .list-fits)
-        (runMemory (new .present) (new .kinds) (new .values) rowKinds rowValues lisnew) top′ 0 (resources .work) (row-lengths .0) (row-lengths .1) list-length
+        rw list-length (turn-of which sheet sizes firsts classes slots lengthKinds lengthValues first resources (length list) i s (f .row-length) (f .list-fits)
+        (runMemory (new .present) (new .kinds) (new .values) rowKinds rowValues lisnew) top′ 0 (resources .work) (lent-lengths f .3) (lent-lengths f .4) list-length
         (T.started a lawful (resources .work) new lisnew top′ (joined .0) listed))
-
-    -- and what is left behind it
-    pub first-told : {r : Ran} {m : RunMemory} → RunTold which sheet slots lengthKinds lengthValues (firstOf slots (new .kinds) (new .values)) resources r m
-        → RunTold which sheet slots lengthKinds lengthValues (factsOf rowKinds rowValues) resources r m
-    first-told {r} {m} told = subst (λ (x : Row). RunTold which sheet slots lengthKinds lengthValues x resources r m) first-is told

@@ -1,6 +1,6 @@
 -- The loop over one sheet: what a turn asks of what is lent, and how it goes on.
 -- Assumes nothing.
-use mathlib.Core.Path.{_≡_, sym, _∙_}
+use mathlib.Core.Path.{_≡_, _∙_}
 use mathlib.Core.Bool.{true, cond}
 use mathlib.Core.List.{List, List·Memᴰ as Member}
 use Prim.Native.Nat.{ℕ, _+_, _*_, _-_, _≤_, _<_}
@@ -29,7 +29,7 @@ use Rattle.fixpoint.specs.declared.Ran.{Ran}
 use Rattle.fixpoint.specs.Memory.{RunMemory, runMemory, runTables, runRow}
 use Rattle.fixpoint.specs.Turn.{ranAnalysis, Running, Turn}
 use Rattle.fixpoint.specs.Result.{runEnded, runRefused}
-use Rattle.fixpoint.proofs.Finishing.{RunLengths, RunTold, told-ended, told-refused}
+use Rattle.fixpoint.proofs.Finishing.{RunTold, told-ended, told-refused}
 use Rattle.fixpoint.proofs.Entering.{first-asks, second-asks, both-entered}
 use Rattle.fixpoint.proofs.Running as T
 
@@ -75,18 +75,6 @@ module _ (which : AnalysisKind) (sheet : List ℕ) (sizes : Sizes) (firsts class
       }
 
 -- ---- a turn
-
--- two turns have the same lengths
-pub kept-lengths : {which : AnalysisKind} {sheet slots lengthKinds lengthValues : List ℕ} {entry : Row} {left room : ℕ} {m m′ : RunMemory} {top pops rest top′ pops′ rest′ : ℕ}
-    → Turn which sheet slots lengthKinds lengthValues entry left room m top pops rest → Turn which sheet slots lengthKinds lengthValues entry left room m′ top′ pops′ rest′
-    → RunLengths m m′
-kept-lengths t u = record {
-  present = t .present-length ∙ sym (u .present-length);
-  kinds = t .kinds-length ∙ sym (u .kinds-length);
-  values = t .values-length ∙ sym (u .values-length);
-  rowKinds = t .row-kinds-length ∙ sym (u .row-kinds-length);
-  rowValues = t .row-values-length ∙ sym (u .row-values-length);
-}
 
 module _ {which : AnalysisKind} {sheet : List ℕ} {sizes : Sizes} {firsts classes slots lengthKinds lengthValues : List ℕ} {entry : Row} (resources : VerifierResources) {room : ℕ}
     (i : SheetIndex sheet sizes firsts classes lengthKinds lengthValues) (s : TrackedSlots sheet slots) {m : RunMemory} {top pops rest : ℕ}

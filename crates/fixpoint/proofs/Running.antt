@@ -1,24 +1,22 @@
 -- The loop's state between two turns (`Running`) and inside one (`Taken`), and how it goes on.
 -- Assumes nothing.
-use mathlib.Core.Path.{_≡_, refl, sym, ap, ap₂, _∙_}
-use mathlib.Core.List.{List, [], _∷_, _++_, append-nil, List·Memᴰ·head as head}
+use mathlib.Core.Path.{_≡_, refl, sym, ap, _∙_}
+use mathlib.Core.List.{List, [], _∷_, _++_, List·Memᴰ·head as head}
 use mathlib.Core.Bool.{true}
-use mathlib.Core.Option.{Option, none, some}
+use mathlib.Core.Option.{none, some}
 use Prim.Native.Nat.{ℕ, zero, suc, _+_, _*_, _-_, _≤_, _<_}
 use native.Mathlib.Nat.{zero-mul}
 use native.Mathlib.Omega.{arith}
-use lib.ListN.{length, getD, set, replicate, length-replicate, replicate-append-replicate}
-use lib.Seq.{getD-set-same}
+use lib.ListN.{length, getD, set, replicate, replicate-append-replicate}
 use Rattle.model.specs.Call.{zeros}
 use Rattle.model.specs.Fact.{Fact, kind, value, Row}
 use Rattle.model.specs.Run.{Analysis, State, finished, overdrawn, rowAt, news, merged, carry, popped, bound, start, run}
-use Rattle.model.specs.Tables.{presentByte, presentBytes, rowCells, cells, TableSlices, tableSlices, RowsLie, tableRow}
+use Rattle.model.specs.Tables.{presentByte, presentBytes, rowCells, cells, TableSlices, tableSlices, RowsLie}
 use Rattle.model.specs.Demand.{Lawful, Present, Visited, begun, then}
 use Rattle.finality.proofs.Cells.{length-cells, length-present}
 use Rattle.finality.proofs.Steps.{step-empty, step-refused, step-next}
 use Rattle.finality.proofs.Invariant.{Good, none-some, rowAt-replicate}
 use Rattle.finality.proofs.Final.{visited-good}
-use Rattle.finality.proofs.Memory.{row-part}
 use Rattle.finality.proofs.Fuel.{run-is}
 use Rattle.fixpoint_list.specs.Listed.{Listed, entered}
 use Rattle.fixpoint_list.proofs.Listed.{listed-empty, listed-take}
@@ -194,10 +192,3 @@ module _ (a : Analysis) (law : Lawful a) where
     count-is = refl;
     left-is = refl;
   }
-
-  -- instruction 0 then has the first row
-  pub started-row : (t : TableSlices) → 0 < n → RowsLie s (rowsVisited same entry 0 (replicate n none)) t → tableRow s (t .kinds) (t .values) 0 ≡ entry
-  started-row t hn l =
-      let x : RowsLie s (set (replicate n none) 0 (some entry)) t = rw first-visit at l in
-      ap₂ (λ (ks vs : List ℕ). tableRow s ks vs 0) (x .kinds-are ∙ sym (append-nil (cells kind s (set (replicate n none) 0 (some entry))))) (x .values-are ∙ sym (append-nil (cells value s (set (replicate n none) 0 (some entry)))))
-      ∙ row-part s (set (replicate n none) 0 (some entry)) (x .sized) [] [] 0 entry (getD-set-same (replicate n none) 0 (some entry) none (rw (length-replicate {A = Option Row} n none) hn))

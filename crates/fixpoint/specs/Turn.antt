@@ -7,7 +7,7 @@ use lib.ListN.{length, replicate}
 use Rattle.model.specs.Fact.{Row}
 use Rattle.model.specs.Sheet.{codeCount}
 use Rattle.model.specs.Run.{Analysis, State}
-use Rattle.model.specs.Tables.{TableSlices, RowsLie, RowLies, factsIn, tableRow, lengthTable}
+use Rattle.model.specs.Tables.{TableSlices, RowsLie, RowLies, factsIn, lengthTable}
 use Rattle.model.specs.Analyses.{analysis}
 use Rattle.model.specs.Call.{zeros}
 use Rattle.model.specs.Demand.{Visited}
@@ -18,10 +18,6 @@ use Rattle.fixpoint.specs.Memory.{RunMemory, runTables, runRow}
 -- the analysis that the loop runs, from its first row
 unfoldable pub ranAnalysis : AnalysisKind → List ℕ → List ℕ → List ℕ → List ℕ → Row → Analysis
 ranAnalysis which sheet slots lengthKinds lengthValues entry = analysis which sheet slots (lengthTable lengthKinds lengthValues) entry
-
--- the row of instruction 0, as it lies in the tables
-unfoldable pub firstOf : List ℕ → List ℕ → List ℕ → Row
-firstOf slots kinds values = tableRow (length slots) kinds values 0
 
 -- the whole state lies in the tables and in the work list
 pub record StateLies (s : ℕ) (st : State) (t : TableSlices) (workList : List ℕ) (top : ℕ) : Type 0 where

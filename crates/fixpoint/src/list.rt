@@ -3,13 +3,12 @@ ghost use mathlib.Core.Path.{_≡_};
 ghost use mathlib.Core.Option.{some};
 ghost use lib.ListN.{length};
 ghost use Rattle.model.specs.Analyses.{propagate};
-ghost use Rattle.model.specs.Call.{zeros};
 ghost use Rattle.model.specs.Sheet.{codeCount};
 ghost use Rattle.model.specs.Tables.{factsOf, lengthTable};
 ghost use Rattle.budget.specs.Outcome.{leaves, leavesOf};
 ghost use Rattle.fixpoint_step.specs.Stepped.{SheetIndex, TrackedSlots};
 ghost use Rattle.fixpoint.specs.Memory.{runMemory, lentRun, zeroRun};
-ghost use Rattle.fixpoint.specs.Turn.{firstOf, Turn, RunRequires};
+ghost use Rattle.fixpoint.specs.Turn.{RunRequires};
 ghost use Rattle.fixpoint.specs.Result.{ran, ranTables};
 use crate::Ran;
 use crate::answer::ended;
@@ -24,80 +23,9 @@ use model::AnalysisKind;
 use model::VerifierResources;
 use sheet::Sizes;
 
-// "A step takes the entry added last and counts 1. A copy of that instruction's row goes through its transfer. Then each successor in
-// order", until "The empty list ends the run". The list's first entry is there already. What it leaves in the row scratch, and after a
-// refused charge in the tables, is told by `run_to_fixpoint`, which has it cleared.
-fn run_list(
-    which: AnalysisKind,
-    sheet: &[u8],
-    sizes: Sizes,
-    firsts: &[u16],
-    classes: &[u16],
-    slots: &[u16],
-    length_kinds: &[u8],
-    length_values: &[u16],
-    resources: VerifierResources,
-    from: usize,
-    present: &mut [u8],
-    kinds: &mut [u8],
-    values: &mut [u64],
-    row_kinds: &mut [u8],
-    row_values: &mut [u64],
-    work_list: &mut [u16],
-) -> Ran
-    requires { ⌜ SheetIndex (now sheet) sizes (now firsts) (now classes) (now «length_kinds») (now «length_values») × TrackedSlots (now sheet) (now slots) ⌝ }
-    requires { ⌜ (
-        let m = runMemory (now present) (now kinds) (now values) (now «row_kinds») (now «row_values») (now «work_list») in
-        let first = firstOf (now slots) (now kinds) (now values) in
-        Turn which (now sheet) (now slots) (now «length_kinds») (now «length_values») first (resources .work) (length (now «work_list»)) m from 0 (resources .work)
-        ) ⌝ }
-    ensures { λ r. ⌜ (
-        let m = lentRun present kinds values «row_kinds» «row_values» «work_list» in
-        let first = firstOf (now (slots .entry)) (m .entry .kinds) (m .entry .values) in
-        let lengths = lengthTable (now («length_kinds» .entry)) (now («length_values» .entry)) in
-        (some (leaves (r .outcome) (ran (r .pops) (m .exit)))
-        ≡ leavesOf (ranTables (m .exit)) (ran 0 (m .exit)) (propagate which (now (sheet .entry)) (now (slots .entry)) lengths first resources))
-        × (m .exit .workList ≡ zeros (m .entry .workList))
-        ) ⌝ }
-{
-    let cost = slots.len() as u64;
-    let mut top = from;
-    let mut pops: u64 = 0;
-    let mut rest = resources.work;
-    while 0 < top {
-        let p = take(top, work_list);
-        top -= 1;
-        if rest < cost {
-            clear(work_list);
-            return refused(which, cost, resources, rest);
-        }
-        rest -= cost;
-        pops += 1;
-        let news = step(
-            which,
-            sheet,
-            sizes,
-            firsts,
-            classes,
-            slots,
-            length_kinds,
-            length_values,
-            p,
-            present,
-            kinds,
-            values,
-            row_kinds,
-            row_values,
-        );
-        let pcs = news.pcs;
-        top = enter(0 < news.len, pcs[0], top, work_list);
-        top = enter(1 < news.len, pcs[1], top, work_list);
-    }
-    ended(pops, resources, rest)
-}
-
 // "instruction 0 starts with a row .., and the list holds 0 alone": instruction 0 gets the first row, which is lent as the row scratch. Then
-// the list is run to its end. Pops and what is left are the defined run's; what is lent holds its tables, or zeros.
+// "A step takes the entry added last and counts 1. A copy of that instruction's row goes through its transfer. Then each successor in order",
+// until "The empty list ends the run" or a step's charge is refused. Pops and what is left are the defined run's; what is lent holds its tables, or zeros.
 pub fn run_to_fixpoint(
     which: AnalysisKind,
     sheet: &[u8],
@@ -128,7 +56,7 @@ pub fn run_to_fixpoint(
         ≡ leavesOf (ranTables (zeroRun (m .entry))) (ran 0 (zeroRun (m .entry))) (propagate which (now (sheet .entry)) (now (slots .entry)) lengths first resources)
         ) ⌝ }
 {
-    let news = join_into(
+    let fresh = join_into(
         which,
         classes,
         0,
@@ -138,25 +66,41 @@ pub fn run_to_fixpoint(
         kinds,
         values,
     );
-    let top = enter(news, 0, 0, work_list);
-    let ran = run_list(
-        which,
-        sheet,
-        sizes,
-        firsts,
-        classes,
-        slots,
-        length_kinds,
-        length_values,
-        resources,
-        top,
-        present,
-        kinds,
-        values,
-        row_kinds,
-        row_values,
-        work_list,
-    );
+    let mut top = enter(fresh, 0, 0, work_list);
+    let cost = slots.len() as u64;
+    let mut pops: u64 = 0;
+    let mut rest = resources.work;
+    while 0 < top && cost <= rest {
+        let p = take(top, work_list);
+        top -= 1;
+        rest -= cost;
+        pops += 1;
+        let news = step(
+            which,
+            sheet,
+            sizes,
+            firsts,
+            classes,
+            slots,
+            length_kinds,
+            length_values,
+            p,
+            present,
+            kinds,
+            values,
+            row_kinds,
+            row_values,
+        );
+        let pcs = news.pcs;
+        top = enter(0 < news.len, pcs[0], top, work_list);
+        top = enter(1 < news.len, pcs[1], top, work_list);
+    }
+    let ran = if 0 < top {
+        clear(work_list);
+        refused(which, cost, resources, rest)
+    } else {
+        ended(pops, resources, rest)
+    };
     let outcome = ran.outcome;
     finish(outcome, present, kinds, values, row_kinds, row_values);
     ran
