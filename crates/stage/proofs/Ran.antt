@@ -213,8 +213,7 @@ module _ (before : Outcome) (which : AnalysisKind) (sheet : List ℕ) {sizes : S
           kinds-zero = take-zero (n * r .s) kinds′ (f .1) (cleared-zero (t .kinds) no-kinds′);
           values-zero = take-zero (n * r .s) values′ (f .2) (cleared-zero (t .values) no-values′);
           row-length = ap length row-is ∙ y .begun .long ∙ sym (y .s-is);
-          row-kinds-are = row-kinds-front ∙ ap (map kind) (sym row-is);
-          row-values-are = row-values-front ∙ ap (map value) (sym row-is);
+          row-lies = record { kinds-are = row-kinds-front ∙ ap (map kind) (sym row-is); values-are = row-values-front ∙ ap (map value) (sym row-is) };
           list-zero = z .no-list;
           list-fits = fits .6;
         })
