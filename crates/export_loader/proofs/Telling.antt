@@ -22,7 +22,7 @@ use Rattle.model.specs.declared.AnalysisKind.the-variants.{Constant, IndexCheck
 use Rattle.budget.specs.Outcome.{leaves, leavesOf}
 use Rattle.budget.specs.declared.Outcome.{Outcome}
 use Rattle.budget.proofs.Left.{Left, covered, stopped, left-by}
-use Rattle.sheet.specs.Measured.{Measured, Accepted}
+use Rattle.sheet.specs.Measured.{Measured}
 use Rattle.sheet.specs.declared.Sizes.{Sizes}
 use Rattle.sheet.proofs.Counted.{counted}
 use Rattle.sheet.proofs.Limited.{limited}

@@ -3,13 +3,13 @@
 use mathlib.Core.Path.{_≡_, refl, sym, ap, _∙_}
 use mathlib.Core.Bool.{Bool, true, false, cond}
 use mathlib.Core.List.{List, [], _∷_}
-use Prim.Native.Nat.{ℕ, zero, suc, _+_, _-_, _≤_, _<_}
+use Prim.Native.Nat.{ℕ, _+_, _-_, _≤_, _<_}
 use native.Mathlib.Omega.{arith}
-use lib.ListN.{length, getD, set, replicate, length-set}
+use lib.ListN.{length, getD, set, length-set}
 use Rattle.model.specs.Call.{zeros}
 use Rattle.model.specs.Tables.{stacked}
 use Rattle.finality.proofs.Cells.{stacked-push, stacked-top, stacked-pop}
-use Rattle.fixpoint_list.specs.Listed.{Listed, entered}
+use Rattle.fixpoint_list.specs.Listed.{Listed}
 
 -- zeros hold no entry
 pub empty-listed : (workList : List ℕ) → workList ≡ zeros workList → Listed [] workList 0

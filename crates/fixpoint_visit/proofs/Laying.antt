@@ -1,6 +1,6 @@
 -- What a visit does to tables in which rows lie.
 -- Assumes nothing.
-use mathlib.Core.Path.{_≡_, refl, sym, ap, ap₂, _∙_}
+use mathlib.Core.Path.{_≡_, refl, sym, ap, _∙_}
 use mathlib.Core.Logic.{_≢_, _⊎_, inl, inr}
 use mathlib.Core.Bool.{Bool, true}
 use mathlib.Core.List.{List, map}
@@ -8,7 +8,7 @@ use mathlib.Core.Option.{Option, none, some}
 use Prim.Native.Nat.{ℕ, _+_, _*_, _-_, _≤_, _<_}
 use native.Mathlib.Nat.{mul-le-mul-right}
 use native.Mathlib.Omega.{arith}
-use lib.ListN.{length, getD, set, length-map}
+use lib.ListN.{length, getD, set}
 use lib.Seq.{set-getD}
 use borrow.Rule.Slice.PartMut.{midOf, putMid, post-is, mid-len}
 use Rattle.model.specs.Fact.{Fact, kind, value, Row, joinRow}

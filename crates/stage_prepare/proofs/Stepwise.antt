@@ -5,14 +5,14 @@ use mathlib.Core.Bool.{Bool, true, false, _||_}
 use mathlib.Core.Logic.{_⊎_, inl, inr}
 use mathlib.Core.List.{List}
 use mathlib.Core.Option.{none}
-use Prim.Native.Nat.{ℕ, _*_, _-_}
+use Prim.Native.Nat.{ℕ, _*_}
 use native.Mathlib.Nat.{sub-zero, zero-mul, mul-zero}
 use native.Mathlib.Omega.{arith}
 use lib.Dec.{eqb}
 use lib.ListN.{length, replicate}
 use borrow.Author.Tests.{le-leb}
 use Rattle.model.specs.Sheet.{codeCount}
-use Rattle.model.specs.Charges.{noRoom, Spent, ok, stop, unfinished, give, continue, _>>=_, _>>_, inStage, bytesCharged, chargeBytes, spendBytes}
+use Rattle.model.specs.Charges.{Spent, ok, stop, unfinished, give, continue, _>>=_, _>>_, inStage, bytesCharged, chargeBytes, spendBytes}
 use Rattle.model.specs.Closure.{trackedSlots}
 use Rattle.model.specs.Fact.{Fact, Row}
 use Rattle.model.specs.Run.{RunEnd}

@@ -3,18 +3,18 @@
 use mathlib.Core.Path.{_≡_, refl, sym, ap, _∙_}
 use mathlib.Core.Bool.{Bool, true, false}
 use mathlib.Core.Logic.{_⊎_, inl, inr}
-use mathlib.Core.List.{List, [], _∷_, _++_, map}
+use mathlib.Core.List.{List, _∷_, _++_, map}
 use mathlib.Core.Option.{Option, some}
-use Prim.Native.Nat.{ℕ, zero, suc, _+_, _*_, _-_, _≤_, _<_}
+use Prim.Native.Nat.{ℕ, zero, suc, _+_, _*_, _≤_, _<_}
 use native.Mathlib.Omega.{arith}
 use lib.ListN.{length, replicate, take, drop}
 use lib.Seq.{length-take-le}
 use borrow.Author.Tests.{leb-true}
 use Rattle.model.specs.Tables.{RowLies, RowSlices, rowSlices}
 use Rattle.model.specs.Sheet.{codeCount}
-use Rattle.model.specs.Fact.{Fact, unknown, kind, value, Row}
+use Rattle.model.specs.Fact.{unknown, kind, value, Row}
 use Rattle.model.specs.Analyses.{unknownRow}
-use Rattle.model.specs.Call.{workListRoom, zeros, filled}
+use Rattle.model.specs.Call.{workListRoom, zeros}
 use Rattle.model.specs.Lookup.{ascends}
 use Rattle.model.specs.declared.VerifierResources.{VerifierResources}
 use Rattle.model.specs.declared.AnalysisKind.{AnalysisKind}

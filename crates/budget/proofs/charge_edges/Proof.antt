@@ -9,12 +9,6 @@ use Rattle.budget.proofs.Row.{edges-covered, edges-refused}
 use Rattle.budget.proofs.charge_edges.Statement.{statement}
 use Rattle.budget.proofs.charge_edges.Tie as tie
 
-mul-t10 : tie.Need-mul-t10
-mul-t10 c = search needs
-
-sub-t11 : tie.Need-sub-t11
-sub-t11 c = search needs
-
 returns : tie.Need-returns
 unfolding asSpent
 returns c = sym (edges-covered (c .before .args .stage) (c .before .args .resources .work) (c .before .args .count) (c .before .args .resources .bytes) (omega arith))
@@ -35,4 +29,4 @@ returns-2 c =
     (omega arith))
 
 pub charge-edges-spec : {M : Type 1} → statement M
-charge-edges-spec = tie.close (tie.spec mul-t10 sub-t11 returns returns-2)
+charge-edges-spec = tie.close (tie.spec (λ c. search needs) (λ c. search needs) returns returns-2)

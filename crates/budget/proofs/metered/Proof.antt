@@ -7,12 +7,6 @@ use Rattle.budget.specs.Outcome.{asSpent}
 use Rattle.budget.proofs.metered.Statement.{statement}
 use Rattle.budget.proofs.metered.Tie as tie
 
-enum-known-charge : tie.Need-enum-known-charge
-enum-known-charge c = search needs
-
-enum-known-charge-2 : tie.Need-enum-known-charge-2
-enum-known-charge-2 c = search needs
-
 returns : tie.Need-returns
 unfolding inStage asSpent
 returns c = sym (ap (inStage (c .before .before .before .args .stage) (c .before .before .before .args .resources)) (c .before .charge .given .1))
@@ -22,4 +16,4 @@ unfolding inStage asSpent
 returns-2 c = sym (ap (inStage (c .before .before .before .args .stage) (c .before .before .before .args .resources)) (c .before .charge2 .given .1))
 
 pub metered-spec : {M : Type 1} → statement M
-metered-spec = tie.close (tie.spec enum-known-charge enum-known-charge-2 returns returns-2)
+metered-spec = tie.close (tie.spec (λ c. search needs) (λ c. search needs) returns returns-2)

@@ -110,7 +110,7 @@ returns c =
 
 pub analyze-indexed-spec : {M : Type 1} → statement M
 analyze-indexed-spec =
-    tie.close
-    (tie.spec analyze-values-requires (λ c. search needs) (λ c. search needs) containers-requires (λ c κs. search needs) (λ c κs. search needs) (λ c κs. search needs) (λ c κs. search needs)
-    same-length same-length-2 same-length-3 same-length-4 same-length-5 same-length-6 same-length-7 same-length-8 same-length-9 same-length-10 same-length-11 same-length-12
-    same-length-13 same-length-14 same-length-15 same-length-16 same-length-17 returns)
+    tie.close (tie.spec analyze-values-requires (λ c. search needs) (λ c. search needs) containers-requires (λ c κs. search needs)
+    (λ c κs. search needs) (λ c κs. search needs) (λ c κs. search needs) same-length same-length-2 same-length-3 same-length-4 same-length-5
+    same-length-6 same-length-7 same-length-8 same-length-9 same-length-10 same-length-11 same-length-12 same-length-13 same-length-14 same-length-15
+    same-length-16 same-length-17 returns)

@@ -132,8 +132,7 @@ returns c =
 
 pub analyze-values-spec : {M : Type 1} → statement M
 analyze-values-spec =
-    tie.close
-    (tie.spec (λ c κs. search needs) (λ c κs. search needs) charge-graph-requires (λ c. search needs) (λ c. search needs) constants-requires (λ c. search needs) (λ c. search needs)
-    store-lengths-requires (λ c. search needs) (λ c. search needs) index-requires (λ c κs. search needs) (λ c κs. search needs) (λ c κs. search needs)
-    same-length same-length-2 same-length-3 same-length-4 same-length-5 same-length-6 same-length-7 same-length-8 same-length-9 same-length-10 same-length-11 same-length-12
-    same-length-13 returns)
+    tie.close (tie.spec (λ c κs. search needs) (λ c κs. search needs) charge-graph-requires (λ c. search needs) (λ c. search needs) constants-requires
+    (λ c. search needs) (λ c. search needs) store-lengths-requires (λ c. search needs) (λ c. search needs) index-requires (λ c κs. search needs)
+    (λ c κs. search needs) (λ c κs. search needs) same-length same-length-2 same-length-3 same-length-4 same-length-5 same-length-6 same-length-7
+    same-length-8 same-length-9 same-length-10 same-length-11 same-length-12 same-length-13 returns)

@@ -9,55 +9,16 @@ use Rattle.cfg.proofs.Going.{second-fits, falls, leaves-none, jumps, br
 use Rattle.cfg.proofs.instruction_successors.Statement.{statement}
 use Rattle.cfg.proofs.instruction_successors.Tie as tie
 
-push-fallthrough-successor-requires : tie.Need-push-fallthrough-successor-requires
-push-fallthrough-successor-requires c κs = search needs
-
-flow-of-requires : tie.Need-flow-of-requires
-flow-of-requires c κs = search needs
-
 enum-told : tie.Need-enum-told
 enum-told c = search needs
-
-enum-told-2 : tie.Need-enum-told-2
-enum-told-2 c = search needs
-
-imm32-requires : tie.Need-imm32-requires
-imm32-requires c κs = search needs
-
-jump-target-i64-requires : tie.Need-jump-target-i64-requires
-jump-target-i64-requires c κs = search needs
-
-push-valid-successor-requires : tie.Need-push-valid-successor-requires
-push-valid-successor-requires c κs = search needs
-
-enum-told-3 : tie.Need-enum-told-3
-enum-told-3 c = search needs
-
-imm32-requires-2 : tie.Need-imm32-requires-2
-imm32-requires-2 c κs = search needs
-
-jump-target-i64-requires-2 : tie.Need-jump-target-i64-requires-2
-jump-target-i64-requires-2 c κs = search needs
 
 push-valid-successor-requires-2 : tie.Need-push-valid-successor-requires-2
 unfolding asRecord
 push-valid-successor-requires-2 c κs = second-fits (c .before .before .before .before .before .before .args .n) (c .before .before .before .before .before .before .args .pc) (c .before .before .before .before .before .push-fallthrough-successor .result) (c .before .before .before .before .before .push-fallthrough-successor .ensures [] refl)
 
-enum-told-4 : tie.Need-enum-told-4
-enum-told-4 c = search needs
-
-signed-c-requires : tie.Need-signed-c-requires
-signed-c-requires c κs = search needs
-
-forloop-target-i64-requires : tie.Need-forloop-target-i64-requires
-forloop-target-i64-requires c κs = search needs
-
 push-valid-successor-requires-3 : tie.Need-push-valid-successor-requires-3
 unfolding asRecord
 push-valid-successor-requires-3 c κs = second-fits (c .before .before .before .before .before .before .args .n) (c .before .before .before .before .before .before .args .pc) (c .before .before .before .before .before .push-fallthrough-successor .result) (c .before .before .before .before .before .push-fallthrough-successor .ensures [] refl)
-
-enum-told-5 : tie.Need-enum-told-5
-enum-told-5 c = search needs
 
 returns : tie.Need-returns
 unfolding asRecord
@@ -81,26 +42,6 @@ returns-5 c = leaves-none (c .before .before .before .before .args .n) (c .befor
 
 pub instruction-successors-spec : {M : Type 1} → statement M
 instruction-successors-spec =
-    tie.close
-    (tie.spec
-    push-fallthrough-successor-requires
-    flow-of-requires
-    enum-told
-    enum-told-2
-    imm32-requires
-    jump-target-i64-requires
-    push-valid-successor-requires
-    enum-told-3
-    imm32-requires-2
-    jump-target-i64-requires-2
-    push-valid-successor-requires-2
-    enum-told-4
-    signed-c-requires
-    forloop-target-i64-requires
-    push-valid-successor-requires-3
-    enum-told-5
-    returns
-    returns-2
-    returns-3
-    returns-4
-    returns-5)
+    tie.close (tie.spec (λ c κs. search needs) (λ c κs. search needs) enum-told (λ c. search needs) (λ c κs. search needs) (λ c κs. search needs)
+    (λ c κs. search needs) (λ c. search needs) (λ c κs. search needs) (λ c κs. search needs) push-valid-successor-requires-2 (λ c. search needs)
+    (λ c κs. search needs) (λ c κs. search needs) push-valid-successor-requires-3 (λ c. search needs) returns returns-2 returns-3 returns-4 returns-5)

@@ -5,9 +5,6 @@ use Rattle.cfg.proofs.Pushes.{push-first, push-equal, push-second}
 use Rattle.cfg.proofs.push.Statement.{statement}
 use Rattle.cfg.proofs.push.Tie as tie
 
-array-read-first : tie.Need-array-read-first
-array-read-first c = search needs
-
 returns : tie.Need-returns
 returns c = push-first (c .before .before .before .args .successors) (c .before .before .before .args .pc) (c .if1 .taken)
 
@@ -30,4 +27,4 @@ returns-3 c =
     (c .if2 .left)
 
 pub push-spec : {M : Type 1} → statement M
-push-spec = tie.close (tie.spec array-read-first returns returns-2 returns-3)
+push-spec = tie.close (tie.spec (λ c. search needs) returns returns-2 returns-3)

@@ -11,15 +11,9 @@ use Rattle.cfg.proofs.Pushes.{past-end, valid-inside}
 use Rattle.cfg.proofs.push_fallthrough_successor.Statement.{statement}
 use Rattle.cfg.proofs.push_fallthrough_successor.Tie as tie
 
-add-next : tie.Need-add-next
-add-next c = search needs
-
 returns : tie.Need-returns
 unfolding pushFallthrough
 returns c targets e = e ∙ sym (ap asRecord (past-end (c .before .args .n) targets (pos (c .before .args .pc + 1)) (c .if1 .taken)))
-
-push-requires : tie.Need-push-requires
-push-requires c κs = search needs
 
 returns-2 : tie.Need-returns-2
 unfolding pushFallthrough
@@ -28,4 +22,4 @@ returns-2 c targets e =
     ∙ sym (ap asRecord (valid-inside (c .before .before .args .n) targets (pos (c .before .before .args .pc + 1)) (le-ltb (c .before .before .args .pc + 1) 0 (omega arith)) (c .before .if1 .left)))
 
 pub push-fallthrough-successor-spec : {M : Type 1} → statement M
-push-fallthrough-successor-spec = tie.close (tie.spec add-next returns push-requires returns-2)
+push-fallthrough-successor-spec = tie.close (tie.spec (λ c. search needs) returns (λ c κs. search needs) returns-2)

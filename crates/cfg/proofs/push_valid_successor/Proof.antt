@@ -32,9 +32,6 @@ returns-2 c targets e =
     (past-end (c .before .before .args .n) targets (c .before .before .args .target)
     (rw (toZ-ofZ w64 (c .before .before .args .target) (c .before .before .fits .target)) at (c .if2 .taken))))
 
-push-requires : tie.Need-push-requires
-push-requires c κs = search needs
-
 returns-3 : tie.Need-returns-3
 returns-3 c targets e =
     let back : toZ w64 (ofZ w64 (c .before .before .before .args .target)) ≡ c .before .before .before .args .target = toZ-ofZ w64 (c .before .before .before .args .target) (c .before .before .before .fits .target) in
@@ -45,4 +42,4 @@ returns-3 c targets e =
     (rw back at (c .before .before .if1 .left)) (rw back at (c .before .if2 .left))))
 
 pub push-valid-successor-spec : {M : Type 1} → statement M
-push-valid-successor-spec = tie.close (tie.spec returns cast-pc returns-2 push-requires returns-3)
+push-valid-successor-spec = tie.close (tie.spec returns cast-pc returns-2 (λ c κs. search needs) returns-3)

@@ -5,21 +5,6 @@ use borrow.Author.Needs.{needs}
 use Rattle.check_corner_cases.proofs.head_of.Statement.{statement}
 use Rattle.check_corner_cases.proofs.head_of.Tie as tie
 
-byte-at-requires : tie.Need-byte-at-requires
-byte-at-requires c κs = search needs
-
-cast-t5 : tie.Need-cast-t5
-cast-t5 c = search needs
-
-u16-at-requires : tie.Need-u16-at-requires
-u16-at-requires c κs = search needs
-
-u32-at-requires : tie.Need-u32-at-requires
-u32-at-requires c κs = search needs
-
-cast-t12 : tie.Need-cast-t12
-cast-t12 c = search needs
-
 returns : tie.Need-returns
 unfolding headOf
 returns c =
@@ -30,4 +15,4 @@ returns c =
 
 pub head-of-spec : {M : Type 1} → statement M
 head-of-spec =
-    tie.close (tie.spec byte-at-requires cast-t5 u16-at-requires u32-at-requires cast-t12 returns)
+    tie.close (tie.spec (λ c κs. search needs) (λ c. search needs) (λ c κs. search needs) (λ c κs. search needs) (λ c. search needs) returns)

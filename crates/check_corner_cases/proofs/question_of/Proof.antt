@@ -5,24 +5,6 @@ use borrow.Author.Needs.{needs}
 use Rattle.check_corner_cases.proofs.question_of.Statement.{statement}
 use Rattle.check_corner_cases.proofs.question_of.Tie as tie
 
-byte-at-requires : tie.Need-byte-at-requires
-byte-at-requires c κs = search needs
-
-u16-at-requires : tie.Need-u16-at-requires
-u16-at-requires c κs = search needs
-
-cast-t8 : tie.Need-cast-t8
-cast-t8 c = search needs
-
-u16-at-requires-2 : tie.Need-u16-at-requires-2
-u16-at-requires-2 c κs = search needs
-
-byte-at-requires-2 : tie.Need-byte-at-requires-2
-byte-at-requires-2 c κs = search needs
-
-u64-at-requires : tie.Need-u64-at-requires
-u64-at-requires c κs = search needs
-
 returns : tie.Need-returns
 unfolding questionOf
 returns c =
@@ -35,12 +17,5 @@ returns c =
 
 pub question-of-spec : {M : Type 1} → statement M
 question-of-spec =
-    tie.close
-    (tie.spec
-    byte-at-requires
-    u16-at-requires
-    cast-t8
-    u16-at-requires-2
-    byte-at-requires-2
-    u64-at-requires
-    returns)
+    tie.close (tie.spec (λ c κs. search needs) (λ c κs. search needs) (λ c. search needs) (λ c κs. search needs) (λ c κs. search needs)
+    (λ c κs. search needs) returns)

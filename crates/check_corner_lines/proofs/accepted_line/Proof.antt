@@ -7,27 +7,6 @@ use borrow.Author.Needs.{needs}
 use Rattle.check_corner_lines.proofs.accepted_line.Statement.{statement}
 use Rattle.check_corner_lines.proofs.accepted_line.Tie as tie
 
-slice-aggregate-put : tie.Need-slice-aggregate-put
-slice-aggregate-put c = search needs
-
-put-requires : tie.Need-put-requires
-put-requires c κs = search needs
-
-put-five-requires : tie.Need-put-five-requires
-put-five-requires c κs = search needs
-
-put-five-requires-2 : tie.Need-put-five-requires-2
-put-five-requires-2 c κs = search needs
-
-slice-aggregate-put-2 : tie.Need-slice-aggregate-put-2
-slice-aggregate-put-2 c = search needs
-
-put-requires-2 : tie.Need-put-requires-2
-put-requires-2 c κs = search needs
-
-same-length : tie.Need-same-length
-same-length c = search needs
-
 returns : tie.Need-returns
 unfolding ascii newline acceptedLine
 returns c =
@@ -39,13 +18,5 @@ returns c =
 
 pub accepted-line-spec : {M : Type 1} → statement M
 accepted-line-spec =
-    tie.close
-    (tie.spec
-    slice-aggregate-put
-    put-requires
-    put-five-requires
-    put-five-requires-2
-    slice-aggregate-put-2
-    put-requires-2
-    same-length
-    returns)
+    tie.close (tie.spec (λ c. search needs) (λ c κs. search needs) (λ c κs. search needs) (λ c κs. search needs) (λ c. search needs)
+    (λ c κs. search needs) (λ c. search needs) returns)

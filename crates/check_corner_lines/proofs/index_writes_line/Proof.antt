@@ -7,33 +7,6 @@ use borrow.Author.Needs.{needs}
 use Rattle.check_corner_lines.proofs.index_writes_line.Statement.{statement}
 use Rattle.check_corner_lines.proofs.index_writes_line.Tie as tie
 
-slice-aggregate-put : tie.Need-slice-aggregate-put
-slice-aggregate-put c = search needs
-
-put-requires : tie.Need-put-requires
-put-requires c κs = search needs
-
-put-spaced-requires : tie.Need-put-spaced-requires
-put-spaced-requires c κs = search needs
-
-cast-put-spaced : tie.Need-cast-put-spaced
-cast-put-spaced c = search needs
-
-put-spaced-requires-2 : tie.Need-put-spaced-requires-2
-put-spaced-requires-2 c κs = search needs
-
-put-spaced-requires-3 : tie.Need-put-spaced-requires-3
-put-spaced-requires-3 c κs = search needs
-
-put-spaced-requires-4 : tie.Need-put-spaced-requires-4
-put-spaced-requires-4 c κs = search needs
-
-put-yes-or-no-requires : tie.Need-put-yes-or-no-requires
-put-yes-or-no-requires c κs = search needs
-
-same-length : tie.Need-same-length
-same-length c = search needs
-
 returns : tie.Need-returns
 unfolding ascii indexWritesLine
 returns c =
@@ -47,15 +20,5 @@ returns c =
 
 pub index-writes-line-spec : {M : Type 1} → statement M
 index-writes-line-spec =
-    tie.close
-    (tie.spec
-    slice-aggregate-put
-    put-requires
-    put-spaced-requires
-    cast-put-spaced
-    put-spaced-requires-2
-    put-spaced-requires-3
-    put-spaced-requires-4
-    put-yes-or-no-requires
-    same-length
-    returns)
+    tie.close (tie.spec (λ c. search needs) (λ c κs. search needs) (λ c κs. search needs) (λ c. search needs) (λ c κs. search needs)
+    (λ c κs. search needs) (λ c κs. search needs) (λ c κs. search needs) (λ c. search needs) returns)

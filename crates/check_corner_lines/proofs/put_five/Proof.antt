@@ -6,24 +6,6 @@ use borrow.Author.Needs.{needs}
 use Rattle.check_corner_lines.proofs.put_five.Statement.{statement}
 use Rattle.check_corner_lines.proofs.put_five.Tie as tie
 
-put-spaced-requires : tie.Need-put-spaced-requires
-put-spaced-requires c κs = search needs
-
-put-spaced-requires-2 : tie.Need-put-spaced-requires-2
-put-spaced-requires-2 c κs = search needs
-
-put-spaced-requires-3 : tie.Need-put-spaced-requires-3
-put-spaced-requires-3 c κs = search needs
-
-put-spaced-requires-4 : tie.Need-put-spaced-requires-4
-put-spaced-requires-4 c κs = search needs
-
-put-spaced-requires-5 : tie.Need-put-spaced-requires-5
-put-spaced-requires-5 c κs = search needs
-
-same-length : tie.Need-same-length
-same-length c = search needs
-
 returns : tie.Need-returns
 unfolding five
 returns c =
@@ -36,12 +18,5 @@ returns c =
 
 pub put-five-spec : {M : Type 1} → statement M
 put-five-spec =
-    tie.close
-    (tie.spec
-    put-spaced-requires
-    put-spaced-requires-2
-    put-spaced-requires-3
-    put-spaced-requires-4
-    put-spaced-requires-5
-    same-length
-    returns)
+    tie.close (tie.spec (λ c κs. search needs) (λ c κs. search needs) (λ c κs. search needs) (λ c κs. search needs) (λ c κs. search needs)
+    (λ c. search needs) returns)

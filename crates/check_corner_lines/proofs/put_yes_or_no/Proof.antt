@@ -9,30 +9,12 @@ use borrow.Author.Needs.{needs}
 use Rattle.check_corner_lines.proofs.put_yes_or_no.Statement.{statement}
 use Rattle.check_corner_lines.proofs.put_yes_or_no.Tie as tie
 
-slice-aggregate-put : tie.Need-slice-aggregate-put
-slice-aggregate-put c = search needs
-
-put-requires : tie.Need-put-requires
-put-requires c κs = search needs
-
-same-length : tie.Need-same-length
-same-length c = search needs
-
 returns : tie.Need-returns
 unfolding ascii yesOrNo
 returns c =
     let put = c .before .before in
     let taken = put .before .before .before in
     rw (taken .if1 .taken) (put .put .ensures)
-
-slice-aggregate-put-2 : tie.Need-slice-aggregate-put-2
-slice-aggregate-put-2 c = search needs
-
-put-requires-2 : tie.Need-put-requires-2
-put-requires-2 c κs = search needs
-
-same-length-2 : tie.Need-same-length-2
-same-length-2 c = search needs
 
 returns-2 : tie.Need-returns-2
 unfolding ascii yesOrNo
@@ -43,13 +25,5 @@ returns-2 c =
 
 pub put-yes-or-no-spec : {M : Type 1} → statement M
 put-yes-or-no-spec =
-    tie.close
-    (tie.spec
-    slice-aggregate-put
-    put-requires
-    same-length
-    returns
-    slice-aggregate-put-2
-    put-requires-2
-    same-length-2
-    returns-2)
+    tie.close (tie.spec (λ c. search needs) (λ c κs. search needs) (λ c. search needs) returns (λ c. search needs) (λ c κs. search needs)
+    (λ c. search needs) returns-2)

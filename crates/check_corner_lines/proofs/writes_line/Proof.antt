@@ -7,24 +7,6 @@ use borrow.Author.Needs.{needs}
 use Rattle.check_corner_lines.proofs.writes_line.Statement.{statement}
 use Rattle.check_corner_lines.proofs.writes_line.Tie as tie
 
-slice-aggregate-put : tie.Need-slice-aggregate-put
-slice-aggregate-put c = search needs
-
-put-requires : tie.Need-put-requires
-put-requires c κs = search needs
-
-put-spaced-requires : tie.Need-put-spaced-requires
-put-spaced-requires c κs = search needs
-
-put-spaced-requires-2 : tie.Need-put-spaced-requires-2
-put-spaced-requires-2 c κs = search needs
-
-put-yes-or-no-requires : tie.Need-put-yes-or-no-requires
-put-yes-or-no-requires c κs = search needs
-
-same-length : tie.Need-same-length
-same-length c = search needs
-
 returns : tie.Need-returns
 unfolding ascii writesLine
 returns c =
@@ -36,12 +18,5 @@ returns c =
 
 pub writes-line-spec : {M : Type 1} → statement M
 writes-line-spec =
-    tie.close
-    (tie.spec
-    slice-aggregate-put
-    put-requires
-    put-spaced-requires
-    put-spaced-requires-2
-    put-yes-or-no-requires
-    same-length
-    returns)
+    tie.close (tie.spec (λ c. search needs) (λ c κs. search needs) (λ c κs. search needs) (λ c κs. search needs) (λ c κs. search needs)
+    (λ c. search needs) returns)

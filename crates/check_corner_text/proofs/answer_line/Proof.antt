@@ -15,12 +15,6 @@ instruction-at-requires c κs = let p = c .before .before .before .before .pre i
 instruction-successors-requires : tie.Need-instruction-successors-requires
 instruction-successors-requires c κs = let p = c .before .before .before .before .before .before .before .pre in (limited (measured (p .0)) .code-count, p .2)
 
-successors-line-requires : tie.Need-successors-line-requires
-successors-line-requires c κs = search needs
-
-same-length : tie.Need-same-length
-same-length c = search needs
-
 returns : tie.Need-returns
 returns c =
     let line = c .before .before in
@@ -30,15 +24,6 @@ returns c =
     let start = inst .before .before .before .before .before in
     successors-answered (start .args .sheet .now) (start .args .question) _ _ (asked .if1 .taken) (counted (start .pre .0 .are) .code-count) (inst .instruction-at .ensures)
     (successors .instruction-successors .ensures) (line .successors-line .ensures)
-
-instruction-writes-slot-requires : tie.Need-instruction-writes-slot-requires
-instruction-writes-slot-requires c κs = search needs
-
-writes-line-requires : tie.Need-writes-line-requires
-writes-line-requires c κs = search needs
-
-same-length-2 : tie.Need-same-length-2
-same-length-2 c = search needs
 
 returns-2 : tie.Need-returns-2
 returns-2 c =
@@ -51,12 +36,6 @@ returns-2 c =
 index-check-instruction-writes-slot-requires :
     tie.Need-index-check-instruction-writes-slot-requires
 index-check-instruction-writes-slot-requires c κs = search needs
-
-index-writes-line-requires : tie.Need-index-writes-line-requires
-index-writes-line-requires c κs = search needs
-
-same-length-3 : tie.Need-same-length-3
-same-length-3 c = search needs
 
 returns-3 : tie.Need-returns-3
 returns-3 c =
@@ -75,19 +54,6 @@ returns-4 c =
 
 pub answer-line-spec : {M : Type 1} → statement M
 answer-line-spec =
-    tie.close
-    (tie.spec
-    instruction-at-requires
-    instruction-successors-requires
-    successors-line-requires
-    same-length
-    returns
-    instruction-writes-slot-requires
-    writes-line-requires
-    same-length-2
-    returns-2
-    index-check-instruction-writes-slot-requires
-    index-writes-line-requires
-    same-length-3
-    returns-3
-    returns-4)
+    tie.close (tie.spec instruction-at-requires instruction-successors-requires (λ c κs. search needs) (λ c. search needs) returns
+    (λ c κs. search needs) (λ c κs. search needs) (λ c. search needs) returns-2 index-check-instruction-writes-slot-requires (λ c κs. search needs)
+    (λ c. search needs) returns-3 returns-4)

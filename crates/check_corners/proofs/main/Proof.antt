@@ -16,12 +16,6 @@ loop-holds c = tt
 answer-case-requires : tie.Need-answer-case-requires Inv-loop μ-loop
 answer-case-requires c κs = tt
 
-sub-turns : tie.Need-sub-turns Inv-loop μ-loop
-sub-turns c = omega arith
-
-loop-less : tie.Need-loop-less Inv-loop μ-loop
-loop-less c = omega arith
-
 loop-again : tie.Need-loop-again Inv-loop μ-loop
 loop-again c = tt
 
@@ -32,15 +26,4 @@ returns-2 : tie.Need-returns-2 Inv-loop μ-loop
 returns-2 c = tt
 
 pub main-spec : {M : Type 1} → statement M
-main-spec =
-    tie.close
-    (tie.spec
-    Inv-loop
-    μ-loop
-    loop-holds
-    answer-case-requires
-    sub-turns
-    loop-less
-    loop-again
-    returns
-    returns-2)
+main-spec = tie.close (tie.spec Inv-loop μ-loop loop-holds answer-case-requires (λ c. omega arith) (λ c. omega arith) loop-again returns returns-2)

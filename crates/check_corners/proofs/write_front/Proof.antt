@@ -9,11 +9,5 @@ use Rattle.check_corners.proofs.write_front.Tie as tie
 slice-aggregate-write-all : tie.Need-slice-aggregate-write-all
 slice-aggregate-write-all c = let start = c .before .before in sym (length-take-le (start .args .count) (start .args .bytes .now) (start .pre))
 
-write-all-requires : tie.Need-write-all-requires
-write-all-requires c κs = search needs
-
-returns : tie.Need-returns
-returns c = search needs
-
 pub write-front-spec : {M : Type 1} → statement M
-write-front-spec = tie.close (tie.spec slice-aggregate-write-all write-all-requires returns)
+write-front-spec = tie.close (tie.spec slice-aggregate-write-all (λ c κs. search needs) (λ c. search needs))

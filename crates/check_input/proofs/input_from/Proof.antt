@@ -20,13 +20,10 @@ cast-least c =
     let back : toZ w64 (ofZ w64 (c .before .args .got)) ≡ c .before .args .got = toZ-ofZ w64 (c .before .args .got) (c .before .fits .got) in
     rw back (natural (c .before .args .got) (rw back at (c .if1 .left)) (c .before .fits .got))
 
-least-requires : tie.Need-least-requires
-least-requires c κs = search needs
-
 returns-2 : tie.Need-returns-2
 returns-2 c =
     let back : toZ w64 (ofZ w64 (c .before .before .args .got)) ≡ c .before .before .args .got = toZ-ofZ w64 (c .before .before .args .got) (c .before .before .fits .got) in
     (came-is (c .before .before .args .got) (c .before .before .args .most) (c .least .result) (rw back at (c .before .if1 .left)) (rw back at (c .least .ensures .2)), c .least .ensures .1)
 
 pub input-from-spec : {M : Type 1} → statement M
-input-from-spec = tie.close (tie.spec returns cast-least least-requires returns-2)
+input-from-spec = tie.close (tie.spec returns cast-least (λ c κs. search needs) returns-2)

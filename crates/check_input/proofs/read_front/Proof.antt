@@ -7,20 +7,8 @@ use borrow.Author.Needs.{needs}
 use Rattle.check_input.proofs.read_front.Statement.{statement}
 use Rattle.check_input.proofs.read_front.Tie as tie
 
-returns : tie.Need-returns
-returns c = search needs
-
-slice-relend-prefix-read-input : tie.Need-slice-relend-prefix-read-input
-slice-relend-prefix-read-input c = search needs
-
 slice-aggregate-read-input : tie.Need-slice-aggregate-read-input
 slice-aggregate-read-input c = sym (length-take-le _ _ (c .before .if1 .left))
-
-read-input-requires : tie.Need-read-input-requires
-read-input-requires c κs = search needs
-
-same-length : tie.Need-same-length
-same-length c = search needs
 
 returns-2 : tie.Need-returns-2
 returns-2 c =
@@ -30,11 +18,4 @@ returns-2 c =
 
 pub read-front-spec : {M : Type 1} → statement M
 read-front-spec =
-    tie.close
-    (tie.spec
-    returns
-    slice-relend-prefix-read-input
-    slice-aggregate-read-input
-    read-input-requires
-    same-length
-    returns-2)
+    tie.close (tie.spec (λ c. search needs) (λ c. search needs) slice-aggregate-read-input (λ c κs. search needs) (λ c. search needs) returns-2)

@@ -25,9 +25,6 @@ slice-aggregate-chunk c = c .before .buffer .ensures
 loop-holds : tie.Need-loop-holds Inv-loop μ-loop
 loop-holds c = (omega arith, refl, refl)
 
-read-to-requires : tie.Need-read-to-requires Inv-loop μ-loop
-read-to-requires c κs = omega arith
-
 so-far-requires : tie.Need-so-far-requires Inv-loop μ-loop
 so-far-requires c κs = omega (arith, c .before .before .before .before .read-to .ensures .0)
 
@@ -66,18 +63,5 @@ returns-2 c =
 
 pub read-input-spec : {M : Type 1} → statement M
 read-input-spec =
-    tie.close
-    (tie.spec
-    Inv-loop
-    μ-loop
-    buffer-requires
-    slice-aggregate-chunk
-    loop-holds
-    read-to-requires
-    so-far-requires
-    same-length
-    returns
-    loop-less
-    loop-again
-    same-length-2
-    returns-2)
+    tie.close (tie.spec Inv-loop μ-loop buffer-requires slice-aggregate-chunk loop-holds (λ c κs. omega arith) so-far-requires same-length returns
+    loop-less loop-again same-length-2 returns-2)

@@ -4,11 +4,8 @@ use native.Mathlib.Omega.{arith}
 use Rattle.check_input.proofs.so_far.Statement.{statement}
 use Rattle.check_input.proofs.so_far.Tie as tie
 
-add-t3 : tie.Need-add-t3
-add-t3 c = omega arith
-
 returns : tie.Need-returns
 returns c = refl
 
 pub so-far-spec : {M : Type 1} → statement M
-so-far-spec = tie.close (tie.spec add-t3 returns)
+so-far-spec = tie.close (tie.spec (λ c. omega arith) returns)

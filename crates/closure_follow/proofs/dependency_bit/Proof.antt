@@ -8,12 +8,6 @@ use Rattle.closure_follow.proofs.dependency_bit.Tie as tie
 enum-told : tie.Need-enum-told
 enum-told c = search needs
 
-enum-told-2 : tie.Need-enum-told-2
-enum-told-2 c = search needs
-
-enum-told-3 : tie.Need-enum-told-3
-enum-told-3 c = search needs
-
 returns : tie.Need-returns
 unfolding dependencyBit
 returns c = rw (c .enum-told .given .1)
@@ -27,5 +21,4 @@ unfolding dependencyBit
 returns-3 c = rw (c .enum-told3 .given .1)
 
 pub dependency-bit-spec : {M : Type 1} → statement M
-dependency-bit-spec =
-    tie.close (tie.spec enum-told enum-told-2 enum-told-3 returns returns-2 returns-3)
+dependency-bit-spec = tie.close (tie.spec enum-told (λ c. search needs) (λ c. search needs) returns returns-2 returns-3)

@@ -76,16 +76,5 @@ returns c = follows-below _ _ _ (c .before .loop .inv .0) (c .loop-test .left) (
 
 pub follow-code-spec : {M : Type 1} → statement M
 follow-code-spec =
-    tie.close
-    (tie.spec
-    Inv-loop
-    μ-loop
-    loop-holds
-    instruction-at-requires
-    follow-instruction-requires
-    add-pc
-    loop-less
-    loop-again
-    same-length
-    same-length-2
-    returns)
+    tie.close (tie.spec Inv-loop μ-loop loop-holds instruction-at-requires follow-instruction-requires add-pc loop-less loop-again same-length
+    same-length-2 returns)

@@ -18,20 +18,11 @@ Inv-loop sheet from heads nexts pcs d marks₀ stack₀ top l bit followed₀ k 
 abbrev μ-loop : tie.MeasureT-loop
 μ-loop sheet from heads nexts pcs d marks₀ stack₀ top l bit followed₀ k link₀ marks stack followed link = link
 
-dependency-bit-requires : tie.Need-dependency-bit-requires Inv-loop μ-loop
-dependency-bit-requires c κs = search needs
-
 follow-code-requires : tie.Need-follow-code-requires Inv-loop μ-loop
 follow-code-requires c κs =
     let start = c .before .before .before .before .before .before .before .before .before in
     let asked = start .pre in
     (asked .0, omega (arith, asked .1 .inside, counted (asked .0 .are) .code-count), asked .2, asked .3)
-
-same-length : tie.Need-same-length Inv-loop μ-loop
-same-length c = search needs
-
-same-length-2 : tie.Need-same-length-2 Inv-loop μ-loop
-same-length-2 c = search needs
 
 returns : tie.Need-returns Inv-loop μ-loop
 returns c =
@@ -158,31 +149,6 @@ returns-2 c =
 
 pub follow-edges-spec : {M : Type 1} → statement M
 follow-edges-spec =
-    tie.close
-    (tie.spec
-    Inv-loop
-    μ-loop
-    dependency-bit-requires
-    follow-code-requires
-    same-length
-    same-length-2
-    returns
-    bucket-of-requires
-    mul-link
-    shared-slice-read-link
-    cast-link
-    loop-holds
-    sub-i
-    mul-pc
-    shared-slice-read-pc
-    cast-pc
-    instruction-at-requires
-    follow-instruction-requires
-    mul-link-2
-    shared-slice-read-link-2
-    cast-link-2
-    loop-less
-    loop-again
-    same-length-3
-    same-length-4
-    returns-2)
+    tie.close (tie.spec Inv-loop μ-loop (λ c κs. search needs) follow-code-requires (λ c. search needs) (λ c. search needs) returns bucket-of-requires
+    mul-link shared-slice-read-link cast-link loop-holds sub-i mul-pc shared-slice-read-pc cast-pc instruction-at-requires follow-instruction-requires
+    mul-link-2 shared-slice-read-link-2 cast-link-2 loop-less loop-again same-length-3 same-length-4 returns-2)

@@ -6,15 +6,6 @@ use borrow.Author.Needs.{needs}
 use Rattle.closure_follow.proofs.follow_instruction.Statement.{statement}
 use Rattle.closure_follow.proofs.follow_instruction.Tie as tie
 
-cast-a : tie.Need-cast-a
-cast-a c = search needs
-
-reach-requires : tie.Need-reach-requires
-reach-requires c κs = search needs
-
-wrapping-sub-usize-requires : tie.Need-wrapping-sub-usize-requires
-wrapping-sub-usize-requires c κs = search needs
-
 returns : tie.Need-returns
 returns c =
     let start = c .before .before .before .before .before .before in (
@@ -23,15 +14,6 @@ returns c =
           (outside-reach (start .args .inst) (c .before .before .reach .ensures .1) _ _ (c .before .wrapping-sub-usize .ensures) (omega arith) (omega arith) (c .if1 .taken)),
     )
 
-edges-to-requires : tie.Need-edges-to-requires
-edges-to-requires c κs = search needs
-
-cast-count : tie.Need-cast-count
-cast-count c = search needs
-
-add-count : tie.Need-add-count
-add-count c = search needs
-
 returns-2 : tie.Need-returns-2
 returns-2 c =
     let edges-to = c .before .before .before .before .before in
@@ -39,15 +21,6 @@ returns-2 c =
       omega arith,
       followed-none _ _ (edges-to .edges-to .result) (edges-to .edges-to .ensures .0) (edges-to .edges-to .ensures .1) (start .args .from) (c .if2 .taken),
     )
-
-mark-slots-requires : tie.Need-mark-slots-requires
-mark-slots-requires c κs = search needs
-
-same-length : tie.Need-same-length
-same-length c = search needs
-
-same-length-2 : tie.Need-same-length-2
-same-length-2 c = search needs
 
 returns-3 : tie.Need-returns-3
 returns-3 c = (
@@ -62,17 +35,5 @@ returns-3 c = (
 
 pub follow-instruction-spec : {M : Type 1} → statement M
 follow-instruction-spec =
-    tie.close
-    (tie.spec
-    cast-a
-    reach-requires
-    wrapping-sub-usize-requires
-    returns
-    edges-to-requires
-    cast-count
-    add-count
-    returns-2
-    mark-slots-requires
-    same-length
-    same-length-2
-    returns-3)
+    tie.close (tie.spec (λ c. search needs) (λ c κs. search needs) (λ c κs. search needs) returns (λ c κs. search needs) (λ c. search needs)
+    (λ c. search needs) returns-2 (λ c κs. search needs) (λ c. search needs) (λ c. search needs) returns-3)

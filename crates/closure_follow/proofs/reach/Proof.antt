@@ -6,9 +6,6 @@ use borrow.Author.Needs.{needs}
 use Rattle.closure_follow.proofs.reach.Statement.{statement}
 use Rattle.closure_follow.proofs.reach.Tie as tie
 
-cast-result : tie.Need-cast-result
-cast-result c = search needs
-
 returns : tie.Need-returns
 returns c = (omega arith, copy-n-reach (c .before .before .args .inst) (c .before .if1 .taken))
 
@@ -16,4 +13,4 @@ returns-2 : tie.Need-returns-2
 returns-2 c = (omega arith, other-reach (c .before .args .inst) (c .if1 .left))
 
 pub reach-spec : {M : Type 1} → statement M
-reach-spec = tie.close (tie.spec cast-result returns returns-2)
+reach-spec = tie.close (tie.spec (λ c. search needs) returns returns-2)

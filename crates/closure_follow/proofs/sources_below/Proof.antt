@@ -7,29 +7,17 @@ use borrow.Author.Needs.{needs}
 use Rattle.closure_follow.proofs.sources_below.Statement.{statement}
 use Rattle.closure_follow.proofs.sources_below.Tie as tie
 
-two-requires : tie.Need-two-requires
-two-requires c κs = search needs
-
 returns : tie.Need-returns
 unfolding onlyIf
 returns c = rw (lt-ltb _ _ (c .before .if2 .taken), c .before .before .if1 .taken) (two-held (c .two .ensures))
-
-one-requires : tie.Need-one-requires
-one-requires c κs = search needs
 
 returns-2 : tie.Need-returns-2
 unfolding onlyIf
 returns-2 c = rw (le-ltb _ _ (c .before .if2 .left), c .before .before .if1 .taken) (one-held (c .one .ensures))
 
-one-requires-2 : tie.Need-one-requires-2
-one-requires-2 c κs = search needs
-
 returns-3 : tie.Need-returns-3
 unfolding onlyIf
 returns-3 c = rw (lt-ltb _ _ (c .before .if3 .taken), c .before .before .if1 .left) (one-held (c .one2 .ensures))
-
-none-requires : tie.Need-none-requires
-none-requires c κs = search needs
 
 returns-4 : tie.Need-returns-4
 unfolding onlyIf
@@ -37,13 +25,5 @@ returns-4 c = rw (le-ltb _ _ (c .before .if3 .left), c .before .before .if1 .lef
 
 pub sources-below-spec : {M : Type 1} → statement M
 sources-below-spec =
-    tie.close
-    (tie.spec
-    two-requires
-    returns
-    one-requires
-    returns-2
-    one-requires-2
-    returns-3
-    none-requires
+    tie.close (tie.spec (λ c κs. search needs) returns (λ c κs. search needs) returns-2 (λ c κs. search needs) returns-3 (λ c κs. search needs)
     returns-4)

@@ -11,6 +11,5 @@ slice-aggregate-write-all c = sym (length-take-le _ _ (omega arith))
 
 pub main-spec : {M : Type 1} → statement M
 main-spec =
-    tie.close
-    (tie.spec (λ c. search needs) (λ c κs. search needs) (λ c. search needs) (λ c. search needs) (λ c. search needs) (λ c κs. search needs)
+    tie.close (tie.spec (λ c. search needs) (λ c κs. search needs) (λ c. search needs) (λ c. search needs) (λ c. search needs) (λ c κs. search needs)
     (λ c. search needs) slice-aggregate-write-all (λ c κs. search needs) (λ c. search needs))

@@ -111,9 +111,9 @@ returns c =
 
 pub list-facts-spec : {M : Type 1} → statement M
 list-facts-spec =
-    tie.close
-    (tie.spec (λ c κs. search needs) (λ c. search needs) (λ c. search needs) (λ c. search needs) (λ c. search needs) (λ c. search needs) (λ c. search needs) (λ c. search needs)
-    (λ c. search needs) (λ c. search needs) (λ c. search needs) (λ c. search needs) (λ c. search needs) (λ c. search needs) (λ c. search needs) (λ c. search needs)
-    (λ c. search needs) (λ c. search needs) analyze-indexed-requires slice-aggregate-answer-lines (λ c. search needs) (λ c. search needs) (λ c. search needs)
-    answer-lines-requires slice-aggregate-answer-lines-5 (λ c. search needs) (λ c. search needs) (λ c. search needs) answer-lines-requires-2 slice-aggregate-answer-lines-9
-    (λ c. search needs) (λ c. search needs) (λ c. search needs) answer-lines-requires-3 last-line-requires (λ c. search needs) returns)
+    tie.close (tie.spec (λ c κs. search needs) (λ c. search needs) (λ c. search needs) (λ c. search needs) (λ c. search needs) (λ c. search needs)
+    (λ c. search needs) (λ c. search needs) (λ c. search needs) (λ c. search needs) (λ c. search needs) (λ c. search needs) (λ c. search needs)
+    (λ c. search needs) (λ c. search needs) (λ c. search needs) (λ c. search needs) (λ c. search needs) analyze-indexed-requires
+    slice-aggregate-answer-lines (λ c. search needs) (λ c. search needs) (λ c. search needs) answer-lines-requires slice-aggregate-answer-lines-5
+    (λ c. search needs) (λ c. search needs) (λ c. search needs) answer-lines-requires-2 slice-aggregate-answer-lines-9 (λ c. search needs)
+    (λ c. search needs) (λ c. search needs) answer-lines-requires-3 last-line-requires (λ c. search needs) returns)

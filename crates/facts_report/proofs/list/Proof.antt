@@ -38,5 +38,5 @@ returns-3 c =
 
 pub list-spec : {M : Type 1} → statement M
 list-spec =
-    tie.close
-    (tie.spec (λ c κs. search needs) returns (λ c κs. search needs) (λ c. search needs) (λ c κs. search needs) (λ c. search needs) list-accepted-requires returns-2 returns-3)
+    tie.close (tie.spec (λ c κs. search needs) returns (λ c κs. search needs) (λ c. search needs) (λ c κs. search needs) (λ c. search needs)
+    list-accepted-requires returns-2 returns-3)

@@ -55,6 +55,5 @@ returns-3 c =
 
 pub list-accepted-spec : {M : Type 1} → statement M
 list-accepted-spec =
-    tie.close
-    (tie.spec (λ c κs. search needs) (λ c. search needs) returns (λ c κs. search needs) (λ c. search needs) returns-2 (λ c. search needs) (λ c. search needs) index-sheet-requires
-    (λ c. search needs) (λ c. search needs) list-facts-requires (λ c. search needs) returns-3)
+    tie.close (tie.spec (λ c κs. search needs) (λ c. search needs) returns (λ c κs. search needs) (λ c. search needs) returns-2 (λ c. search needs)
+    (λ c. search needs) index-sheet-requires (λ c. search needs) (λ c. search needs) list-facts-requires (λ c. search needs) returns-3)

@@ -4,8 +4,6 @@ use native.Mathlib.Omega.{arith}
 use borrow.Author.Needs.{needs}
 use Rattle.fixpoint_list.proofs.enter.Statement.{statement}
 use Rattle.fixpoint_list.proofs.enter.Tie as tie
-use Rattle.fixpoint_list.proofs.enter.Reads as reads
-use Rattle.fixpoint_list.proofs.enter.Lts as lts
 
 -- src/lib.rt:15:26
 cast-work-list : tie.Need-cast-work-list
@@ -24,25 +22,8 @@ add-result : tie.Need-add-result
 add-result c = omega (arith, c .before .pre .0 (c .if1 .taken))
 
 -- src/lib.rt:16:9
-same-length : tie.Need-same-length
-same-length c = search needs
-
--- src/lib.rt:16:9
 returns : tie.Need-returns
 returns c = (rw (c .if1 .taken), rw (c .if1 .taken))
 
--- src/lib.rt:10:1
-returns-2 : tie.Need-returns-2
-returns-2 c = search needs
-
 pub enter-spec : {M : Type 1} → statement M
-enter-spec =
-    tie.close
-    (tie.spec
-    cast-work-list
-    mul-work-list
-    slice-write-work-list
-    add-result
-    same-length
-    returns
-    returns-2)
+enter-spec = tie.close (tie.spec cast-work-list mul-work-list slice-write-work-list add-result (λ c. search needs) returns (λ c. search needs))

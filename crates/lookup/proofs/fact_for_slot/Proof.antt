@@ -9,9 +9,6 @@ use denote.Ref.{now}
 use Rattle.lookup.proofs.fact_for_slot.Statement.{statement}
 use Rattle.lookup.proofs.fact_for_slot.Tie as tie
 
-tables-agree-requires : tie.Need-tables-agree-requires
-tables-agree-requires c κs = search needs
-
 returns : tie.Need-returns
 returns c =
     let a = c .before .before .before .before .before .before .args in
@@ -22,9 +19,6 @@ find-requires c κs =
     let a = c .before .before .before .before .before .before .args in
     let yes = sym (c .before .tables-agree .ensures) ∙ not-false _ (c .if1 .left) in
     (agreed (now (a .slots)) (now (a .present)) (now (a .kinds)) (now (a .values)) yes) .ordered
-
-last-kind-requires : tie.Need-last-kind-requires
-last-kind-requires c κs = search needs
 
 named-requires : tie.Need-named-requires
 named-requires c κs =
@@ -56,13 +50,4 @@ returns-3 c =
 
 pub fact-for-slot-spec : {M : Type 1} → statement M
 fact-for-slot-spec =
-    tie.close
-    (tie.spec
-    tables-agree-requires
-    returns
-    find-requires
-    last-kind-requires
-    named-requires
-    cell-requires
-    returns-2
-    returns-3)
+    tie.close (tie.spec (λ c κs. search needs) returns find-requires (λ c κs. search needs) named-requires cell-requires returns-2 returns-3)

@@ -9,9 +9,6 @@ use denote.Ref.{now}
 use Rattle.lookup.proofs.fixed_fact.Statement.{statement}
 use Rattle.lookup.proofs.fixed_fact.Tie as tie
 
-tables-agree-requires : tie.Need-tables-agree-requires
-tables-agree-requires c κs = search needs
-
 returns : tie.Need-returns
 returns c =
     let a = c .before .before .before .before .before .before .args in
@@ -52,13 +49,4 @@ returns-3 c =
     ap factWithNumbers (fixed-row-damaged (now (a .slots)) (now (a .present)) (now (a .kinds)) (now (a .values)) (a .slot) yes (found .result) (found .ensures) _ (c .before .all-named .ensures) (c .if2 .left))
 
 pub fixed-fact-spec : {M : Type 1} → statement M
-fixed-fact-spec =
-    tie.close
-    (tie.spec
-    tables-agree-requires
-    returns
-    find-requires
-    all-named-requires
-    fixed-at-requires
-    returns-2
-    returns-3)
+fixed-fact-spec = tie.close (tie.spec (λ c κs. search needs) returns find-requires all-named-requires fixed-at-requires returns-2 returns-3)

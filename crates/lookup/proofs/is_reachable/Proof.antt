@@ -7,9 +7,6 @@ use borrow.Author.Needs.{needs}
 use Rattle.lookup.proofs.is_reachable.Statement.{statement}
 use Rattle.lookup.proofs.is_reachable.Tie as tie
 
-present-at-requires : tie.Need-present-at-requires
-present-at-requires c κs = search needs
-
 returns : tie.Need-returns
 returns c = ap reachabilityWithNumbers (not-reached (now (c .before .before .before .args .present)) (c .before .before .before .args .pc) _ (c .before .present-at .ensures) (c .match .keys1))
 
@@ -20,4 +17,4 @@ returns-3 : tie.Need-returns-3
 returns-3 c = ap reachabilityWithNumbers (unreadable (now (c .before .before .before .args .present)) (c .before .before .before .args .pc) _ (c .before .present-at .ensures) (c .match .rest .0 .1) (c .match .rest .1))
 
 pub is-reachable-spec : {M : Type 1} → statement M
-is-reachable-spec = tie.close (tie.spec present-at-requires returns returns-2 returns-3)
+is-reachable-spec = tie.close (tie.spec (λ c κs. search needs) returns returns-2 returns-3)

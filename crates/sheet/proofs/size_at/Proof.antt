@@ -9,15 +9,9 @@ use borrow.Author.Needs.{needs}
 use Rattle.sheet.proofs.size_at.Statement.{statement}
 use Rattle.sheet.proofs.size_at.Tie as tie
 
-u32-in-requires : tie.Need-u32-in-requires
-u32-in-requires c κs = search needs
-
-cast-result : tie.Need-cast-result
-cast-result c = search needs
-
 returns : tie.Need-returns
 unfolding size
 returns c = (c .u32-in .ensures ∙ ap (λ (at : ℕ). u32 (now (c .before .before .args .sheet)) at) (omega arith), omega arith)
 
 pub size-at-spec : {M : Type 1} → statement M
-size-at-spec = tie.close (tie.spec u32-in-requires cast-result returns)
+size-at-spec = tie.close (tie.spec (λ c κs. search needs) (λ c. search needs) returns)

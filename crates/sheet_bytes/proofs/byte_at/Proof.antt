@@ -5,12 +5,9 @@ use borrow.Author.Needs.{needs}
 use Rattle.sheet_bytes.proofs.byte_at.Statement.{statement}
 use Rattle.sheet_bytes.proofs.byte_at.Tie as tie
 
-shared-slice-read-result : tie.Need-shared-slice-read-result
-shared-slice-read-result c = search needs
-
 returns : tie.Need-returns
 unfolding byte
 returns c = refl
 
 pub byte-at-spec : {M : Type 1} → statement M
-byte-at-spec = tie.close (tie.spec shared-slice-read-result returns)
+byte-at-spec = tie.close (tie.spec (λ c. search needs) returns)

@@ -20,5 +20,5 @@ layout-classes-requires c κs =
 
 pub index-sheet-spec : {M : Type 1} → statement M
 index-sheet-spec =
-    tie.close
-    (tie.spec (λ c κs. search needs) (λ c. search needs) layout-starts-requires (λ c. search needs) layout-classes-requires (λ c. search needs) (λ c. search needs) (λ c. search needs))
+    tie.close (tie.spec (λ c κs. search needs) (λ c. search needs) layout-starts-requires (λ c. search needs) layout-classes-requires
+    (λ c. search needs) (λ c. search needs) (λ c. search needs))

@@ -46,6 +46,5 @@ returns c =
 
 pub layout-classes-spec : {M : Type 1} → statement M
 layout-classes-spec =
-    tie.close
-    (tie.spec Inv-loop μ-loop lowest-of-requires cast-fill (λ c κs. tt) loop-holds lowest-of-requires-2 cast-classes (λ c. omega arith) (λ c. omega arith) (λ c. omega arith)
-    (λ c. omega arith) loop-again (λ c. omega arith) returns)
+    tie.close (tie.spec Inv-loop μ-loop lowest-of-requires cast-fill (λ c κs. tt) loop-holds lowest-of-requires-2 cast-classes (λ c. omega arith)
+    (λ c. omega arith) (λ c. omega arith) (λ c. omega arith) loop-again (λ c. omega arith) returns)

@@ -10,5 +10,4 @@ returns-2 c =
     c .lowest-of2 .ensures ∙ past-count (c .before .before .before .before .pre) (c .before .before .before .before .args .i) (c .before .if1 .left)
 
 pub lowest-spec : {M : Type 1} → statement M
-lowest-spec =
-    tie.close (tie.spec (λ c κs. search needs) (λ c. search needs) (λ c κs. search needs) returns-2)
+lowest-spec = tie.close (tie.spec (λ c κs. search needs) (λ c. search needs) (λ c κs. search needs) returns-2)

@@ -103,7 +103,7 @@ returns-2 c =
 
 pub lowest-of-spec : {M : Type 1} → statement M
 lowest-of-spec =
-    tie.close
-    (tie.spec Inv-loop μ-loop Inv-outer μ-outer layout-length-at-requires (λ c. omega arith) start-of-requires outer-holds layout-length-at-requires-2 (λ c. omega arith)
-    (λ c. omega arith) (λ c. omega arith) outer-again start-of-requires-2 loop-holds add-slot-kind-at slot-kind-at-requires add-slot-kind-at-2 slot-kind-at-requires-2
-    (λ c. omega arith) (λ c. omega arith) outer-again-2 (λ c. omega arith) (λ c. omega arith) loop-again returns returns-2)
+    tie.close (tie.spec Inv-loop μ-loop Inv-outer μ-outer layout-length-at-requires (λ c. omega arith) start-of-requires outer-holds
+    layout-length-at-requires-2 (λ c. omega arith) (λ c. omega arith) (λ c. omega arith) outer-again start-of-requires-2 loop-holds add-slot-kind-at
+    slot-kind-at-requires add-slot-kind-at-2 slot-kind-at-requires-2 (λ c. omega arith) (λ c. omega arith) outer-again-2 (λ c. omega arith)
+    (λ c. omega arith) loop-again returns returns-2)

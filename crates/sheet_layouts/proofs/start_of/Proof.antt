@@ -17,5 +17,4 @@ unfolding startOf
 returns-2 c = rw (le-ltb _ _ (c .if1 .left))
 
 pub start-of-spec : {M : Type 1} → statement M
-start-of-spec =
-    tie.close (tie.spec (λ c. omega arith) (λ c. omega arith) cast-result returns returns-2)
+start-of-spec = tie.close (tie.spec (λ c. omega arith) (λ c. omega arith) cast-result returns returns-2)

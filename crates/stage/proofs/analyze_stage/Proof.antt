@@ -127,15 +127,19 @@ returns-2 c =
 
 pub analyze-stage-spec : {M : Type 1} → statement M
 analyze-stage-spec =
-    tie.close
-    (tie.spec (λ c κs. search needs) prepare-requires (λ c. search needs) (λ c. search needs) (λ c. search needs) (λ c. search needs) (λ c. search needs) (λ c. search needs) (λ c. search needs)
-    (λ c. search needs) returns (λ c. record { fits = lent-there c .cells-fit }) (λ c. lent-there c .slots-fit) (λ c. sym (length-take-le _ _ (lent-there (c .before) .slots-fit))) (λ c κs. search needs)
+    tie.close (tie.spec (λ c κs. search needs) prepare-requires (λ c. search needs) (λ c. search needs) (λ c. search needs) (λ c. search needs)
+    (λ c. search needs) (λ c. search needs) (λ c. search needs) (λ c. search needs) returns (λ c. record { fits = lent-there c .cells-fit })
+    (λ c. lent-there c .slots-fit) (λ c. sym (length-take-le _ _ (lent-there (c .before) .slots-fit))) (λ c κs. search needs)
     (λ c. lent-there (c .before .before) .present-fits) (λ c. sym (length-take-le _ _ (lent-there (c .before .before .before) .present-fits)))
-    (λ c. lent-there (c .before .before .before) .kinds-fit) (λ c. sym (length-take-le _ _ (lent-there (c .before .before .before .before) .kinds-fit)))
-    (λ c. lent-there (c .before .before .before .before) .values-fit) (λ c. sym (length-take-le _ _ (lent-there (c .before .before .before .before .before) .values-fit)))
-    (λ c. lent-there (c .before .before .before .before .before) .row-kinds-fit) (λ c. sym (length-take-le _ _ (lent-there (c .before .before .before .before .before .before) .row-kinds-fit)))
+    (λ c. lent-there (c .before .before .before) .kinds-fit)
+    (λ c. sym (length-take-le _ _ (lent-there (c .before .before .before .before) .kinds-fit)))
+    (λ c. lent-there (c .before .before .before .before) .values-fit)
+    (λ c. sym (length-take-le _ _ (lent-there (c .before .before .before .before .before) .values-fit)))
+    (λ c. lent-there (c .before .before .before .before .before) .row-kinds-fit)
+    (λ c. sym (length-take-le _ _ (lent-there (c .before .before .before .before .before .before) .row-kinds-fit)))
     (λ c. lent-there (c .before .before .before .before .before .before) .row-values-fit)
-    (λ c. sym (length-take-le _ _ (lent-there (c .before .before .before .before .before .before .before) .row-values-fit)))
-    run-to-fixpoint-requires (λ c κs. search needs) (λ c. c .before .before .conclude .kept .1 .1 .1 .0 ∙ at-prepare (at-else (at-run c) .before) .prepare .kept .1 .1 .1 .1 .1 .0)
-    same-length-10 same-length-11 same-length-12 (λ c. at-prepare (at-else (at-run c) .before) .prepare .kept .1 .1 .1 .1 .1 .1 .0)
+    (λ c. sym (length-take-le _ _ (lent-there (c .before .before .before .before .before .before .before) .row-values-fit))) run-to-fixpoint-requires
+    (λ c κs. search needs)
+    (λ c. c .before .before .conclude .kept .1 .1 .1 .0 ∙ at-prepare (at-else (at-run c) .before) .prepare .kept .1 .1 .1 .1 .1 .0) same-length-10
+    same-length-11 same-length-12 (λ c. at-prepare (at-else (at-run c) .before) .prepare .kept .1 .1 .1 .1 .1 .1 .0)
     (λ c. at-prepare (at-else (at-run c) .before) .prepare .kept .1 .1 .1 .1 .1 .1 .1 .0) same-length-15 same-length-16 (λ c. search needs) returns-2)

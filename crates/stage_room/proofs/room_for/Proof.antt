@@ -8,7 +8,6 @@ use Rattle.stage_room.proofs.Fits.{cells-fit}
 use borrow.Author.Needs.{needs}
 use Rattle.stage_room.proofs.room_for.Statement.{statement}
 use Rattle.stage_room.proofs.room_for.Tie as tie
-use Rattle.stage_room.proofs.work_list_room.Reads as work-list-room-reads
 
 returns : tie.Need-returns
 unfolding roomBy
@@ -37,23 +36,9 @@ returns-6 : tie.Need-returns-6
 unfolding roomBy
 returns-6 c = simp (le-leb _ _ (c .before .before .before .before .before .if1 .left), le-leb _ _ (c .before .before .before .before .if2 .left), le-leb _ _ (c .before .before .before .if3 .left), le-leb _ _ (c .before .before .if4 .left), le-leb _ _ (c .before .if5 .left), lt-leb _ _ (c .if6 .taken))
 
-work-list-room-requires : tie.Need-work-list-room-requires
-work-list-room-requires c κs = search needs
-
 returns-7 : tie.Need-returns-7
 unfolding roomBy
 returns-7 c = c .work-list-room .ensures ∙ simp (le-leb _ _ (c .before .before .before .before .before .before .if1 .left), le-leb _ _ (c .before .before .before .before .before .if2 .left), le-leb _ _ (c .before .before .before .before .if3 .left), le-leb _ _ (c .before .before .before .if4 .left), le-leb _ _ (c .before .before .if5 .left), le-leb _ _ (c .before .if6 .left))
 
 pub room-for-spec : {M : Type 1} → statement M
-room-for-spec =
-    tie.close
-    (tie.spec
-    returns
-    returns-2
-    returns-3
-    returns-4
-    mul-cells
-    returns-5
-    returns-6
-    work-list-room-requires
-    returns-7)
+room-for-spec = tie.close (tie.spec returns returns-2 returns-3 returns-4 mul-cells returns-5 returns-6 (λ c κs. search needs) returns-7)

@@ -10,5 +10,4 @@ unfolding ascii
 returns c = let at-put-decimal = c .before .before in then (at-put-decimal .before .before .before .before .put .ensures) (at-put-decimal .put-decimal .ensures)
 
 pub put-checked-spec : {M : Type 1} → statement M
-put-checked-spec =
-    tie.close (tie.spec (λ c. search needs) (λ c κs. search needs) (λ c κs. search needs) (λ c. search needs) returns)
+put-checked-spec = tie.close (tie.spec (λ c. search needs) (λ c κs. search needs) (λ c κs. search needs) (λ c. search needs) returns)

@@ -39,7 +39,7 @@ returns-3 c =
 
 pub put-container-spec : {M : Type 1} → statement M
 put-container-spec =
-    tie.close
-    (tie.spec (λ c κs. search needs) (λ c. omega arith) (λ c. search needs) (λ c κs. search needs) (λ c κs. search needs) (λ c. search needs) returns (λ c κs. search needs)
-    (λ c. omega arith) (λ c. search needs) (λ c κs. search needs) (λ c κs. search needs) (λ c κs. search needs) (λ c. search needs) returns-2 (λ c. search needs)
-    (λ c κs. search needs) (λ c κs. search needs) (λ c κs. search needs) (λ c. search needs) returns-3)
+    tie.close (tie.spec (λ c κs. search needs) (λ c. omega arith) (λ c. search needs) (λ c κs. search needs) (λ c κs. search needs)
+    (λ c. search needs) returns (λ c κs. search needs) (λ c. omega arith) (λ c. search needs) (λ c κs. search needs) (λ c κs. search needs)
+    (λ c κs. search needs) (λ c. search needs) returns-2 (λ c. search needs) (λ c κs. search needs) (λ c κs. search needs) (λ c κs. search needs)
+    (λ c. search needs) returns-3)

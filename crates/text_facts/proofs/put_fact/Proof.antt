@@ -41,7 +41,6 @@ returns-5 c =
 
 pub put-fact-spec : {M : Type 1} → statement M
 put-fact-spec =
-    tie.close
-    (tie.spec (λ c. search needs) (λ c κs. search needs) (λ c. search needs) returns (λ c. search needs) (λ c κs. search needs) (λ c. search needs) returns-2 enum-told
-    (λ c κs. search needs) (λ c. search needs) (λ c κs. search needs) (λ c. search needs) (λ c κs. search needs) (λ c. search needs) returns-3 (λ c. search needs) returns-4
-    (λ c. search needs) returns-5)
+    tie.close (tie.spec (λ c. search needs) (λ c κs. search needs) (λ c. search needs) returns (λ c. search needs) (λ c κs. search needs)
+    (λ c. search needs) returns-2 enum-told (λ c κs. search needs) (λ c. search needs) (λ c κs. search needs) (λ c. search needs)
+    (λ c κs. search needs) (λ c. search needs) returns-3 (λ c. search needs) returns-4 (λ c. search needs) returns-5)

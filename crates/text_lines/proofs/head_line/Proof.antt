@@ -5,27 +5,6 @@ use borrow.Author.Needs.{needs}
 use Rattle.text_lines.proofs.head_line.Statement.{statement}
 use Rattle.text_lines.proofs.head_line.Tie as tie
 
-put-name-requires : tie.Need-put-name-requires
-put-name-requires c κs = search needs
-
-put-spaced-requires : tie.Need-put-spaced-requires
-put-spaced-requires c κs = search needs
-
-put-spaced-requires-2 : tie.Need-put-spaced-requires-2
-put-spaced-requires-2 c κs = search needs
-
-put-spaced-requires-3 : tie.Need-put-spaced-requires-3
-put-spaced-requires-3 c κs = search needs
-
-slice-aggregate-put : tie.Need-slice-aggregate-put
-slice-aggregate-put c = search needs
-
-put-requires : tie.Need-put-requires
-put-requires c κs = search needs
-
-same-length : tie.Need-same-length
-same-length c = search needs
-
 returns : tie.Need-returns
 unfolding ascii newline headLine
 returns c =
@@ -36,13 +15,5 @@ returns c =
 
 pub head-line-spec : {M : Type 1} → statement M
 head-line-spec =
-    tie.close
-    (tie.spec
-    put-name-requires
-    put-spaced-requires
-    put-spaced-requires-2
-    put-spaced-requires-3
-    slice-aggregate-put
-    put-requires
-    same-length
-    returns)
+    tie.close (tie.spec (λ c κs. search needs) (λ c κs. search needs) (λ c κs. search needs) (λ c κs. search needs) (λ c. search needs)
+    (λ c κs. search needs) (λ c. search needs) returns)

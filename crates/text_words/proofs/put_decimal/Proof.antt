@@ -16,9 +16,6 @@ abbrev μ-loop : tie.MeasureT-loop
 slice-aggregate-put : tie.Need-slice-aggregate-put Inv-loop μ-loop
 slice-aggregate-put c = refl
 
-put-requires : tie.Need-put-requires Inv-loop μ-loop
-put-requires c κs = omega arith
-
 same-length : tie.Need-same-length Inv-loop μ-loop
 same-length c = c .before .before .put .kept .1 .1 .0
 
@@ -36,29 +33,17 @@ sub-i c =
     let l = c .before .loop in
     found-above (a .x) (l .buffer) (l .i) (l .left) (l .inv) (c .loop-test .taken)
 
-cast-buffer : tie.Need-cast-buffer Inv-loop μ-loop
-cast-buffer c = omega arith
-
-add-buffer : tie.Need-add-buffer Inv-loop μ-loop
-add-buffer c = omega arith
-
 array-write-buffer : tie.Need-array-write-buffer Inv-loop μ-loop
 array-write-buffer c =
     let a = c .before .before .before .before .args in
     let l = c .before .loop in
     omega (arith, found-above (a .x) (l .buffer) (l .i) (l .left) (l .inv) (c .loop-test .taken))
 
-loop-less : tie.Need-loop-less Inv-loop μ-loop
-loop-less c = omega arith
-
 loop-again : tie.Need-loop-again Inv-loop μ-loop
 loop-again c =
     let a = c .before .before .before .before .args in
     let l = c .before .loop in
     found-turn (a .x) (l .buffer) (l .i) (l .left) (l .inv) (c .loop-test .taken)
-
-slice-aggregate-put-from : tie.Need-slice-aggregate-put-from Inv-loop μ-loop
-slice-aggregate-put-from c = omega arith
 
 put-from-requires : tie.Need-put-from-requires Inv-loop μ-loop
 put-from-requires c κs = (omega arith, omega arith)
@@ -74,22 +59,5 @@ returns-2 c =
 
 pub put-decimal-spec : {M : Type 1} → statement M
 put-decimal-spec =
-    tie.close
-    (tie.spec
-    Inv-loop
-    μ-loop
-    slice-aggregate-put
-    put-requires
-    same-length
-    returns
-    loop-holds
-    sub-i
-    cast-buffer
-    add-buffer
-    array-write-buffer
-    loop-less
-    loop-again
-    slice-aggregate-put-from
-    put-from-requires
-    same-length-2
-    returns-2)
+    tie.close (tie.spec Inv-loop μ-loop slice-aggregate-put (λ c κs. omega arith) same-length returns loop-holds sub-i (λ c. omega arith)
+    (λ c. omega arith) array-write-buffer (λ c. omega arith) loop-again (λ c. omega arith) put-from-requires same-length-2 returns-2)

@@ -15,31 +15,10 @@ Inv-loop word from at out₀ n i₀ out i = (i ≤ n) × (length out ≡ length 
 abbrev μ-loop : tie.MeasureT-loop
 μ-loop word from at out₀ n i₀ out i = n - i
 
-sub-n : tie.Need-sub-n Inv-loop μ-loop
-sub-n c = omega arith
-
 loop-holds : tie.Need-loop-holds Inv-loop μ-loop
 loop-holds c =
     let a = c .args in
     (omega arith, refl, refl, paste-zero (now (a .out)) (a .at) (drop (a .from) (now (a .word))))
-
-add-out : tie.Need-add-out Inv-loop μ-loop
-add-out c = omega arith
-
-shared-slice-read-out : tie.Need-shared-slice-read-out Inv-loop μ-loop
-shared-slice-read-out c = omega arith
-
-add-out-2 : tie.Need-add-out-2 Inv-loop μ-loop
-add-out-2 c = omega arith
-
-slice-write-out : tie.Need-slice-write-out Inv-loop μ-loop
-slice-write-out c = omega arith
-
-add-i : tie.Need-add-i Inv-loop μ-loop
-add-i c = omega arith
-
-loop-less : tie.Need-loop-less Inv-loop μ-loop
-loop-less c = omega arith
 
 loop-again : tie.Need-loop-again Inv-loop μ-loop
 loop-again c =
@@ -51,9 +30,6 @@ loop-again c =
       byte-more (drop (a .from) (now (a .word))) (now (a .out)) (l .out) (a .at) (l .i) _ (omega arith) (omega (arith, length-drop (a .from) (now (a .word))))
           (sym (getD-drop (a .from) (now (a .word)) (l .i) 0)) (l .inv .3),
     )
-
-add-result : tie.Need-add-result Inv-loop μ-loop
-add-result c = omega arith
 
 same-length : tie.Need-same-length Inv-loop μ-loop
 same-length c = c .before .loop .inv .1
@@ -67,19 +43,5 @@ returns c =
 
 pub put-from-spec : {M : Type 1} → statement M
 put-from-spec =
-    tie.close
-    (tie.spec
-    Inv-loop
-    μ-loop
-    sub-n
-    loop-holds
-    add-out
-    shared-slice-read-out
-    add-out-2
-    slice-write-out
-    add-i
-    loop-less
-    loop-again
-    add-result
-    same-length
-    returns)
+    tie.close (tie.spec Inv-loop μ-loop (λ c. omega arith) loop-holds (λ c. omega arith) (λ c. omega arith) (λ c. omega arith) (λ c. omega arith)
+    (λ c. omega arith) (λ c. omega arith) loop-again (λ c. omega arith) same-length returns)

@@ -1,6 +1,5 @@
 -- `analyze` meets its contract: questions 1 to 6, the sheet's index, then the three analyses.
 -- Assumes nothing.
-use mathlib.Core.Path.{refl}
 use Rattle.model.specs.Call.{Lent, lent, table, scratch}
 use Rattle.sheet_index.proofs.Found.{few-layouts, firsts-found, classes-found}
 use Rattle.call_admission.proofs.Asking.{admitted-lengths, turned-away}
@@ -110,7 +109,7 @@ returns-2 c =
 
 pub analyze-spec : {M : Type 1} → statement M
 analyze-spec =
-    tie.close
-    (tie.spec (λ c κs. search needs) (λ c. search needs) (λ c. search needs) (λ c. search needs) (λ c. search needs) index-sheet-requires (λ c. search needs) (λ c. search needs)
-    analyze-indexed-requires returns same-length same-length-2 same-length-3 same-length-4 same-length-5 same-length-6 same-length-7 same-length-8 same-length-9 same-length-10 same-length-11
-    same-length-12 same-length-13 same-length-14 same-length-15 same-length-16 same-length-17 returns-2)
+    tie.close (tie.spec (λ c κs. search needs) (λ c. search needs) (λ c. search needs) (λ c. search needs) (λ c. search needs) index-sheet-requires
+    (λ c. search needs) (λ c. search needs) analyze-indexed-requires returns same-length same-length-2 same-length-3 same-length-4 same-length-5
+    same-length-6 same-length-7 same-length-8 same-length-9 same-length-10 same-length-11 same-length-12 same-length-13 same-length-14 same-length-15
+    same-length-16 same-length-17 returns-2)

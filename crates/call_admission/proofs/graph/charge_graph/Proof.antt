@@ -26,5 +26,4 @@ returns-2 c =
     (c .charge-dependencies .ensures)
 
 pub charge-graph-spec : {M : Type 1} → statement M
-charge-graph-spec =
-    tie.close (tie.spec (λ c κs. limited (c .before .pre) .code-count) (λ c. search needs) returns (λ c κs. search needs) returns-2)
+charge-graph-spec = tie.close (tie.spec (λ c κs. limited (c .before .pre) .code-count) (λ c. search needs) returns (λ c κs. search needs) returns-2)

@@ -8,12 +8,6 @@ use Rattle.cfg.proofs.Signed.{wide-fits, sum-fits, sum-is}
 use Rattle.cfg.proofs.offsets.forloop_target_i64.Statement.{statement}
 use Rattle.cfg.proofs.offsets.forloop_target_i64.Tie as tie
 
-add-next : tie.Need-add-next
-add-next c = search needs
-
-cast-result : tie.Need-cast-result
-cast-result c = search needs
-
 cast-result-2 : tie.Need-cast-result-2
 cast-result-2 c = wide-fits w16 (c .args .pc + 1) (c .args .offset) (c .fits .offset) (omega arith) (omega arith)
 
@@ -24,4 +18,4 @@ returns : tie.Need-returns
 returns c = sum-is w16 (c .args .pc + 1) (c .args .offset) (c .fits .offset) (omega arith) (omega arith)
 
 pub forloop-target-i64-spec : {M : Type 1} → statement M
-forloop-target-i64-spec = tie.close (tie.spec add-next cast-result cast-result-2 add-result returns)
+forloop-target-i64-spec = tie.close (tie.spec (λ c. search needs) (λ c. search needs) cast-result-2 add-result returns)

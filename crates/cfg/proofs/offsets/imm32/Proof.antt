@@ -11,27 +11,9 @@ use Rattle.cfg.proofs.Signed.{signed-read, difference-fits, narrow-fits
 use Rattle.cfg.proofs.offsets.imm32.Statement.{statement}
 use Rattle.cfg.proofs.offsets.imm32.Tie as tie
 
-cast-bits : tie.Need-cast-bits
-cast-bits c = search needs
-
-cast-bits-2 : tie.Need-cast-bits-2
-cast-bits-2 c = search needs
-
-mul-bits : tie.Need-mul-bits
-mul-bits c = search needs
-
-add-bits : tie.Need-add-bits
-add-bits c = search needs
-
-cast-result : tie.Need-cast-result
-cast-result c = search needs
-
 returns : tie.Need-returns
 unfolding signed imm32
 returns c = signed-read w32 (c .before .before .before .args .inst .b + 65536 * c .before .before .before .args .inst .c)
-
-cast-result-2 : tie.Need-cast-result-2
-cast-result-2 c = search needs
 
 sub-result : tie.Need-sub-result
 sub-result c =
@@ -67,5 +49,5 @@ returns-2 c =
 
 pub imm32-spec : {M : Type 1} → statement M
 imm32-spec =
-    tie.close
-    (tie.spec cast-bits cast-bits-2 mul-bits add-bits cast-result returns cast-result-2 sub-result cast-result-3 returns-2)
+    tie.close (tie.spec (λ c. search needs) (λ c. search needs) (λ c. search needs) (λ c. search needs) (λ c. search needs) returns
+    (λ c. search needs) sub-result cast-result-3 returns-2)

@@ -7,9 +7,6 @@ use Rattle.cfg.proofs.Signed.{wide-fits, sum-fits, sum-is}
 use Rattle.cfg.proofs.offsets.jump_target_i64.Statement.{statement}
 use Rattle.cfg.proofs.offsets.jump_target_i64.Tie as tie
 
-cast-result : tie.Need-cast-result
-cast-result c = search needs
-
 cast-result-2 : tie.Need-cast-result-2
 cast-result-2 c = wide-fits w32 (c .args .pc) (c .args .offset) (c .fits .offset) (omega arith) (omega arith)
 
@@ -20,4 +17,4 @@ returns : tie.Need-returns
 returns c = sum-is w32 (c .args .pc) (c .args .offset) (c .fits .offset) (omega arith) (omega arith)
 
 pub jump-target-i64-spec : {M : Type 1} → statement M
-jump-target-i64-spec = tie.close (tie.spec cast-result cast-result-2 add-result returns)
+jump-target-i64-spec = tie.close (tie.spec (λ c. search needs) cast-result-2 add-result returns)

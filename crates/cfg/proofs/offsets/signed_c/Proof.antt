@@ -10,15 +10,9 @@ use Rattle.cfg.proofs.Signed.{signed-read, difference-fits, narrow-fits
 use Rattle.cfg.proofs.offsets.signed_c.Statement.{statement}
 use Rattle.cfg.proofs.offsets.signed_c.Tie as tie
 
-cast-result : tie.Need-cast-result
-cast-result c = search needs
-
 returns : tie.Need-returns
 unfolding signed
 returns c = signed-read w16 (c .before .args .inst .c)
-
-cast-result-2 : tie.Need-cast-result-2
-cast-result-2 c = search needs
 
 sub-result : tie.Need-sub-result
 sub-result c = difference-fits w16 65535 (c .before .args .inst .c) (omega arith) (omega arith) (omega arith)
@@ -32,4 +26,4 @@ returns-2 c =
     narrow-is w16 65535 (c .before .args .inst .c) (omega arith) (omega arith) (omega arith) ∙ simp (le-ltb _ _ (c .if1 .left))
 
 pub signed-c-spec : {M : Type 1} → statement M
-signed-c-spec = tie.close (tie.spec cast-result returns cast-result-2 sub-result cast-result-3 returns-2)
+signed-c-spec = tie.close (tie.spec (λ c. search needs) returns (λ c. search needs) sub-result cast-result-3 returns-2)

@@ -81,10 +81,10 @@ returns c =
 
 pub call-spec : {M : Type 1} → statement M
 call-spec =
-    tie.close
-    (tie.spec
-    (λ c. refl) (λ c κs. (lit≤ tt, lit< tt)) (λ c. refl) (λ c κs. (lit≤ tt, lit< tt)) (λ c. refl) (λ c κs. (lit≤ tt, lit< tt)) (λ c. refl) (λ c κs. (lit≤ tt, lit< tt))
-    (λ c. refl) (λ c κs. (lit≤ tt, lit< tt)) (λ c. refl) (λ c κs. (lit≤ tt, lit< tt)) (λ c. refl) (λ c κs. (lit≤ tt, lit< tt)) (λ c. refl) (λ c κs. (lit≤ tt, lit< tt))
-    (λ c. refl) (λ c κs. (lit≤ tt, lit< tt)) (λ c. refl) (λ c κs. (lit≤ tt, lit< tt)) (λ c. refl) (λ c κs. (lit≤ tt, lit< tt)) (λ c. refl) (λ c κs. (lit≤ tt, lit< tt))
-    (λ c. refl) (λ c κs. (lit≤ tt, lit< tt)) (λ c. refl) (λ c κs. (lit≤ tt, lit< tt)) (λ c. refl) (λ c κs. (lit≤ tt, lit< tt)) (λ c. refl) (λ c κs. (lit≤ tt, lit< tt))
-    (λ c. refl) (λ c κs. (lit≤ tt, lit< tt)) (λ c κs. tt) (λ c κs. tt) (λ c κs. tt) (λ c κs. tt) (λ c κs. tt) (λ c κs. tt) (λ c κs. tt) returns)
+    tie.close (tie.spec (λ c. refl) (λ c κs. (lit≤ tt, lit< tt)) (λ c. refl) (λ c κs. (lit≤ tt, lit< tt)) (λ c. refl) (λ c κs. (lit≤ tt, lit< tt))
+    (λ c. refl) (λ c κs. (lit≤ tt, lit< tt)) (λ c. refl) (λ c κs. (lit≤ tt, lit< tt)) (λ c. refl) (λ c κs. (lit≤ tt, lit< tt)) (λ c. refl)
+    (λ c κs. (lit≤ tt, lit< tt)) (λ c. refl) (λ c κs. (lit≤ tt, lit< tt)) (λ c. refl) (λ c κs. (lit≤ tt, lit< tt)) (λ c. refl)
+    (λ c κs. (lit≤ tt, lit< tt)) (λ c. refl) (λ c κs. (lit≤ tt, lit< tt)) (λ c. refl) (λ c κs. (lit≤ tt, lit< tt)) (λ c. refl)
+    (λ c κs. (lit≤ tt, lit< tt)) (λ c. refl) (λ c κs. (lit≤ tt, lit< tt)) (λ c. refl) (λ c κs. (lit≤ tt, lit< tt)) (λ c. refl)
+    (λ c κs. (lit≤ tt, lit< tt)) (λ c. refl) (λ c κs. (lit≤ tt, lit< tt)) (λ c κs. tt) (λ c κs. tt) (λ c κs. tt) (λ c κs. tt) (λ c κs. tt)
+    (λ c κs. tt) (λ c κs. tt) returns)

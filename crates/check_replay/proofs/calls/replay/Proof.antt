@@ -17,7 +17,6 @@ abbrev μ-loop : tie.MeasureT-loop
 
 pub replay-spec : {M : Type 1} → statement M
 replay-spec =
-    tie.close
-    (tie.spec Inv-loop μ-loop (λ c κs. tt) (λ c. (omega arith, first _ _ _ (c .before .call .ensures))) (λ c. omega arith) (λ c κs. tt) (λ c. omega arith)
-    (λ c. (omega arith, again _ _ _ _ _ (c .before .before .before .loop .inv .1) (c .before .call2 .ensures)))
+    tie.close (tie.spec Inv-loop μ-loop (λ c κs. tt) (λ c. (omega arith, first _ _ _ (c .before .call .ensures))) (λ c. omega arith) (λ c κs. tt)
+    (λ c. omega arith) (λ c. (omega arith, again _ _ _ _ _ (c .before .before .before .loop .inv .1) (c .before .call2 .ensures)))
     (λ c. let e : c .before .loop .i ≡ 18 = omega arith in rw e at (c .before .loop .inv .1)))

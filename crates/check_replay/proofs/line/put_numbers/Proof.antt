@@ -18,10 +18,8 @@ abbrev μ-loop : tie.MeasureT-loop
 
 pub put-numbers-spec : {M : Type 1} → statement M
 put-numbers-spec =
-    tie.close
-    (tie.spec Inv-loop μ-loop (λ c. (omega arith, none (now (c .before .before .args .numbers)) _ _ (omega arith))) (λ c. omega arith) (λ c. omega arith)
-    (λ c κs. let added = c .before .before .before .loop .inv .1 in omega (arith, added .short, added .long)) (λ c. omega arith) (λ c. omega arith)
-    (λ c. let test = c .before .before .before .before .before in
-    (omega arith, more _ (test .loop-test .taken) (test .before .loop .inv .1) (c .before .before .put-spaced .ensures)))
-    (λ c. c .before .loop .inv .1 .long)
-    (λ c. all _ (c .before .loop .inv .0) (c .loop-test .left) (c .before .loop .inv .1)))
+    tie.close (tie.spec Inv-loop μ-loop (λ c. (omega arith, none (now (c .before .before .args .numbers)) _ _ (omega arith))) (λ c. omega arith)
+    (λ c. omega arith) (λ c κs. let added = c .before .before .before .loop .inv .1 in omega (arith, added .short, added .long)) (λ c. omega arith)
+    (λ c. omega arith)
+    (λ c. let test = c .before .before .before .before .before in (omega arith, more _ (test .loop-test .taken) (test .before .loop .inv .1) (c .before .before .put-spaced .ensures)))
+    (λ c. c .before .loop .inv .1 .long) (λ c. all _ (c .before .loop .inv .0) (c .loop-test .left) (c .before .loop .inv .1)))

@@ -5,4 +5,5 @@ use Rattle.check_replay_lent.proofs.budget.budget_of.Statement.{stateme
 use Rattle.check_replay_lent.proofs.budget.budget_of.Tie as tie
 
 pub budget-of-spec : {M : Type 1} → statement M
-budget-of-spec = tie.close (tie.spec (λ c κs. search needs) (λ c κs. search needs) (λ c. rw (c .before .before .u64-at .ensures, c .u64-at2 .ensures)))
+budget-of-spec =
+    tie.close (tie.spec (λ c κs. search needs) (λ c κs. search needs) (λ c. rw (c .before .before .u64-at .ensures, c .u64-at2 .ensures)))

@@ -7,6 +7,5 @@ use Rattle.check_replay_lent.proofs.buffers.with_number.Tie as tie
 
 pub with-number-spec : {M : Type 1} → statement M
 with-number-spec =
-    tie.close
-    (tie.spec (λ c. search needs) (λ c. search needs) (λ c. search needs) (λ c. search needs) (λ c. search needs) (λ c. search needs) (λ c. search needs) (λ c. search needs)
-    (λ c. simp add-mod-mod))
+    tie.close (tie.spec (λ c. search needs) (λ c. search needs) (λ c. search needs) (λ c. search needs) (λ c. search needs) (λ c. search needs)
+    (λ c. search needs) (λ c. search needs) (λ c. simp add-mod-mod))

@@ -17,7 +17,7 @@ abbrev μ-loop : tie.MeasureT-loop
 
 pub with-u8-spec : {M : Type 1} → statement M
 with-u8-spec =
-    tie.close
-    (tie.spec Inv-loop μ-loop (λ c κs. tt) (λ c. record { within = zero-le; rest = refl }) (λ c. omega arith) (λ c κs. tt) (λ c κs. tt) (λ c. omega arith) (λ c. omega arith)
+    tie.close (tie.spec Inv-loop μ-loop (λ c κs. tt) (λ c. record { within = zero-le; rest = refl }) (λ c. omega arith) (λ c κs. tt) (λ c κs. tt)
+    (λ c. omega arith) (λ c. omega arith)
     (λ c. turn (c .before .before .before .before .loop .inv) (c .before .before .before .loop-test .taken) (c .before .wide-u8 .ensures) (c .with-number2 .ensures))
     (λ c. whole _ (c .before .loop .inv) (c .loop-test .left) (c .before .before .with-number .ensures)))

@@ -18,11 +18,8 @@ abbrev μ-loop : tie.MeasureT-loop
 
 pub front-u64-spec : {M : Type 1} → statement M
 front-u64-spec =
-    tie.close
-    (tie.spec Inv-loop μ-loop (λ c κs. c .before .pre .1) (λ c. (zero-le, turned-none _ _)) (λ c. omega arith) (λ c. omega arith) (λ c. omega arith)
-    (λ c. omega (arith, c .before .loop .inv .1 .long)) (λ c. omega arith) (λ c. omega arith)
+    tie.close (tie.spec Inv-loop μ-loop (λ c κs. c .before .pre .1) (λ c. (zero-le, turned-none _ _)) (λ c. omega arith) (λ c. omega arith)
+    (λ c. omega arith) (λ c. omega (arith, c .before .loop .inv .1 .long)) (λ c. omega arith) (λ c. omega arith)
     (λ c. (omega arith, turn (c .before .loop .inv .1) (omega (arith, c .before .loop .inv .1 .long)) refl))
     (λ c. sym (length-take-le _ _ (omega (arith, c .before .before .loop .inv .1 .long))))
-    (λ c. let ended = c .before .before in let begun = ended .before in
-    filled 72340172838076673 (ended .loop .inv .1) (omega (arith, begun .lent-length .ensures .0)) (ended .loop .inv .0)
-    (c .before .loop-test .left) (begun .lent-length .ensures .1)))
+    (λ c. let ended = c .before .before in let begun = ended .before in filled 72340172838076673 (ended .loop .inv .1) (omega (arith, begun .lent-length .ensures .0)) (ended .loop .inv .0) (c .before .loop-test .left) (begun .lent-length .ensures .1)))

@@ -9,6 +9,5 @@ use Rattle.check_replay_lent.proofs.sums.with_answer.Tie as tie
 
 pub with-answer-spec : {M : Type 1} → statement M
 with-answer-spec =
-    tie.close
-    (tie.spec (λ c. search needs) (λ c κs. search needs) (λ c. search needs) (λ c κs. search needs)
+    tie.close (tie.spec (λ c. search needs) (λ c κs. search needs) (λ c. search needs) (λ c κs. search needs)
     (λ c. c .with-u64 .ensures ∙ ap (withBuffer _) (c .before .before .before .put-answer .ensures .0 ∙ append-nil _)))

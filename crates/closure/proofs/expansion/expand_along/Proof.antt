@@ -110,7 +110,6 @@ returns-2 c =
 
 pub expand-along-spec : {M : Type 1} → statement M
 expand-along-spec =
-    tie.close
-    (tie.spec Inv-loop μ-loop (λ c κs. search needs) seed-slots-requires loop-holds take-slot-requires (λ c κs. search needs) (λ c κs. search needs) (λ c. search needs) (λ c κs. search needs)
-    (λ c κs. search needs) same-length (λ c. search needs) returns loop-less loop-again (λ c. omega (arith, c .before .loop .inv .lies .wide, asks (seeds (c .before)) .pre .1 .wide)) same-length-4
-    returns-2)
+    tie.close (tie.spec Inv-loop μ-loop (λ c κs. search needs) seed-slots-requires loop-holds take-slot-requires (λ c κs. search needs)
+    (λ c κs. search needs) (λ c. search needs) (λ c κs. search needs) (λ c κs. search needs) same-length (λ c. search needs) returns loop-less
+    loop-again (λ c. omega (arith, c .before .loop .inv .lies .wide, asks (seeds (c .before)) .pre .1 .wide)) same-length-4 returns-2)

@@ -11,9 +11,6 @@ use borrow.Author.Needs.{needs}
 use Rattle.closure.proofs.expansion.take_slot.Statement.{statement}
 use Rattle.closure.proofs.expansion.take_slot.Tie as tie
 
-sub-at : tie.Need-sub-at
-sub-at c = search needs
-
 mul-d : tie.Need-mul-d
 mul-d c =
     let start = c .before .before .before .before .before .before in
@@ -47,9 +44,6 @@ follow-edges-requires c κs =
       popped-lain (asked .2) (asked .1),
     )
 
-same-length : tie.Need-same-length
-same-length c = search needs
-
 same-length-2 : tie.Need-same-length-2
 same-length-2 c =
     let follow-edges = c .before .before .before .before in
@@ -64,15 +58,5 @@ returns c =
 
 pub take-slot-spec : {M : Type 1} → statement M
 take-slot-spec =
-    tie.close
-    (tie.spec
-    sub-at
-    mul-d
-    slice-read-d
-    cast-d
-    mul-stack
-    slice-write-stack
-    follow-edges-requires
-    same-length
-    same-length-2
-    returns)
+    tie.close (tie.spec (λ c. search needs) mul-d slice-read-d cast-d mul-stack slice-write-stack follow-edges-requires (λ c. search needs)
+    same-length-2 returns)

@@ -75,6 +75,6 @@ returns-3 c = record {
 
 pub track-spec : {M : Type 1} → statement M
 track-spec =
-    tie.close
-    (tie.spec (λ c κs. search needs) (λ c κs. limited (c .before .before .before .before .before .pre .0) .local-slots) (λ c. search needs) returns (λ c κs. search needs) (λ c. search needs)
-    (λ c. search needs) (λ c. search needs) returns-2 list-slots-requires (λ c κs. search needs) (λ c. search needs) (λ c. search needs) (λ c. search needs) returns-3)
+    tie.close (tie.spec (λ c κs. search needs) (λ c κs. limited (c .before .before .before .before .before .pre .0) .local-slots) (λ c. search needs)
+    returns (λ c κs. search needs) (λ c. search needs) (λ c. search needs) (λ c. search needs) returns-2 list-slots-requires (λ c κs. search needs)
+    (λ c. search needs) (λ c. search needs) (λ c. search needs) returns-3)

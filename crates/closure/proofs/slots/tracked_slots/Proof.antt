@@ -31,5 +31,5 @@ returns c =
 
 pub tracked-slots-spec : {M : Type 1} → statement M
 tracked-slots-spec =
-    tie.close
-    (tie.spec (λ c. search needs) (λ c. sym (length-take-le _ (start c .args .marks .now) (start c .pre .1))) track-requires (λ c. search needs) (λ c. search needs) (λ c. search needs) returns)
+    tie.close (tie.spec (λ c. search needs) (λ c. sym (length-take-le _ (start c .args .marks .now) (start c .pre .1))) track-requires
+    (λ c. search needs) (λ c. search needs) (λ c. search needs) returns)

@@ -27,5 +27,5 @@ returns-2 c =
 
 pub charge-flow-spec : {M : Type 1} → statement M
 charge-flow-spec =
-    tie.close
-    (tie.spec (λ c. search needs) (λ c κs. search needs) (λ c κs. search needs) (λ c. search needs) returns (λ c κs. search needs) (λ c κs. search needs) returns-2)
+    tie.close (tie.spec (λ c. search needs) (λ c κs. search needs) (λ c κs. search needs) (λ c. search needs) returns (λ c κs. search needs)
+    (λ c κs. search needs) returns-2)

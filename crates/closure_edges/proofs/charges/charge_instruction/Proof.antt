@@ -28,5 +28,5 @@ returns-2 c =
 
 pub charge-instruction-spec : {M : Type 1} → statement M
 charge-instruction-spec =
-    tie.close
-    (tie.spec (λ c κs. search needs) (λ c κs. search needs) (λ c κs. search needs) (λ c. search needs) returns (λ c κs. search needs) (λ c κs. search needs) returns-2)
+    tie.close (tie.spec (λ c κs. search needs) (λ c κs. search needs) (λ c κs. search needs) (λ c. search needs) returns (λ c κs. search needs)
+    (λ c κs. search needs) returns-2)

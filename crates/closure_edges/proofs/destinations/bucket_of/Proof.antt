@@ -10,12 +10,9 @@ returns : tie.Need-returns
 unfolding bucket bucketIf
 returns c = (rw (lt-ltb _ _ (c .if1 .taken)), omega arith)
 
-add-result : tie.Need-add-result
-add-result c = omega arith
-
 returns-2 : tie.Need-returns-2
 unfolding bucket bucketIf
 returns-2 c = (rw (le-ltb _ _ (c .if1 .left)), omega arith)
 
 pub bucket-of-spec : {M : Type 1} → statement M
-bucket-of-spec = tie.close (tie.spec returns add-result returns-2)
+bucket-of-spec = tie.close (tie.spec returns (λ c. omega arith) returns-2)

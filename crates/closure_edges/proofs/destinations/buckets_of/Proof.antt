@@ -6,30 +6,6 @@ use Rattle.closure_edges.proofs.Ordering.{in-order, some-buckets, no-bu
 use Rattle.closure_edges.proofs.destinations.buckets_of.Statement.{statement}
 use Rattle.closure_edges.proofs.destinations.buckets_of.Tie as tie
 
-cast-a : tie.Need-cast-a
-cast-a c = search needs
-
-dependence-of-requires : tie.Need-dependence-of-requires
-dependence-of-requires c κs = search needs
-
-cast-reached-end : tie.Need-cast-reached-end
-cast-reached-end c = search needs
-
-reached-end-requires : tie.Need-reached-end-requires
-reached-end-requires c κs = search needs
-
-bucket-of-requires : tie.Need-bucket-of-requires
-bucket-of-requires c κs = search needs
-
-sub-bucket-of : tie.Need-sub-bucket-of
-sub-bucket-of c = search needs
-
-bucket-of-requires-2 : tie.Need-bucket-of-requires-2
-bucket-of-requires-2 c κs = search needs
-
-add-t10 : tie.Need-add-t10
-add-t10 c = search needs
-
 sub-t11 : tie.Need-sub-t11
 sub-t11 c =
     let reached-end = c .before .before .before in
@@ -51,16 +27,5 @@ returns-2 c = (no-buckets _ _ (c .before .before .before .dependence-of .ensures
 
 pub buckets-of-spec : {M : Type 1} → statement M
 buckets-of-spec =
-    tie.close
-    (tie.spec
-    cast-a
-    dependence-of-requires
-    cast-reached-end
-    reached-end-requires
-    bucket-of-requires
-    sub-bucket-of
-    bucket-of-requires-2
-    add-t10
-    sub-t11
-    returns
-    returns-2)
+    tie.close (tie.spec (λ c. search needs) (λ c κs. search needs) (λ c. search needs) (λ c κs. search needs) (λ c κs. search needs)
+    (λ c. search needs) (λ c κs. search needs) (λ c. search needs) sub-t11 returns returns-2)

@@ -8,9 +8,6 @@ use borrow.Author.Needs.{needs}
 use Rattle.closure_edges.proofs.edges.copy_work.Statement.{statement}
 use Rattle.closure_edges.proofs.edges.copy_work.Tie as tie
 
-cast-result : tie.Need-cast-result
-cast-result c = search needs
-
 returns : tie.Need-returns
 unfolding copyWork depends select
 returns c = rw (c .before .if1 .taken)
@@ -20,4 +17,4 @@ unfolding copyWork
 returns-2 c = sym (no-copy-work (c .before .args .inst) (c .if1 .left))
 
 pub copy-work-spec : {M : Type 1} → statement M
-copy-work-spec = tie.close (tie.spec cast-result returns returns-2)
+copy-work-spec = tie.close (tie.spec (λ c. search needs) returns returns-2)

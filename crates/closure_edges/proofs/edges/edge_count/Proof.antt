@@ -5,18 +5,6 @@ use borrow.Author.Needs.{needs}
 use Rattle.closure_edges.proofs.edges.edge_count.Statement.{statement}
 use Rattle.closure_edges.proofs.edges.edge_count.Tie as tie
 
-dependence-of-requires : tie.Need-dependence-of-requires
-dependence-of-requires c κs = search needs
-
-row-length-requires : tie.Need-row-length-requires
-row-length-requires c κs = search needs
-
-row-length-requires-2 : tie.Need-row-length-requires-2
-row-length-requires-2 c κs = search needs
-
-add-result : tie.Need-add-result
-add-result c = search needs
-
 returns : tie.Need-returns
 returns c =
     counted-fold (c .before .before .before .before .args .inst) _ (c .before .before .before .dependence-of .result)
@@ -28,12 +16,4 @@ returns-2 c =
     (c .before .row-length .ensures .0)
 
 pub edge-count-spec : {M : Type 1} → statement M
-edge-count-spec =
-    tie.close
-    (tie.spec
-    dependence-of-requires
-    row-length-requires
-    row-length-requires-2
-    add-result
-    returns
-    returns-2)
+edge-count-spec = tie.close (tie.spec (λ c κs. search needs) (λ c κs. search needs) (λ c κs. search needs) (λ c. search needs) returns returns-2)

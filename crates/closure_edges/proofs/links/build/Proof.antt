@@ -17,14 +17,8 @@ Inv-loop sheet sizes heads₀ nexts₀ pcs₀ used₀ pc₀ heads nexts pcs used
 abbrev μ-loop : tie.MeasureT-loop
 μ-loop sheet sizes heads₀ nexts₀ pcs₀ used₀ pc₀ heads nexts pcs used pc = pc
 
-clear-u16-requires : tie.Need-clear-u16-requires Inv-loop μ-loop
-clear-u16-requires c κs = search needs
-
 loop-holds : tie.Need-loop-holds Inv-loop μ-loop
 loop-holds c = building-none _ _ _ _ _
-
-sub-at : tie.Need-sub-at Inv-loop μ-loop
-sub-at c = omega arith
 
 instruction-at-requires : tie.Need-instruction-at-requires Inv-loop μ-loop
 instruction-at-requires c κs =
@@ -35,9 +29,6 @@ buckets-of-requires : tie.Need-buckets-of-requires Inv-loop μ-loop
 buckets-of-requires c κs =
     let start = c .before .before .before .before .before .before .before .before .before .before .before in
     limited (start .pre .0) .local-slots
-
-sub-if1 : tie.Need-sub-if1 Inv-loop μ-loop
-sub-if1 c = omega arith
 
 same-length : tie.Need-same-length Inv-loop μ-loop
 same-length c =
@@ -78,9 +69,6 @@ link-each-requires c κs =
       omega (arith, b .inside, limited (asked .0) .code-count),
     )
 
-loop-less : tie.Need-loop-less Inv-loop μ-loop
-loop-less c = omega arith
-
 loop-again : tie.Need-loop-again Inv-loop μ-loop
 loop-again c =
     let nexts = c .before .before .before in
@@ -113,24 +101,6 @@ returns-2 c =
 
 pub build-spec : {M : Type 1} → statement M
 build-spec =
-    tie.close
-    (tie.spec
-    Inv-loop
-    μ-loop
-    clear-u16-requires
-    loop-holds
-    sub-at
-    instruction-at-requires
-    buckets-of-requires
-    sub-if1
-    same-length
-    same-length-2
-    same-length-3
-    returns
-    link-each-requires
-    loop-less
-    loop-again
-    same-length-4
-    same-length-5
-    same-length-6
-    returns-2)
+    tie.close (tie.spec Inv-loop μ-loop (λ c κs. search needs) loop-holds (λ c. omega arith) instruction-at-requires buckets-of-requires
+    (λ c. omega arith) same-length same-length-2 same-length-3 returns link-each-requires (λ c. omega arith) loop-again same-length-4 same-length-5
+    same-length-6 returns-2)

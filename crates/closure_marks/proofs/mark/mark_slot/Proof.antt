@@ -6,15 +6,6 @@ use borrow.Author.Needs.{needs}
 use Rattle.closure_marks.proofs.mark.mark_slot.Statement.{statement}
 use Rattle.closure_marks.proofs.mark.mark_slot.Tie as tie
 
-slice-read-if2 : tie.Need-slice-read-if2
-slice-read-if2 c = search needs
-
-slice-write-marks : tie.Need-slice-write-marks
-slice-write-marks c = search needs
-
-cast-stack : tie.Need-cast-stack
-cast-stack c = search needs
-
 mul-stack : tie.Need-mul-stack
 mul-stack c = omega (arith, push-room (c .before .before .before .args .slot) _ _ _ (c .before .before .if1 .taken) (c .if2 .taken) (c .before .before .before .pre))
 
@@ -25,12 +16,6 @@ slice-write-stack c =
 add-result : tie.Need-add-result
 add-result c =
     omega (arith, push-room (c .before .before .before .args .slot) _ _ _ (c .before .before .if1 .taken) (c .if2 .taken) (c .before .before .before .pre))
-
-same-length : tie.Need-same-length
-same-length c = search needs
-
-same-length-2 : tie.Need-same-length-2
-same-length-2 c = search needs
 
 returns : tie.Need-returns
 returns c = mark-new (c .before .before .before .args .slot) _ _ _ (c .before .before .if1 .taken) (c .if2 .taken)
@@ -43,16 +28,5 @@ returns-3 c = mark-past (c .before .args .slot) _ _ _ (c .if1 .left)
 
 pub mark-slot-spec : {M : Type 1} → statement M
 mark-slot-spec =
-    tie.close
-    (tie.spec
-    slice-read-if2
-    slice-write-marks
-    cast-stack
-    mul-stack
-    slice-write-stack
-    add-result
-    same-length
-    same-length-2
-    returns
-    returns-2
-    returns-3)
+    tie.close (tie.spec (λ c. search needs) (λ c. search needs) (λ c. search needs) mul-stack slice-write-stack add-result (λ c. search needs)
+    (λ c. search needs) returns returns-2 returns-3)

@@ -8,38 +8,17 @@ use Rattle.closure_marks.proofs.mark.mark_slots.Tie as tie
 returns : tie.Need-returns
 returns c = none-marked (c .before .before .before .before .args .candidates) (c .if1 .taken)
 
-array-read-mark-slot : tie.Need-array-read-mark-slot
-array-read-mark-slot c = search needs
-
-mark-slot-requires : tie.Need-mark-slot-requires
-mark-slot-requires c κs = search needs
-
-same-length : tie.Need-same-length
-same-length c = search needs
-
-same-length-2 : tie.Need-same-length-2
-same-length-2 c = search needs
-
 returns-2 : tie.Need-returns-2
 returns-2 c =
     let mark-slot = c .before .before .before .before .before in
     let start = mark-slot .before .before .before .before .before .before .before in
     one-marked (start .args .candidates) (mark-slot .mark-slot .ensures) (c .if2 .taken)
 
-array-read-mark-slot-2 : tie.Need-array-read-mark-slot-2
-array-read-mark-slot-2 c = search needs
-
 mark-slot-requires-2 : tie.Need-mark-slot-requires-2
 mark-slot-requires-2 c κs =
     let mark-slot = c .before .before .before .before .before .before .before in
     let start = mark-slot .before .before .before .before .before .before .before in
     lain-on (mark-slot .mark-slot .ensures) (start .pre)
-
-same-length-3 : tie.Need-same-length-3
-same-length-3 c = search needs
-
-same-length-4 : tie.Need-same-length-4
-same-length-4 c = search needs
 
 returns-3 : tie.Need-returns-3
 returns-3 c =
@@ -52,16 +31,5 @@ returns-3 c =
 
 pub mark-slots-spec : {M : Type 1} → statement M
 mark-slots-spec =
-    tie.close
-    (tie.spec
-    returns
-    array-read-mark-slot
-    mark-slot-requires
-    same-length
-    same-length-2
-    returns-2
-    array-read-mark-slot-2
-    mark-slot-requires-2
-    same-length-3
-    same-length-4
-    returns-3)
+    tie.close (tie.spec returns (λ c. search needs) (λ c κs. search needs) (λ c. search needs) (λ c. search needs) returns-2 (λ c. search needs)
+    mark-slot-requires-2 (λ c. search needs) (λ c. search needs) returns-3)

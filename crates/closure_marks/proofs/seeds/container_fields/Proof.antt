@@ -67,5 +67,4 @@ returns-6 c = rw (
 )
 
 pub container-fields-spec : {M : Type 1} → statement M
-container-fields-spec =
-    tie.close (tie.spec returns returns-2 returns-3 returns-4 returns-5 returns-6)
+container-fields-spec = tie.close (tie.spec returns returns-2 returns-3 returns-4 returns-5 returns-6)

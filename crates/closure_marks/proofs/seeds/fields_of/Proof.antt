@@ -8,21 +8,6 @@ use Rattle.closure_marks.proofs.seeds.fields_of.Tie as tie
 enum-told : tie.Need-enum-told
 enum-told c = search needs
 
-constant-fields-requires : tie.Need-constant-fields-requires
-constant-fields-requires c κs = search needs
-
-enum-told-2 : tie.Need-enum-told-2
-enum-told-2 c = search needs
-
-index-fields-requires : tie.Need-index-fields-requires
-index-fields-requires c κs = search needs
-
-enum-told-3 : tie.Need-enum-told-3
-enum-told-3 c = search needs
-
-container-fields-requires : tie.Need-container-fields-requires
-container-fields-requires c κs = search needs
-
 returns : tie.Need-returns
 returns c = for-kind _ (c .constant-fields .ensures) (c .before .enum-told .given .1)
 
@@ -34,14 +19,5 @@ returns-3 c = for-kind _ (c .container-fields .ensures) (c .before .enum-told3 .
 
 pub fields-of-spec : {M : Type 1} → statement M
 fields-of-spec =
-    tie.close
-    (tie.spec
-    enum-told
-    constant-fields-requires
-    enum-told-2
-    index-fields-requires
-    enum-told-3
-    container-fields-requires
-    returns
-    returns-2
-    returns-3)
+    tie.close (tie.spec enum-told (λ c κs. search needs) (λ c. search needs) (λ c κs. search needs) (λ c. search needs) (λ c κs. search needs) returns
+    returns-2 returns-3)

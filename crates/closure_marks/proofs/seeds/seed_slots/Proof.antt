@@ -24,9 +24,6 @@ loop-holds c = (omega arith, seeds-none _ _ _ _ _)
 instruction-at-requires : tie.Need-instruction-at-requires Inv-loop μ-loop
 instruction-at-requires c κs = code-inside (c .before .before .before .before .before .pre .0) _ (c .loop-test .taken)
 
-seed-fields-requires : tie.Need-seed-fields-requires Inv-loop μ-loop
-seed-fields-requires c κs = search needs
-
 mark-slots-requires : tie.Need-mark-slots-requires Inv-loop μ-loop
 mark-slots-requires c κs =
     let at-loop = c .before .before .before .before .before in
@@ -63,17 +60,5 @@ returns c =
 
 pub seed-slots-spec : {M : Type 1} → statement M
 seed-slots-spec =
-    tie.close
-    (tie.spec
-    Inv-loop
-    μ-loop
-    loop-holds
-    instruction-at-requires
-    seed-fields-requires
-    mark-slots-requires
-    add-pc
-    loop-less
-    loop-again
-    same-length
-    same-length-2
-    returns)
+    tie.close (tie.spec Inv-loop μ-loop loop-holds instruction-at-requires (λ c κs. search needs) mark-slots-requires add-pc loop-less loop-again
+    same-length same-length-2 returns)

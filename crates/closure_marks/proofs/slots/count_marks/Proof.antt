@@ -17,21 +17,6 @@ abbrev μ-loop : tie.MeasureT-loop
 loop-holds : tie.Need-loop-holds Inv-loop μ-loop
 loop-holds c = counting-none _
 
-shared-slice-read-one-if-set : tie.Need-shared-slice-read-one-if-set Inv-loop μ-loop
-shared-slice-read-one-if-set c = omega arith
-
-one-if-set-requires : tie.Need-one-if-set-requires Inv-loop μ-loop
-one-if-set-requires c κs = search needs
-
-add-count : tie.Need-add-count Inv-loop μ-loop
-add-count c = omega arith
-
-add-i : tie.Need-add-i Inv-loop μ-loop
-add-i c = omega arith
-
-loop-less : tie.Need-loop-less Inv-loop μ-loop
-loop-less c = omega arith
-
 loop-again : tie.Need-loop-again Inv-loop μ-loop
 loop-again c = counting-more (c .before .before .before .loop .inv) (c .before .before .loop-test .taken) (c .one-if-set .ensures .0) (c .one-if-set .ensures .1)
 
@@ -40,15 +25,5 @@ returns c = counting-all (c .before .loop .inv) (c .loop-test .left)
 
 pub count-marks-spec : {M : Type 1} → statement M
 count-marks-spec =
-    tie.close
-    (tie.spec
-    Inv-loop
-    μ-loop
-    loop-holds
-    shared-slice-read-one-if-set
-    one-if-set-requires
-    add-count
-    add-i
-    loop-less
-    loop-again
-    returns)
+    tie.close (tie.spec Inv-loop μ-loop loop-holds (λ c. omega arith) (λ c κs. search needs) (λ c. omega arith) (λ c. omega arith) (λ c. omega arith)
+    loop-again returns)

@@ -7,18 +7,12 @@ use borrow.Author.Needs.{needs}
 use Rattle.closure_marks.proofs.slots.list_slots.Statement.{statement}
 use Rattle.closure_marks.proofs.slots.list_slots.Tie as tie
 
-count-marks-requires : tie.Need-count-marks-requires
-count-marks-requires c κs = search needs
-
 returns : tie.Need-returns
 returns c = (c .before .count-marks .ensures, fits-not _ _ (omega (arith, c .before .count-marks .ensures, c .if1 .taken)))
 
 write-marked-slots-requires : tie.Need-write-marked-slots-requires
 write-marked-slots-requires c κs =
     let many = c .before .before .count-marks .ensures in (c .before .before .before .before .before .pre, omega (arith, many, c .before .if1 .left), many)
-
-same-length : tie.Need-same-length
-same-length c = search needs
 
 returns-2 : tie.Need-returns-2
 returns-2 c =
@@ -28,5 +22,4 @@ returns-2 c =
     (count-marks .count-marks .ensures, write-marked-slots .write-marked-slots .ensures ∙ marks-fit _ _ (omega (arith, count-marks .count-marks .ensures, else1 .if1 .left)))
 
 pub list-slots-spec : {M : Type 1} → statement M
-list-slots-spec =
-    tie.close (tie.spec count-marks-requires returns write-marked-slots-requires same-length returns-2)
+list-slots-spec = tie.close (tie.spec (λ c κs. search needs) returns write-marked-slots-requires (λ c. search needs) returns-2)

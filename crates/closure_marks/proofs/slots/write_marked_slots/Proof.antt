@@ -60,15 +60,4 @@ returns c = writing-all (c .before .loop .inv) (omega (arith, c .loop-test .left
 
 pub write-marked-slots-spec : {M : Type 1} → statement M
 write-marked-slots-spec =
-    tie.close
-    (tie.spec
-    Inv-loop
-    μ-loop
-    loop-holds
-    shared-slice-read-write-slot
-    write-slot-requires
-    add-i
-    loop-less
-    loop-again
-    same-length
-    returns)
+    tie.close (tie.spec Inv-loop μ-loop loop-holds shared-slice-read-write-slot write-slot-requires add-i loop-less loop-again same-length returns)

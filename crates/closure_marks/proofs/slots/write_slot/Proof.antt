@@ -12,20 +12,8 @@ returns : tie.Need-returns
 unfolding listUnless storedUnless
 returns c = (rw (eq-eqb _ 0 (c .if1 .taken)) (omega arith), rw (eq-eqb _ 0 (c .if1 .taken)))
 
-cast-slots : tie.Need-cast-slots
-cast-slots c = search needs
-
-mul-slots : tie.Need-mul-slots
-mul-slots c = search needs
-
 slice-write-slots : tie.Need-slice-write-slots
 slice-write-slots c = c .before .pre .2 (ne-eqb _ 0 (c .if1 .left))
-
-add-result : tie.Need-add-result
-add-result c = search needs
-
-same-length : tie.Need-same-length
-same-length c = search needs
 
 returns-2 : tie.Need-returns-2
 unfolding listUnless storedUnless
@@ -33,5 +21,4 @@ returns-2 c = (rw (ne-eqb _ 0 (c .if1 .left)), rw (ne-eqb _ 0 (c .if1 .left)))
 
 pub write-slot-spec : {M : Type 1} → statement M
 write-slot-spec =
-    tie.close
-    (tie.spec returns cast-slots mul-slots slice-write-slots add-result same-length returns-2)
+    tie.close (tie.spec returns (λ c. search needs) (λ c. search needs) slice-write-slots (λ c. search needs) (λ c. search needs) returns-2)

@@ -10,36 +10,16 @@ use Rattle.export_loader.proofs.lowest.lowest_layout.Tie as tie
 returns : tie.Need-returns
 returns c = no-entry _ _ _ (c .if1 .taken)
 
-check-sheet-requires : tie.Need-check-sheet-requires
-check-sheet-requires c κs = search needs
-
-enum-known-checked : tie.Need-enum-known-checked
-enum-known-checked c = search needs
-
-enum-known-checked-2 : tie.Need-enum-known-checked-2
-enum-known-checked-2 c = search needs
-
 put-lowest-requires : tie.Need-put-lowest-requires
 put-lowest-requires c κs = (accepted _ (sym (c .before .before .checked2 .given .1) ∙ c .before .before .before .before .check-sheet .ensures), c .before .before .before .before .before .if1 .left)
 
 returns-2 : tie.Need-returns-2
 returns-2 c = sheet-refused _ _ _ (c .before .before .before .before .if1 .left) (c .before .before .before .check-sheet .ensures) (c .before .checked .given .1)
 
-same-length : tie.Need-same-length
-same-length c = search needs
-
 returns-3 : tie.Need-returns-3
 returns-3 c = searched _ _ _ (c .before .before .before .before .before .before .before .before .if1 .left) (c .before .before .before .before .before .before .before .check-sheet .ensures) (c .before .before .before .before .before .checked2 .given .1) (c .before .before .put-lowest .ensures)
 
 pub lowest-layout-spec : {M : Type 1} → statement M
 lowest-layout-spec =
-    tie.close
-    (tie.spec
-    returns
-    check-sheet-requires
-    enum-known-checked
-    enum-known-checked-2
-    put-lowest-requires
-    returns-2
-    same-length
+    tie.close (tie.spec returns (λ c κs. search needs) (λ c. search needs) (λ c. search needs) put-lowest-requires returns-2 (λ c. search needs)
     returns-3)

@@ -9,9 +9,6 @@ use borrow.Author.Needs.{needs}
 use Rattle.export_loader.proofs.room.put_four.Statement.{statement}
 use Rattle.export_loader.proofs.room.put_four.Tie as tie
 
-slice-write-out : tie.Need-slice-write-out
-slice-write-out c = search needs
-
 slice-write-out-2 : tie.Need-slice-write-out-2
 slice-write-out-2 c = simp length-set (omega arith)
 
@@ -29,12 +26,4 @@ unfolding inFront
 returns c = sets-eq (c .args .n ∷ c .args .constant ∷ c .args .index ∷ c .args .container ∷ []) (c .args .out .now) 0 (c .pre)
 
 pub put-four-spec : {M : Type 1} → statement M
-put-four-spec =
-    tie.close
-    (tie.spec
-    slice-write-out
-    slice-write-out-2
-    slice-write-out-3
-    slice-write-out-4
-    same-length
-    returns)
+put-four-spec = tie.close (tie.spec (λ c. search needs) slice-write-out-2 slice-write-out-3 slice-write-out-4 same-length returns)

@@ -12,44 +12,16 @@ use Rattle.export_loader.proofs.room.room_of.Tie as tie
 returns : tie.Need-returns
 returns c = out-too-short _ _ _ _ (c .if1 .taken)
 
-admit-requires : tie.Need-admit-requires
-admit-requires c κs = search needs
-
-enum-known-admission : tie.Need-enum-known-admission
-enum-known-admission c = search needs
-
-enum-known-admission-2 : tie.Need-enum-known-admission-2
-enum-known-admission-2 c = search needs
-
 put-room-requires : tie.Need-put-room-requires
 put-room-requires c κs = let t = admitted-lengths _ _ _ (c .before .before .before .before .before .before .admit .ensures) (c .before .before .before .before .admission2 .given .1) in let n = counted (t .0 .are) .local-slots in (measured (t .0), omega (arith, n, t .1), omega (arith, n, t .2), c .before .before .before .before .before .before .before .if1 .left)
 
 returns-2 : tie.Need-returns-2
 returns-2 c = let start = c .before .before .before .before .before .before .before .before .before in room-refused (start .args .sheet .now) (start .args .marks .now) (start .args .stack .now) (start .args .out .now) (c .before .before .before .before .if1 .left) (c .before .before .before .admit .ensures) (c .before .admission .given .1)
 
-same-length : tie.Need-same-length
-same-length c = search needs
-
-same-length-2 : tie.Need-same-length-2
-same-length-2 c = search needs
-
-same-length-3 : tie.Need-same-length-3
-same-length-3 c = search needs
-
 returns-3 : tie.Need-returns-3
 returns-3 c = let start = c .before .before .before .before .before .before .before .before .before .before .before .before .before .before .before .before .before .before .before in let e = c .before .before .before .before .before .before .put-room .ensures in room-told (start .args .sheet .now) (start .args .marks .now) (start .args .stack .now) (start .args .out .now) (c .before .before .before .before .before .before .before .before .before .before .before .before .before .before .if1 .left) (c .before .before .before .before .before .before .before .before .before .before .before .before .before .admit .ensures) (c .before .before .before .before .before .before .before .before .before .before .before .admission2 .given .1) (e .0) (e .1) (e .2)
 
 pub room-of-spec : {M : Type 1} → statement M
 room-of-spec =
-    tie.close
-    (tie.spec
-    returns
-    admit-requires
-    enum-known-admission
-    enum-known-admission-2
-    put-room-requires
-    returns-2
-    same-length
-    same-length-2
-    same-length-3
-    returns-3)
+    tie.close (tie.spec returns (λ c κs. search needs) (λ c. search needs) (λ c. search needs) put-room-requires returns-2 (λ c. search needs)
+    (λ c. search needs) (λ c. search needs) returns-3)

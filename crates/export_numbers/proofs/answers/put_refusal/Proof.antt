@@ -5,15 +5,9 @@ use borrow.Author.Needs.{needs}
 use Rattle.export_numbers.proofs.answers.put_refusal.Statement.{statement}
 use Rattle.export_numbers.proofs.answers.put_refusal.Tie as tie
 
-put-twelve-requires : tie.Need-put-twelve-requires
-put-twelve-requires c κs = search needs
-
-same-length : tie.Need-same-length
-same-length c = search needs
-
 returns : tie.Need-returns
 unfolding nothing
 returns c = (c .before .before .put-twelve .ensures, refl)
 
 pub put-refusal-spec : {M : Type 1} → statement M
-put-refusal-spec = tie.close (tie.spec put-twelve-requires same-length returns)
+put-refusal-spec = tie.close (tie.spec (λ c κs. search needs) (λ c. search needs) returns)

@@ -7,9 +7,6 @@ use borrow.Author.Needs.{needs}
 use Rattle.export_numbers.proofs.answers.put_twelve.Statement.{statement}
 use Rattle.export_numbers.proofs.answers.put_twelve.Tie as tie
 
-slice-write-out : tie.Need-slice-write-out
-slice-write-out c = search needs
-
 slice-write-out-2 : tie.Need-slice-write-out-2
 slice-write-out-2 c = simp length-set (omega arith)
 
@@ -52,19 +49,5 @@ returns c = sets-eq (entries (c .args .number) (c .args .constant) (c .args .ind
 
 pub put-twelve-spec : {M : Type 1} → statement M
 put-twelve-spec =
-    tie.close
-    (tie.spec
-    slice-write-out
-    slice-write-out-2
-    slice-write-out-3
-    slice-write-out-4
-    slice-write-out-5
-    slice-write-out-6
-    slice-write-out-7
-    slice-write-out-8
-    slice-write-out-9
-    slice-write-out-10
-    slice-write-out-11
-    slice-write-out-12
-    same-length
-    returns)
+    tie.close (tie.spec (λ c. search needs) slice-write-out-2 slice-write-out-3 slice-write-out-4 slice-write-out-5 slice-write-out-6
+    slice-write-out-7 slice-write-out-8 slice-write-out-9 slice-write-out-10 slice-write-out-11 slice-write-out-12 same-length returns)

@@ -14,26 +14,8 @@ returns : tie.Need-returns
 unfolding lookedUp
 returns c = rw (lt-leb 2 (length (c .before .args .out .now)) (omega arith))
 
-enum-known-fact : tie.Need-enum-known-fact
-enum-known-fact c = search needs
-
-cast-out : tie.Need-cast-out
-cast-out c = search needs
-
-slice-write-out : tie.Need-slice-write-out
-slice-write-out c = search needs
-
-slice-write-out-2 : tie.Need-slice-write-out-2
-slice-write-out-2 c = search needs
-
 enum-told : tie.Need-enum-told
 enum-told c = search needs
-
-enum-told-2 : tie.Need-enum-told-2
-enum-told-2 c = search needs
-
-same-length : tie.Need-same-length
-same-length c = search needs
 
 returns-2 : tie.Need-returns-2
 unfolding interfaceCompute
@@ -49,16 +31,5 @@ returns-4 c = rw (c .enum-told2 .given .1, le-leb 2 (length (c .before .before .
 
 pub put-slot-fact-spec : {M : Type 1} → statement M
 put-slot-fact-spec =
-    tie.close
-    (tie.spec
-    returns
-    enum-known-fact
-    cast-out
-    slice-write-out
-    slice-write-out-2
-    enum-told
-    enum-told-2
-    same-length
-    returns-2
-    returns-3
-    returns-4)
+    tie.close (tie.spec returns (λ c. search needs) (λ c. search needs) (λ c. search needs) (λ c. search needs) enum-told (λ c. search needs)
+    (λ c. search needs) returns-2 returns-3 returns-4)

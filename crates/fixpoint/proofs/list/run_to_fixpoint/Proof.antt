@@ -168,9 +168,9 @@ returns c =
 
 pub run-to-fixpoint-spec : {M : Type 1} → statement M
 run-to-fixpoint-spec =
-    tie.close (tie.spec Inv-loop μ-loop join-into-requires enter-requires loop-holds take-requires (λ c. omega (arith, c .before .before .before .before .before .loop-test .taken))
-    (λ c. enough (c .before .before)) add-pops step-requires (λ c. omega arith) enter-requires-2 (λ c. omega arith) enter-requires-3 loop-less loop-again
-    (λ c κs. tt) (λ c κs. tt) (λ c κs. tt) (λ c κs. tt)
+    tie.close (tie.spec Inv-loop μ-loop join-into-requires enter-requires loop-holds take-requires
+    (λ c. omega (arith, c .before .before .before .before .before .loop-test .taken)) (λ c. enough (c .before .before)) add-pops step-requires
+    (λ c. omega arith) enter-requires-2 (λ c. omega arith) enter-requires-3 loop-less loop-again (λ c κs. tt) (λ c κs. tt) (λ c κs. tt) (λ c κs. tt)
     (λ c. at-finish c .finish .kept .1 .0 ∙ turn-lengths (at-end c .loop .inv) (at-start (at-end c) .pre .1) .present)
     (λ c. at-finish c .finish .kept .1 .1 .0 ∙ turn-lengths (at-end c .loop .inv) (at-start (at-end c) .pre .1) .kinds)
     (λ c. at-finish c .finish .kept .1 .1 .1 .0 ∙ turn-lengths (at-end c .loop .inv) (at-start (at-end c) .pre .1) .values)

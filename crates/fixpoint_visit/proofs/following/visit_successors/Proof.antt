@@ -42,5 +42,6 @@ returns c =
 
 pub visit-successors-spec : {M : Type 1} → statement M
 visit-successors-spec =
-    tie.close (tie.spec (λ c κs. following-inside (c .before .before .before .before .before .before .before .pre)) (λ c κs. following-code (at-start c .pre))
-    join-next-requires join-next-requires-2 (λ c κs. search needs) (λ c. search needs) (λ c. search needs) (λ c. search needs) returns)
+    tie.close (tie.spec (λ c κs. following-inside (c .before .before .before .before .before .before .before .pre))
+    (λ c κs. following-code (at-start c .pre)) join-next-requires join-next-requires-2 (λ c κs. search needs) (λ c. search needs) (λ c. search needs)
+    (λ c. search needs) returns)

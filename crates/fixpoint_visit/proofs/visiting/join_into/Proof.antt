@@ -26,9 +26,10 @@ returns-2 c = let join = c .before .before .before .before in visit-present _ _ 
 
 pub join-into-spec : {M : Type 1} → statement M
 join-into-spec =
-    tie.close (tie.spec (λ c. omega (arith, visiting-end (at-start c .pre))) (λ c. omega (arith, visiting-end (at-start c .pre))) (λ c. search needs) (λ c. omega arith)
-    (λ c. omega arith) (λ c. omega (arith, visiting-end (at-start (c .before .before) .pre))) (λ c κs. search needs) (λ c. omega (arith, visiting-end (at-copy c .pre)))
-    (λ c. omega arith) (λ c. omega arith) (λ c. omega (arith, visiting-end (at-copy c .pre))) (λ c κs. search needs) (λ c. search needs) (λ c. search needs)
-    (λ c. search needs) (λ c. search needs) returns (λ c. omega arith) (λ c. omega arith) (λ c. omega (arith, visiting-end (at-start (c .before .before) .pre)))
+    tie.close (tie.spec (λ c. omega (arith, visiting-end (at-start c .pre))) (λ c. omega (arith, visiting-end (at-start c .pre))) (λ c. search needs)
+    (λ c. omega arith) (λ c. omega arith) (λ c. omega (arith, visiting-end (at-start (c .before .before) .pre))) (λ c κs. search needs)
+    (λ c. omega (arith, visiting-end (at-copy c .pre))) (λ c. omega arith) (λ c. omega arith) (λ c. omega (arith, visiting-end (at-copy c .pre)))
+    (λ c κs. search needs) (λ c. search needs) (λ c. search needs) (λ c. search needs) (λ c. search needs) returns (λ c. omega arith)
+    (λ c. omega arith) (λ c. omega (arith, visiting-end (at-start (c .before .before) .pre)))
     (λ c. omega (arith, visiting-end (at-start (c .before .before .before) .pre))) (λ c. omega arith) (λ c. omega arith)
     (λ c. omega (arith, visiting-end (at-start (c .before .before .before) .pre))) join-row-requires (λ c. search needs) (λ c. search needs) returns-2)

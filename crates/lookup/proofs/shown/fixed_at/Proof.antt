@@ -10,24 +10,12 @@ use Rattle.lookup.proofs.shown.fixed_at.Tie as tie
 enum-told : tie.Need-enum-told
 enum-told c = search needs
 
-enum-known-at : tie.Need-enum-known-at
-enum-known-at c = search needs
-
 shown-requires : tie.Need-shown-requires
 shown-requires c κs =
     let a = c .before .before .before .before .before .before .args in
     let at = c .before .at .given in
     let i = inside-at _ _ _ (at .0 .0) (a .at) (at .1) (c .before .before .before .before .before .before .pre .0) in
     (i .0, i .1, c .before .before .before .before .before .before .pre .1)
-
-enum-known-seen : tie.Need-enum-known-seen
-enum-known-seen c = search needs
-
-enum-told-2 : tie.Need-enum-told-2
-enum-told-2 c = search needs
-
-enum-told-3 : tie.Need-enum-told-3
-enum-told-3 c = search needs
 
 returns : tie.Need-returns
 returns c =
@@ -60,15 +48,5 @@ returns-4 c =
 
 pub fixed-at-spec : {M : Type 1} → statement M
 fixed-at-spec =
-    tie.close
-    (tie.spec
-    enum-told
-    enum-known-at
-    shown-requires
-    enum-known-seen
-    enum-told-2
-    enum-told-3
-    returns
-    returns-2
-    returns-3
-    returns-4)
+    tie.close (tie.spec enum-told (λ c. search needs) shown-requires (λ c. search needs) (λ c. search needs) (λ c. search needs) returns returns-2
+    returns-3 returns-4)

@@ -12,9 +12,6 @@ returns c =
 enum-told : tie.Need-enum-told
 enum-told c = search needs
 
-enum-known-seen : tie.Need-enum-known-seen
-enum-known-seen c = search needs
-
 returns-2 : tie.Need-returns-2
 returns-2 c =
     let a = c .before .before .before .before .before .args in
@@ -26,9 +23,6 @@ returns-3 c =
     let a = c .before .before .before .before .before .before .args in
     let one = c .before .before .before .seen .given in
     other-value (a .kind) (a .value) (a .seen) (c .before .before .before .before .before .if1 .left) (one .0 .0) (one .0 .1 .0) (one .1) (c .before .if2 .left) (c .if3 .taken)
-
-enum-told-2 : tie.Need-enum-told-2
-enum-told-2 c = search needs
 
 returns-4 : tie.Need-returns-4
 returns-4 c =
@@ -47,15 +41,4 @@ returns-6 c =
     still-mixed (a .kind) (a .value) (a .seen) (c .before .before .if1 .left) (c .enum-told2 .given .1)
 
 pub show-spec : {M : Type 1} → statement M
-show-spec =
-    tie.close
-    (tie.spec
-    returns
-    enum-told
-    enum-known-seen
-    returns-2
-    returns-3
-    enum-told-2
-    returns-4
-    returns-5
-    returns-6)
+show-spec = tie.close (tie.spec returns enum-told (λ c. search needs) returns-2 returns-3 (λ c. search needs) returns-4 returns-5 returns-6)

@@ -5,9 +5,6 @@ use borrow.Author.Needs.{needs}
 use Rattle.lookup.proofs.shown.show_if.Statement.{statement}
 use Rattle.lookup.proofs.shown.show_if.Tie as tie
 
-show-requires : tie.Need-show-requires
-show-requires c κs = search needs
-
 returns : tie.Need-returns
 unfolding showIf
 returns c = rw (eq-eqb _ _ (c .before .if1 .taken)) (c .show .ensures)
@@ -17,4 +14,4 @@ unfolding showIf
 returns-2 c = rw (ne-eqb _ _ (c .if1 .left))
 
 pub show-if-spec : {M : Type 1} → statement M
-show-if-spec = tie.close (tie.spec show-requires returns returns-2)
+show-if-spec = tie.close (tie.spec (λ c κs. search needs) returns returns-2)

@@ -27,9 +27,6 @@ add-i c =
     let p = c .before .before .before .before .before .pre in
     omega (arith, (next-cell (a .s) (a .j) (l .i) (l .pc) (length (now (a .present))) (length (now (a .kinds))) (l .inv .0) (c .loop-test .taken) (p .0) (p .1) (l .inv .2)) .1)
 
-shared-slice-read-show-if : tie.Need-shared-slice-read-show-if Inv-loop μ-loop
-shared-slice-read-show-if c = omega arith
-
 shared-slice-read-show-if-2 : tie.Need-shared-slice-read-show-if-2 Inv-loop μ-loop
 shared-slice-read-show-if-2 c =
     let a = c .before .before .before .before .before .before .before .args in
@@ -54,12 +51,6 @@ shared-slice-read-show-if-3 c =
 show-if-requires : tie.Need-show-if-requires Inv-loop μ-loop
 show-if-requires c κs = tt
 
-add-pc : tie.Need-add-pc Inv-loop μ-loop
-add-pc c = omega arith
-
-loop-less : tie.Need-loop-less Inv-loop μ-loop
-loop-less c = omega arith
-
 loop-again : tie.Need-loop-again Inv-loop μ-loop
 loop-again c =
     let a = c .before .before .before .before .before .before .before .before .before .args in
@@ -80,18 +71,5 @@ returns c =
 
 pub shown-spec : {M : Type 1} → statement M
 shown-spec =
-    tie.close
-    (tie.spec
-    Inv-loop
-    μ-loop
-    loop-holds
-    add-i
-    shared-slice-read-show-if
-    shared-slice-read-show-if-2
-    mul-show-if
-    shared-slice-read-show-if-3
-    show-if-requires
-    add-pc
-    loop-less
-    loop-again
-    returns)
+    tie.close (tie.spec Inv-loop μ-loop loop-holds add-i (λ c. omega arith) shared-slice-read-show-if-2 mul-show-if shared-slice-read-show-if-3
+    show-if-requires (λ c. omega arith) (λ c. omega arith) loop-again returns)

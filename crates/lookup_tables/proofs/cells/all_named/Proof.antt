@@ -32,12 +32,6 @@ returns c =
     rows-refused (a .s) (now (a .present)) (now (a .kinds)) (placed (a .at)) (length (now (a .present))) (c .before .before .before .loop .pc) (c .before .before .loop-test .taken)
     (sym (not-true _ (c .if1 .taken)) ∙ c .before .named .ensures)
 
-add-pc : tie.Need-add-pc Inv-loop μ-loop
-add-pc c = omega arith
-
-loop-less : tie.Need-loop-less Inv-loop μ-loop
-loop-less c = omega arith
-
 loop-again : tie.Need-loop-again Inv-loop μ-loop
 loop-again c =
     let a = c .before .before .before .before .before .before .args in
@@ -50,15 +44,4 @@ returns-2 c =
     sym (rw e at (c .before .loop .inv .1))
 
 pub all-named-spec : {M : Type 1} → statement M
-all-named-spec =
-    tie.close
-    (tie.spec
-    Inv-loop
-    μ-loop
-    loop-holds
-    named-requires
-    returns
-    add-pc
-    loop-less
-    loop-again
-    returns-2)
+all-named-spec = tie.close (tie.spec Inv-loop μ-loop loop-holds named-requires returns (λ c. omega arith) (λ c. omega arith) loop-again returns-2)

@@ -7,9 +7,6 @@ use denote.Ref.{now}
 use Rattle.lookup_tables.proofs.cells.cell.Statement.{statement}
 use Rattle.lookup_tables.proofs.cells.cell.Tie as tie
 
-present-at-requires : tie.Need-present-at-requires
-present-at-requires c κs = search needs
-
 returns : tie.Need-returns
 returns c =
     let a = c .before .before .before .before .before .args in
@@ -17,9 +14,6 @@ returns c =
 
 enum-told : tie.Need-enum-told
 enum-told c = search needs
-
-enum-known-at : tie.Need-enum-known-at
-enum-known-at c = search needs
 
 mul-i : tie.Need-mul-i
 mul-i c =
@@ -64,16 +58,5 @@ returns-3 c =
 
 pub cell-spec : {M : Type 1} → statement M
 cell-spec =
-    tie.close
-    (tie.spec
-    present-at-requires
-    returns
-    enum-told
-    enum-known-at
-    mul-i
-    add-i
-    shared-slice-read-t15
-    mul-t12
-    shared-slice-read-t17
-    returns-2
-    returns-3)
+    tie.close (tie.spec (λ c κs. search needs) returns enum-told (λ c. search needs) mul-i add-i shared-slice-read-t15 mul-t12 shared-slice-read-t17
+    returns-2 returns-3)

@@ -6,14 +6,8 @@ use denote.Ref.{now}
 use Rattle.lookup_tables.proofs.cells.named.Statement.{statement}
 use Rattle.lookup_tables.proofs.cells.named.Tie as tie
 
-present-at-requires : tie.Need-present-at-requires
-present-at-requires c κs = search needs
-
 enum-told : tie.Need-enum-told
 enum-told c = search needs
-
-enum-known-at : tie.Need-enum-known-at
-enum-known-at c = search needs
 
 mul-i : tie.Need-mul-i
 mul-i c =
@@ -52,14 +46,4 @@ returns-3 c =
 
 pub named-spec : {M : Type 1} → statement M
 named-spec =
-    tie.close
-    (tie.spec
-    present-at-requires
-    enum-told
-    enum-known-at
-    mul-i
-    add-i
-    shared-slice-read-result
-    returns
-    returns-2
-    returns-3)
+    tie.close (tie.spec (λ c κs. search needs) enum-told (λ c. search needs) mul-i add-i shared-slice-read-result returns returns-2 returns-3)

@@ -7,24 +7,15 @@ use denote.Ref.{now}
 use Rattle.lookup_tables.proofs.question.tables_agree.Statement.{statement}
 use Rattle.lookup_tables.proofs.question.tables_agree.Tie as tie
 
-ascending-requires : tie.Need-ascending-requires
-ascending-requires c κs = search needs
-
 returns : tie.Need-returns
 returns c =
     let a = c .before .before .before .before .before .before .args in
     unordered (now (a .slots)) (now (a .present)) (now (a .kinds)) (now (a .values)) (sym (c .before .ascending .ensures) ∙ not-true _ (c .if1 .taken))
 
-is-product-requires : tie.Need-is-product-requires
-is-product-requires c κs = search needs
-
 returns-2 : tie.Need-returns-2
 returns-2 c =
     let a = c .before .before .before .before .before .before .before .before .args in
     other-kinds-agree (now (a .slots)) (now (a .present)) (now (a .kinds)) (now (a .values)) (sym (c .before .before .before .ascending .ensures) ∙ not-false _ (c .before .before .if1 .left)) (sym (c .before .is-product .ensures) ∙ not-true _ (c .if2 .taken))
-
-is-product-requires-2 : tie.Need-is-product-requires-2
-is-product-requires-2 c κs = search needs
 
 returns-3 : tie.Need-returns-3
 returns-3 c =
@@ -32,12 +23,4 @@ returns-3 c =
     c .is-product2 .ensures ∙ by-values (now (a .slots)) (now (a .present)) (now (a .kinds)) (now (a .values)) (sym (c .before .before .before .before .ascending .ensures) ∙ not-false _ (c .before .before .before .if1 .left)) (sym (c .before .before .is-product .ensures) ∙ not-false _ (c .before .if2 .left))
 
 pub tables-agree-spec : {M : Type 1} → statement M
-tables-agree-spec =
-    tie.close
-    (tie.spec
-    ascending-requires
-    returns
-    is-product-requires
-    returns-2
-    is-product-requires-2
-    returns-3)
+tables-agree-spec = tie.close (tie.spec (λ c κs. search needs) returns (λ c κs. search needs) returns-2 (λ c κs. search needs) returns-3)

@@ -16,18 +16,6 @@ abbrev μ-loop : tie.MeasureT-loop
 loop-holds : tie.Need-loop-holds Inv-loop μ-loop
 loop-holds c = turned-none _ _
 
-mul-out : tie.Need-mul-out Inv-loop μ-loop
-mul-out c = omega arith
-
-slice-write-out : tie.Need-slice-write-out Inv-loop μ-loop
-slice-write-out c = omega arith
-
-add-i : tie.Need-add-i Inv-loop μ-loop
-add-i c = omega arith
-
-loop-less : tie.Need-loop-less Inv-loop μ-loop
-loop-less c = omega arith
-
 loop-again : tie.Need-loop-again Inv-loop μ-loop
 loop-again c = turn (c .before .loop .inv) (c .loop-test .taken) refl
 
@@ -39,15 +27,5 @@ returns c = turned-clear (c .before .loop .inv) (c .loop-test .left)
 
 pub clear-u64-spec : {M : Type 1} → statement M
 clear-u64-spec =
-    tie.close
-    (tie.spec
-    Inv-loop
-    μ-loop
-    loop-holds
-    mul-out
-    slice-write-out
-    add-i
-    loop-less
-    loop-again
-    same-length
+    tie.close (tie.spec Inv-loop μ-loop loop-holds (λ c. omega arith) (λ c. omega arith) (λ c. omega arith) (λ c. omega arith) loop-again same-length
     returns)

@@ -6,9 +6,6 @@ use borrow.Author.Needs.{needs}
 use Rattle.sheet_fields.proofs.instructions.ranges_of.Statement.{statement}
 use Rattle.sheet_fields.proofs.instructions.ranges_of.Tie as tie
 
-write-count-at-requires : tie.Need-write-count-at-requires
-write-count-at-requires c κs = search needs
-
 returns : tie.Need-returns
 unfolding rangesOf erred
 returns c = rw (sym (c .before .write-count-at .ensures), eq-eqb _ _ (c .if1 .taken))
@@ -18,4 +15,4 @@ unfolding rangesOf erred
 returns-2 c = rw (sym (c .before .write-count-at .ensures), ne-eqb _ _ (c .if1 .left))
 
 pub ranges-of-spec : {M : Type 1} → statement M
-ranges-of-spec = tie.close (tie.spec write-count-at-requires returns returns-2)
+ranges-of-spec = tie.close (tie.spec (λ c κs. search needs) returns returns-2)

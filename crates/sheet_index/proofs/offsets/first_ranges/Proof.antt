@@ -41,5 +41,5 @@ returns c = summed-all (c .before .loop .inv) (c .loop-test .left) (counted (c .
 
 pub first-ranges-spec : {M : Type 1} → statement M
 first-ranges-spec =
-    tie.close
-    (tie.spec Inv-loop μ-loop loop-holds (λ c. omega arith) (λ c. omega arith) ranges-of-requires add-sum (λ c. omega arith) (λ c. omega arith) loop-again same-length returns)
+    tie.close (tie.spec Inv-loop μ-loop loop-holds (λ c. omega arith) (λ c. omega arith) ranges-of-requires add-sum (λ c. omega arith)
+    (λ c. omega arith) loop-again same-length returns)

@@ -41,6 +41,5 @@ returns c = summed-all (c .before .loop .inv) (c .loop-test .left) (counted (c .
 
 pub layout-starts-spec : {M : Type 1} → statement M
 layout-starts-spec =
-    tie.close
-    (tie.spec Inv-loop μ-loop loop-holds (λ c. omega arith) (λ c. omega arith) layout-length-at-requires add-sum (λ c. omega arith) (λ c. omega arith) loop-again same-length
-    returns)
+    tie.close (tie.spec Inv-loop μ-loop loop-holds (λ c. omega arith) (λ c. omega arith) layout-length-at-requires add-sum (λ c. omega arith)
+    (λ c. omega arith) loop-again same-length returns)

@@ -17,24 +17,9 @@ abbrev μ-loop : tie.MeasureT-loop
 loop-holds : tie.Need-loop-holds Inv-loop μ-loop
 loop-holds c = (omega arith, refl)
 
-mul-if1 : tie.Need-mul-if1 Inv-loop μ-loop
-mul-if1 c = omega arith
-
-array-read-if1 : tie.Need-array-read-if1 Inv-loop μ-loop
-array-read-if1 c = omega arith
-
-size-at-requires : tie.Need-size-at-requires Inv-loop μ-loop
-size-at-requires c κs = omega arith
-
 returns : tie.Need-returns Inv-loop μ-loop
 unfolding limits
 returns c = sym (within-failed _ _ limits (c .before .before .before .loop .inv .1) (c .before .before .loop-test .taken) (rw (← (c .before .size-at .ensures .0)) (c .if1 .taken)))
-
-add-j : tie.Need-add-j Inv-loop μ-loop
-add-j c = omega arith
-
-loop-less : tie.Need-loop-less Inv-loop μ-loop
-loop-less c = omega arith
 
 loop-again : tie.Need-loop-again Inv-loop μ-loop
 unfolding limits
@@ -46,16 +31,5 @@ returns-2 c = sym (within-all _ _ limits (c .before .loop .inv .1) (omega arith)
 
 pub within-limits-spec : {M : Type 1} → statement M
 within-limits-spec =
-    tie.close
-    (tie.spec
-    Inv-loop
-    μ-loop
-    loop-holds
-    mul-if1
-    array-read-if1
-    size-at-requires
-    returns
-    add-j
-    loop-less
-    loop-again
-    returns-2)
+    tie.close (tie.spec Inv-loop μ-loop loop-holds (λ c. omega arith) (λ c. omega arith) (λ c κs. omega arith) returns (λ c. omega arith)
+    (λ c. omega arith) loop-again returns-2)

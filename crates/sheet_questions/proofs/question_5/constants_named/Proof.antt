@@ -21,12 +21,6 @@ loop-holds c = (omega arith, every-none _)
 constant-named-requires : tie.Need-constant-named-requires Inv-loop μ-loop
 constant-named-requires c κs = (c .before .before .before .pre, c .loop-test .taken)
 
-add-i : tie.Need-add-i Inv-loop μ-loop
-add-i c = omega arith
-
-loop-less : tie.Need-loop-less Inv-loop μ-loop
-loop-less c = omega arith
-
 loop-again : tie.Need-loop-again Inv-loop μ-loop
 loop-again c = (omega arith, every-more _ _ (c .before .before .loop .inv .1) (c .constant-named .ensures))
 
@@ -35,13 +29,4 @@ returns c = every-all _ (c .before .loop .inv .0) (c .loop-test .left) (counted 
 
 pub constants-named-spec : {M : Type 1} → statement M
 constants-named-spec =
-    tie.close
-    (tie.spec
-    Inv-loop
-    μ-loop
-    loop-holds
-    constant-named-requires
-    add-i
-    loop-less
-    loop-again
-    returns)
+    tie.close (tie.spec Inv-loop μ-loop loop-holds constant-named-requires (λ c. omega arith) (λ c. omega arith) loop-again returns)

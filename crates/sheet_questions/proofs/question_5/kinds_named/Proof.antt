@@ -20,11 +20,4 @@ unfolding kindsNamed
 returns c = rw (c .before .before .before .notes-named .ensures, c .before .before .constants-named .ensures, c .before .params-named .ensures, c .slot-kinds-named .ensures)
 
 pub kinds-named-spec : {M : Type 1} → statement M
-kinds-named-spec =
-    tie.close
-    (tie.spec
-    notes-named-requires
-    constants-named-requires
-    params-named-requires
-    slot-kinds-named-requires
-    returns)
+kinds-named-spec = tie.close (tie.spec notes-named-requires constants-named-requires params-named-requires slot-kinds-named-requires returns)

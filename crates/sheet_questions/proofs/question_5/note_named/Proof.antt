@@ -14,19 +14,9 @@ note-a-at-requires c κs = c .before .before .pre
 note-b-at-requires : tie.Need-note-b-at-requires
 note-b-at-requires c κs = c .before .before .before .pre
 
-layouts-used-requires : tie.Need-layouts-used-requires
-layouts-used-requires c κs = search needs
-
 returns : tie.Need-returns
 unfolding noteNamed
 returns c = let n = counted (c .before .before .before .before .before .pre .0 .are) in rw (c .layouts-used .ensures, n .layout-count, c .before .before .before .note-kind-at .ensures, c .before .before .note-a-at .ensures, c .before .note-b-at .ensures)
 
 pub note-named-spec : {M : Type 1} → statement M
-note-named-spec =
-    tie.close
-    (tie.spec
-    note-kind-at-requires
-    note-a-at-requires
-    note-b-at-requires
-    layouts-used-requires
-    returns)
+note-named-spec = tie.close (tie.spec note-kind-at-requires note-a-at-requires note-b-at-requires (λ c κs. search needs) returns)

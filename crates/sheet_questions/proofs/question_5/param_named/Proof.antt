@@ -14,19 +14,9 @@ param-a-at-requires c κs = c .before .before .pre
 param-b-at-requires : tie.Need-param-b-at-requires
 param-b-at-requires c κs = c .before .before .before .pre
 
-layouts-used-requires : tie.Need-layouts-used-requires
-layouts-used-requires c κs = search needs
-
 returns : tie.Need-returns
 unfolding paramNamed
 returns c = let n = counted (c .before .before .before .before .before .pre .0 .are) in rw (c .layouts-used .ensures, n .layout-count, c .before .before .before .param-kind-at .ensures, c .before .before .param-a-at .ensures, c .before .param-b-at .ensures)
 
 pub param-named-spec : {M : Type 1} → statement M
-param-named-spec =
-    tie.close
-    (tie.spec
-    param-kind-at-requires
-    param-a-at-requires
-    param-b-at-requires
-    layouts-used-requires
-    returns)
+param-named-spec = tie.close (tie.spec param-kind-at-requires param-a-at-requires param-b-at-requires (λ c κs. search needs) returns)

@@ -21,12 +21,6 @@ loop-holds c = (omega arith, every-none _)
 param-named-requires : tie.Need-param-named-requires Inv-loop μ-loop
 param-named-requires c κs = (c .before .before .before .pre, c .loop-test .taken)
 
-add-i : tie.Need-add-i Inv-loop μ-loop
-add-i c = omega arith
-
-loop-less : tie.Need-loop-less Inv-loop μ-loop
-loop-less c = omega arith
-
 loop-again : tie.Need-loop-again Inv-loop μ-loop
 loop-again c = (omega arith, every-more _ _ (c .before .before .loop .inv .1) (c .param-named .ensures))
 
@@ -34,6 +28,4 @@ returns : tie.Need-returns Inv-loop μ-loop
 returns c = every-all _ (c .before .loop .inv .0) (c .loop-test .left) (counted (c .before .before .before .pre .are) .param-count) (c .before .loop .inv .1)
 
 pub params-named-spec : {M : Type 1} → statement M
-params-named-spec =
-    tie.close
-    (tie.spec Inv-loop μ-loop loop-holds param-named-requires add-i loop-less loop-again returns)
+params-named-spec = tie.close (tie.spec Inv-loop μ-loop loop-holds param-named-requires (λ c. omega arith) (λ c. omega arith) loop-again returns)

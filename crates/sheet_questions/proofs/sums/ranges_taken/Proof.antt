@@ -20,17 +20,8 @@ loop-holds c = added-none _ _
 ranges-of-requires : tie.Need-ranges-of-requires Inv-loop μ-loop
 ranges-of-requires c κs = (c .before .before .before .pre, c .loop-test .taken)
 
-cast-sum : tie.Need-cast-sum Inv-loop μ-loop
-cast-sum c = omega arith
-
 add-sum : tie.Need-add-sum Inv-loop μ-loop
 add-sum c = let l = limited (c .before .before .before .before .pre) in omega arith
-
-add-pc : tie.Need-add-pc Inv-loop μ-loop
-add-pc c = omega arith
-
-loop-less : tie.Need-loop-less Inv-loop μ-loop
-loop-less c = omega arith
 
 loop-again : tie.Need-loop-again Inv-loop μ-loop
 loop-again c = added-more (c .before .before .loop .inv) (c .before .loop-test .taken) (c .ranges-of .ensures) (omega arith)
@@ -41,15 +32,5 @@ returns c = added-all (c .before .loop .inv) (c .loop-test .left) (counted (c .b
 
 pub ranges-taken-spec : {M : Type 1} → statement M
 ranges-taken-spec =
-    tie.close
-    (tie.spec
-    Inv-loop
-    μ-loop
-    loop-holds
-    ranges-of-requires
-    cast-sum
-    add-sum
-    add-pc
-    loop-less
-    loop-again
+    tie.close (tie.spec Inv-loop μ-loop loop-holds ranges-of-requires (λ c. omega arith) add-sum (λ c. omega arith) (λ c. omega arith) loop-again
     returns)

@@ -20,17 +20,8 @@ loop-holds c = added-none _ _
 layout-length-at-requires : tie.Need-layout-length-at-requires Inv-loop μ-loop
 layout-length-at-requires c κs = c .before .before .before .pre
 
-cast-sum : tie.Need-cast-sum Inv-loop μ-loop
-cast-sum c = omega arith
-
 add-sum : tie.Need-add-sum Inv-loop μ-loop
 add-sum c = let l = limited (c .before .before .before .before .pre) in omega arith
-
-add-i : tie.Need-add-i Inv-loop μ-loop
-add-i c = omega arith
-
-loop-less : tie.Need-loop-less Inv-loop μ-loop
-loop-less c = omega arith
 
 loop-again : tie.Need-loop-again Inv-loop μ-loop
 loop-again c = added-more (c .before .before .loop .inv) (c .before .loop-test .taken) (c .layout-length-at .ensures) (omega arith)
@@ -41,15 +32,5 @@ returns c = added-all (c .before .loop .inv) (c .loop-test .left) (counted (c .b
 
 pub slot-kinds-taken-spec : {M : Type 1} → statement M
 slot-kinds-taken-spec =
-    tie.close
-    (tie.spec
-    Inv-loop
-    μ-loop
-    loop-holds
-    layout-length-at-requires
-    cast-sum
-    add-sum
-    add-i
-    loop-less
-    loop-again
-    returns)
+    tie.close (tie.spec Inv-loop μ-loop loop-holds layout-length-at-requires (λ c. omega arith) add-sum (λ c. omega arith) (λ c. omega arith)
+    loop-again returns)

@@ -24,5 +24,4 @@ returns-2 c =
     rw (← (c .before .before .before .before .ranges-taken .ensures), ← (n .range-count), eq-eqb _ _ (c .before .before .if1 .left), ← (c .before .slot-kinds-taken .ensures), ← (n .slot-kind-count))
 
 pub sums-match-spec : {M : Type 1} → statement M
-sums-match-spec =
-    tie.close (tie.spec ranges-taken-requires returns slot-kinds-taken-requires returns-2)
+sums-match-spec = tie.close (tie.spec ranges-taken-requires returns slot-kinds-taken-requires returns-2)

@@ -6,14 +6,8 @@ use borrow.Author.Needs.{needs}
 use Rattle.sheet_questions.proofs.whole.check_fields.Statement.{statement}
 use Rattle.sheet_questions.proofs.whole.check_fields.Tie as tie
 
-sums-match-requires : tie.Need-sums-match-requires
-sums-match-requires c κs = search needs
-
 returns : tie.Need-returns
 returns c = refused-4 (c .before .before .before .pre) (cc)
-
-kinds-named-requires : tie.Need-kinds-named-requires
-kinds-named-requires c κs = search needs
 
 returns-2 : tie.Need-returns-2
 returns-2 c = refused-5 (c .before .before .before .before .before .pre) (ap not (sym (c .before .before .before .sums-match .ensures)) ∙ c .before .before .if1 .left) (ap not (sym (c .before .kinds-named .ensures)) ∙ c .if2 .taken)
@@ -22,5 +16,4 @@ returns-3 : tie.Need-returns-3
 returns-3 c = unrefused (c .before .before .before .before .before .pre) (ap not (sym (c .before .before .before .sums-match .ensures)) ∙ c .before .before .if1 .left) (ap not (sym (c .before .kinds-named .ensures)) ∙ c .if2 .left)
 
 pub check-fields-spec : {M : Type 1} → statement M
-check-fields-spec =
-    tie.close (tie.spec sums-match-requires returns kinds-named-requires returns-2 returns-3)
+check-fields-spec = tie.close (tie.spec (λ c κs. search needs) returns (λ c κs. search needs) returns-2 returns-3)

@@ -12,14 +12,8 @@ use Rattle.sheet_questions.proofs.whole.check_sheet.Tie as tie
 returns : tie.Need-returns
 returns c = refused-1 _ (c .if1 .taken)
 
-within-limits-requires : tie.Need-within-limits-requires
-within-limits-requires c κs = search needs
-
 returns-2 : tie.Need-returns-2
 returns-2 c = refused-2 _ (c .before .before .if1 .left) (sym (c .before .within-limits .ensures) ∙ not-true _ (c .if2 .taken))
-
-sizes-of-requires : tie.Need-sizes-of-requires
-sizes-of-requires c κs = search needs
 
 add-if3 : tie.Need-add-if3
 add-if3 c = omega (arith, short (limited-by _ (c .before .sizes-of .ensures) (sym (c .before .before .before .within-limits .ensures) ∙ not-false _ (c .before .before .if2 .left))) (laid-by _ (c .before .sizes-of .ensures)))
@@ -37,18 +31,6 @@ check-fields-requires c κs =
       long = omega (arith, laid-by _ (c .before .before .sizes-of .ensures) .ends);
     }
 
-returns-4 : tie.Need-returns-4
-returns-4 c = search needs
-
 pub check-sheet-spec : {M : Type 1} → statement M
 check-sheet-spec =
-    tie.close
-    (tie.spec
-    returns
-    within-limits-requires
-    returns-2
-    sizes-of-requires
-    add-if3
-    returns-3
-    check-fields-requires
-    returns-4)
+    tie.close (tie.spec returns (λ c κs. search needs) returns-2 (λ c κs. search needs) add-if3 returns-3 check-fields-requires (λ c. search needs))

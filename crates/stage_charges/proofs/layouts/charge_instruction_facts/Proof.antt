@@ -51,6 +51,5 @@ returns-2 c = charged-all _ _ _ (counted (c .before .before .before .pre .are) .
 
 pub charge-instruction-facts-spec : {M : Type 1} → statement M
 charge-instruction-facts-spec =
-    tie.close
-    (tie.spec Inv-loop μ-loop (λ c. charged-none _ _ _) (λ c κs. code-inside (c .before .before .before .pre) _ (c .loop-test .taken)) instruction-fact-requires (λ c κs. search needs)
-    (λ c. search needs) returns (λ c. omega arith) (λ c. omega arith) loop-again returns-2)
+    tie.close (tie.spec Inv-loop μ-loop (λ c. charged-none _ _ _) (λ c κs. code-inside (c .before .before .before .pre) _ (c .loop-test .taken))
+    instruction-fact-requires (λ c κs. search needs) (λ c. search needs) returns (λ c. omega arith) (λ c. omega arith) loop-again returns-2)

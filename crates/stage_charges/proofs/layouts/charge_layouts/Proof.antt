@@ -1,6 +1,6 @@
 -- `stage_charges::layouts::charge_layouts` meets its contract: the key's charge, then the value's. Assumes nothing.
 use mathlib.Core.Path.{_∙_}
-use Prim.Native.Nat.{_/_, _%_}
+use Prim.Native.Nat.{_%_}
 use Rattle.model.specs.Tables.{factIn}
 use Rattle.model.specs.Parameters.{chargeLayout}
 use Rattle.budget.specs.Outcome.{asSpent}

@@ -22,5 +22,5 @@ returns c =
 
 pub charge-matrix-spec : {M : Type 1} → statement M
 charge-matrix-spec =
-    tie.close
-    (tie.spec (λ c. omega (arith, mul-le-mul (c .pre .0) (c .pre .1))) (λ c κs. search needs) mul-amount-2 (λ c κs. search needs) (λ c κs. search needs) (λ c κs. search needs) returns)
+    tie.close (tie.spec (λ c. omega (arith, mul-le-mul (c .pre .0) (c .pre .1))) (λ c κs. search needs) mul-amount-2 (λ c κs. search needs)
+    (λ c κs. search needs) (λ c κs. search needs) returns)

@@ -9,12 +9,6 @@ use Rattle.stage_charges.proofs.matrix.fact_bytes.Tie as tie
 enum-told : tie.Need-enum-told
 enum-told c = search needs
 
-enum-told-2 : tie.Need-enum-told-2
-enum-told-2 c = search needs
-
-enum-told-3 : tie.Need-enum-told-3
-enum-told-3 c = search needs
-
 returns : tie.Need-returns
 unfolding factBytes
 returns c = (sym (ap factBytes (c .enum-told .given .1)), omega arith)
@@ -28,5 +22,4 @@ unfolding factBytes
 returns-3 c = (sym (ap factBytes (c .enum-told3 .given .1)), omega arith)
 
 pub fact-bytes-spec : {M : Type 1} → statement M
-fact-bytes-spec =
-    tie.close (tie.spec enum-told enum-told-2 enum-told-3 returns returns-2 returns-3)
+fact-bytes-spec = tie.close (tie.spec enum-told (λ c. search needs) (λ c. search needs) returns returns-2 returns-3)

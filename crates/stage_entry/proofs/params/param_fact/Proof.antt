@@ -10,18 +10,6 @@ use borrow.Author.Needs.{needs}
 use Rattle.stage_entry.proofs.params.param_fact.Statement.{statement}
 use Rattle.stage_entry.proofs.params.param_fact.Tie as tie
 
-param-kind-at-requires : tie.Need-param-kind-at-requires
-param-kind-at-requires c κs = search needs
-
-param-a-at-requires : tie.Need-param-a-at-requires
-param-a-at-requires c κs = search needs
-
-param-b-at-requires : tie.Need-param-b-at-requires
-param-b-at-requires c κs = search needs
-
-map-cell-requires : tie.Need-map-cell-requires
-map-cell-requires c κs = search needs
-
 returns : tie.Need-returns
 unfolding orUnknown
 returns c =
@@ -32,21 +20,12 @@ returns c =
     ∙ ap₂ (λ (a b : ℕ). cellOf (mapFact a b)) (after-param-a-at .param-a-at .ensures) (c .before .param-b-at .ensures)
     ∙ ap (λ (o : Option Fact). cellOf (orUnknown o)) (map-param _ _ (after-param-kind-at .param-kind-at .ensures) (then1 .if1 .taken))
 
-param-a-at-requires-2 : tie.Need-param-a-at-requires-2
-param-a-at-requires-2 c κs = search needs
-
-queue-cell-requires : tie.Need-queue-cell-requires
-queue-cell-requires c κs = search needs
-
 returns-2 : tie.Need-returns-2
 unfolding orUnknown
 returns-2 c =
     c .queue-cell .ensures
     ∙ ap (λ (a : ℕ). cellOf (queueFact a)) (c .before .param-a-at2 .ensures)
     ∙ ap (λ (o : Option Fact). cellOf (orUnknown o)) (queue-param _ _ (c .before .before .before .before .param-kind-at .ensures) (c .before .before .if2 .taken))
-
-unknown-cell-requires : tie.Need-unknown-cell-requires
-unknown-cell-requires c κs = search needs
 
 returns-3 : tie.Need-returns-3
 unfolding orUnknown
@@ -56,15 +35,5 @@ returns-3 c =
 
 pub param-fact-spec : {M : Type 1} → statement M
 param-fact-spec =
-    tie.close
-    (tie.spec
-    param-kind-at-requires
-    param-a-at-requires
-    param-b-at-requires
-    map-cell-requires
-    returns
-    param-a-at-requires-2
-    queue-cell-requires
-    returns-2
-    unknown-cell-requires
-    returns-3)
+    tie.close (tie.spec (λ c κs. search needs) (λ c κs. search needs) (λ c κs. search needs) (λ c κs. search needs) returns (λ c κs. search needs)
+    (λ c κs. search needs) returns-2 (λ c κs. search needs) returns-3)

@@ -13,9 +13,6 @@ returns c =
     let n = counted (c .before .before .before .pre .are) in
     no-params _ (n .param-count) refl (n .param-slots) (n .recv-slots) (n .is-closure) (c .if1 .taken)
 
-transfer-slots-requires : tie.Need-transfer-slots-requires
-transfer-slots-requires c κs = search needs
-
 returns-2 : tie.Need-returns-2
 returns-2 c =
     let n = counted (c .before .before .before .before .before .pre .are) in
@@ -32,12 +29,6 @@ returns-3 c =
     let else2 = c .before .before in
     let n = counted (start .pre .are) in
     too-many _ (n .param-count) (after-transfer-slots .transfer-slots .ensures .0) (n .param-slots) (n .recv-slots) (n .is-closure) (else1 .if1 .left) (else2 .if2 .left) (c .if3 .taken)
-
-add-if4 : tie.Need-add-if4
-add-if4 c = search needs
-
-cast-t7 : tie.Need-cast-t7
-cast-t7 c = search needs
 
 returns-4 : tie.Need-returns-4
 returns-4 c =
@@ -94,18 +85,5 @@ returns-7 c =
 
 pub param-start-spec : {M : Type 1} → statement M
 param-start-spec =
-    tie.close
-    (tie.spec
-    returns
-    transfer-slots-requires
-    returns-2
-    add-implicit
-    returns-3
-    add-if4
-    cast-t7
-    returns-4
-    returns-5
-    add-if6
-    cast-t8
-    returns-6
-    returns-7)
+    tie.close (tie.spec returns (λ c κs. search needs) returns-2 add-implicit returns-3 (λ c. search needs) (λ c. search needs) returns-4 returns-5
+    add-if6 cast-t8 returns-6 returns-7)

@@ -19,20 +19,8 @@ abbrev μ-loop : tie.MeasureT-loop
 loop-holds : tie.Need-loop-holds Inv-loop μ-loop
 loop-holds c = added-none _ _
 
-param-width-at-requires : tie.Need-param-width-at-requires Inv-loop μ-loop
-param-width-at-requires c κs = search needs
-
-cast-sum : tie.Need-cast-sum Inv-loop μ-loop
-cast-sum c = omega arith
-
 add-sum : tie.Need-add-sum Inv-loop μ-loop
 add-sum c = let l = limited (c .before .before .before .before .pre) in omega arith
-
-add-i : tie.Need-add-i Inv-loop μ-loop
-add-i c = omega arith
-
-loop-less : tie.Need-loop-less Inv-loop μ-loop
-loop-less c = omega arith
 
 loop-again : tie.Need-loop-again Inv-loop μ-loop
 loop-again c = added-more (c .before .before .loop .inv) (c .before .loop-test .taken) (c .param-width-at .ensures) (omega arith)
@@ -44,15 +32,5 @@ returns c =
 
 pub transfer-slots-spec : {M : Type 1} → statement M
 transfer-slots-spec =
-    tie.close
-    (tie.spec
-    Inv-loop
-    μ-loop
-    loop-holds
-    param-width-at-requires
-    cast-sum
-    add-sum
-    add-i
-    loop-less
-    loop-again
+    tie.close (tie.spec Inv-loop μ-loop loop-holds (λ c κs. search needs) (λ c. omega arith) add-sum (λ c. omega arith) (λ c. omega arith) loop-again
     returns)

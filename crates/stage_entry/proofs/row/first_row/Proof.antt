@@ -32,5 +32,5 @@ returns-3 c =
 
 pub first-row-spec : {M : Type 1} → statement M
 first-row-spec =
-    tie.close
-    (tie.spec (λ c. search needs) (λ c. search needs) (λ c. search needs) (λ c κs. search needs) returns returns-2 (λ c. search needs) (λ c. search needs) returns-3)
+    tie.close (tie.spec (λ c. search needs) (λ c. search needs) (λ c. search needs) (λ c κs. search needs) returns returns-2 (λ c. search needs)
+    (λ c. search needs) returns-3)

@@ -39,4 +39,5 @@ returns-2 c =
 
 pub param-row-spec : {M : Type 1} → statement M
 param-row-spec =
-    tie.close (tie.spec (λ c κs. search needs) (λ c. search needs) (λ c. search needs) returns seed-params-requires (λ c. search needs) (λ c. search needs) returns-2)
+    tie.close (tie.spec (λ c κs. search needs) (λ c. search needs) (λ c. search needs) returns seed-params-requires (λ c. search needs)
+    (λ c. search needs) returns-2)

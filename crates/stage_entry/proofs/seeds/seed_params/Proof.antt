@@ -77,6 +77,6 @@ returns-2 c row l =
 
 pub seed-params-spec : {M : Type 1} → statement M
 seed-params-spec =
-    tie.close
-    (tie.spec Inv-loop μ-loop (λ c κs. search needs) (λ c. seeded-none _ _ _ _ _ _ _ (start c .pre .1)) add-slot seed-param-requires (λ c. search needs) (λ c. omega arith) (λ c. omega arith)
-    returns (λ c κs. search needs) (λ c κs. search needs) add-passed add-i (λ c. omega arith) loop-again (λ c. omega arith) (λ c. omega arith) returns-2)
+    tie.close (tie.spec Inv-loop μ-loop (λ c κs. search needs) (λ c. seeded-none _ _ _ _ _ _ _ (start c .pre .1)) add-slot seed-param-requires
+    (λ c. search needs) (λ c. omega arith) (λ c. omega arith) returns (λ c κs. search needs) (λ c κs. search needs) add-passed add-i
+    (λ c. omega arith) loop-again (λ c. omega arith) (λ c. omega arith) returns-2)

@@ -12,5 +12,5 @@ returns c =
 
 pub clear-table-if-spec : {M : Type 1} → statement M
 clear-table-if-spec =
-    tie.close
-    (tie.spec (λ c κs. search needs) (λ c. search needs) (λ c. search needs) (λ c. search needs) (λ c. search needs) returns (λ c. kept-if (c .if1 .left)))
+    tie.close (tie.spec (λ c κs. search needs) (λ c. search needs) (λ c. search needs) (λ c. search needs) (λ c. search needs) returns
+    (λ c. kept-if (c .if1 .left)))

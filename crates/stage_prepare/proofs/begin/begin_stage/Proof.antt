@@ -1,6 +1,6 @@
 -- `begin_stage` meets its contract: the closure refused, what follows it refused, or all covered.
 -- Assumes nothing.
-use mathlib.Core.Path.{_≡_, ap, _∙_}
+use mathlib.Core.Path.{ap, _∙_}
 use Prim.Native.Nat.{ℕ}
 use Rattle.sheet.proofs.Asked.{measured}
 use Rattle.sheet.proofs.Counted.{counted}
@@ -86,7 +86,7 @@ returns-3 c =
 
 pub begin-stage-spec : {M : Type 1} → statement M
 begin-stage-spec =
-    tie.close
-    (tie.spec tracked-slots-requires (λ c. search needs) (λ c. search needs) (λ c. search needs) (λ c. search needs) returns enter-tracked-requires (λ c. search needs) (λ c κs. search needs)
-    (λ c. search needs) (λ c. search needs) (λ c. search needs) (λ c. search needs) (λ c. search needs) returns-2 (λ c κs. search needs) (λ c. search needs) (λ c. search needs) (λ c. search needs)
-    (λ c. search needs) (λ c. search needs) returns-3)
+    tie.close (tie.spec tracked-slots-requires (λ c. search needs) (λ c. search needs) (λ c. search needs) (λ c. search needs) returns
+    enter-tracked-requires (λ c. search needs) (λ c κs. search needs) (λ c. search needs) (λ c. search needs) (λ c. search needs) (λ c. search needs)
+    (λ c. search needs) returns-2 (λ c κs. search needs) (λ c. search needs) (λ c. search needs) (λ c. search needs) (λ c. search needs)
+    (λ c. search needs) returns-3)

@@ -89,7 +89,7 @@ returns-4 c =
 
 pub enter-tracked-spec : {M : Type 1} → statement M
 enter-tracked-spec =
-    tie.close
-    (tie.spec (λ c κs. let asked = c .before .before .before .before .pre in (limited (measured (asked .0)) .code-count, asked .1)) returns returns-2 returns-3 slice-aggregate-entry-row
-    (λ c. room-parts _ _ _ _ _ _ _ _ _ (has-room (asked c)) .1) slice-aggregate-entry-row-2 (λ c. room-parts _ _ _ _ _ _ _ _ _ (has-room (asked (c .before))) .2) slice-aggregate-entry-row-3
-    entry-row-requires same-length same-length-2 returns-4)
+    tie.close (tie.spec (λ c κs. let asked = c .before .before .before .before .pre in (limited (measured (asked .0)) .code-count, asked .1)) returns
+    returns-2 returns-3 slice-aggregate-entry-row (λ c. room-parts _ _ _ _ _ _ _ _ _ (has-room (asked c)) .1) slice-aggregate-entry-row-2
+    (λ c. room-parts _ _ _ _ _ _ _ _ _ (has-room (asked (c .before))) .2) slice-aggregate-entry-row-3 entry-row-requires same-length same-length-2
+    returns-4)

@@ -25,6 +25,5 @@ returns-2 c =
 
 pub entry-row-spec : {M : Type 1} → statement M
 entry-row-spec =
-    tie.close
-    (tie.spec (λ c κs. let asked = c .before .before .before .before .pre in (limited (asked .0) .code-count, asked .4)) (λ c. search needs) returns (λ c κs. search needs) (λ c. search needs)
-    (λ c. search needs) returns-2)
+    tie.close (tie.spec (λ c κs. let asked = c .before .before .before .before .pre in (limited (asked .0) .code-count, asked .4)) (λ c. search needs)
+    returns (λ c κs. search needs) (λ c. search needs) (λ c. search needs) returns-2)

@@ -25,5 +25,4 @@ returns c =
     analysis-written (a .which) (factTextBy (a .which) (now (a .classes))) (now (a .slots)) (now (a .present)) (now (a .kinds)) (now (a .values)) (a .counts) (a .n) (now (a .out)) _ _ (a .at) _ _ (p .0) (omega (arith, p .2 .slots)) (c .before .before .before .before .before .before .head-line .ensures) (c .before .before .rows-lines .ensures)
 
 pub analysis-lines-spec : {M : Type 1} → statement M
-analysis-lines-spec =
-    tie.close (tie.spec (λ c κs. search needs) rows-lines-requires (λ c. search needs) returns)
+analysis-lines-spec = tie.close (tie.spec (λ c κs. search needs) rows-lines-requires (λ c. search needs) returns)

@@ -20,5 +20,4 @@ unfolding choose
 returns-3 c = rw (c .enum-told3 .given .1)
 
 pub counts-of-spec : {M : Type 1} → statement M
-counts-of-spec =
-    tie.close (tie.spec enum-told (λ c. search needs) (λ c. search needs) returns returns-2 returns-3)
+counts-of-spec = tie.close (tie.spec enum-told (λ c. search needs) (λ c. search needs) returns returns-2 returns-3)

@@ -28,6 +28,6 @@ returns-4 c = reword (omega arith) (sym (ap lastLine (c .before .before .before 
 
 pub last-line-spec : {M : Type 1} → statement M
 last-line-spec =
-    tie.close
-    (tie.spec (λ c. search needs) (λ c κs. search needs) (λ c. search needs) (λ c κs. search needs) enum-told (λ c κs. search needs) (λ c. search needs) (λ c κs. search needs)
-    (λ c. search needs) returns (λ c. search needs) returns-2 (λ c. search needs) returns-3 (λ c. search needs) returns-4)
+    tie.close (tie.spec (λ c. search needs) (λ c κs. search needs) (λ c. search needs) (λ c κs. search needs) enum-told (λ c κs. search needs)
+    (λ c. search needs) (λ c κs. search needs) (λ c. search needs) returns (λ c. search needs) returns-2 (λ c. search needs) returns-3
+    (λ c. search needs) returns-4)

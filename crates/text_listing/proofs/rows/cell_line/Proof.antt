@@ -17,6 +17,5 @@ returns c =
 
 pub cell-line-spec : {M : Type 1} → statement M
 cell-line-spec =
-    tie.close
-    (tie.spec (λ c κs. search needs) (λ c κs. search needs) (λ c. search needs) (λ c κs. search needs) (λ c κs. search needs) (λ c. search needs) (λ c κs. search needs)
-    (λ c. search needs) returns)
+    tie.close (tie.spec (λ c κs. search needs) (λ c κs. search needs) (λ c. search needs) (λ c κs. search needs) (λ c κs. search needs)
+    (λ c. search needs) (λ c κs. search needs) (λ c. search needs) returns)

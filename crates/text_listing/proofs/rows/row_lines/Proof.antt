@@ -48,6 +48,5 @@ returns-2 c =
 
 pub row-lines-spec : {M : Type 1} → statement M
 row-lines-spec =
-    tie.close
-    (tie.spec Inv-loop μ-loop returns loop-holds (λ c. omega arith) (λ c. omega arith) (λ c. omega arith) (λ c. omega arith) (λ c. omega arith) cell-line-requires
-    (λ c. omega arith) (λ c. omega arith) loop-again same-length returns-2)
+    tie.close (tie.spec Inv-loop μ-loop returns loop-holds (λ c. omega arith) (λ c. omega arith) (λ c. omega arith) (λ c. omega arith)
+    (λ c. omega arith) cell-line-requires (λ c. omega arith) (λ c. omega arith) loop-again same-length returns-2)

@@ -86,6 +86,6 @@ returns c =
 
 pub rows-lines-spec : {M : Type 1} → statement M
 rows-lines-spec =
-    tie.close
-    (tie.spec Inv-loop μ-loop loop-holds add-end slice-aggregate-row-lines (λ c. omega arith) (λ c. omega arith) (λ c. omega arith) part-row-lines-end mul-row-lines
-    (λ c. omega arith) (λ c. omega arith) part-row-lines-end-2 row-lines-requires (λ c. omega arith) (λ c. omega arith) loop-again same-length returns)
+    tie.close (tie.spec Inv-loop μ-loop loop-holds add-end slice-aggregate-row-lines (λ c. omega arith) (λ c. omega arith) (λ c. omega arith)
+    part-row-lines-end mul-row-lines (λ c. omega arith) (λ c. omega arith) part-row-lines-end-2 row-lines-requires (λ c. omega arith)
+    (λ c. omega arith) loop-again same-length returns)

@@ -11,81 +11,30 @@ use Rattle.transfer_facts.proofs.ConstantRules.{loads-int, loads-const,
 use Rattle.transfer_facts.proofs.constants.constant_fact_written_to_slot.Statement.{statement}
 use Rattle.transfer_facts.proofs.constants.constant_fact_written_to_slot.Tie as tie
 
-imm32-bits-requires : tie.Need-imm32-bits-requires
-imm32-bits-requires c κs = search needs
-
-integer-cell-requires : tie.Need-integer-cell-requires
-integer-cell-requires c κs = search needs
-
 returns : tie.Need-returns
 returns c slot =
     let s = c .before .before .before .before .before .before .before in
     loads-int (s .args .sheet .now) (s .args .inst) (s .args .slots .now) (factsOf (s .args .kinds .now) (s .args .values .now)) slot (c .before .before .if1 .taken) (c .integer-cell .ensures ∙ ap (λ (z : ℤ). cellOf (integer z)) (c .before .imm32-bits .ensures))
-
-wide-requires : tie.Need-wide-requires
-wide-requires c κs = search needs
-
-load-const-cell-requires : tie.Need-load-const-cell-requires
-load-const-cell-requires c κs = search needs
 
 returns-2 : tie.Need-returns-2
 returns-2 c slot =
     let s = c .before .before .before .before .before .before .before .before in
     loads-const (s .args .sheet .now) (s .args .inst) (s .args .slots .now) (factsOf (s .args .kinds .now) (s .args .values .now)) slot (c .before .before .if2 .taken) (c .load-const-cell .ensures ∙ ap (λ (n : ℕ). cellOf (loadConst (s .args .sheet .now) n)) (c .before .wide .ensures .0))
 
-wide-requires-2 : tie.Need-wide-requires-2
-wide-requires-2 c κs = search needs
-
-fact-for-tracked-source-requires : tie.Need-fact-for-tracked-source-requires
-fact-for-tracked-source-requires c κs = search needs
-
 returns-3 : tie.Need-returns-3
 returns-3 c slot =
     let s = c .before .before .before .before .before .before .before .before .before in
     copies-constant (s .args .sheet .now) (s .args .inst) (s .args .slots .now) (factsOf (s .args .kinds .now) (s .args .values .now)) slot (c .before .before .if3 .taken) (c .fact-for-tracked-source .ensures ∙ ap (λ (n : ℕ). cellOf (factFor (s .args .slots .now) (factsOf (s .args .kinds .now) (s .args .values .now)) n)) (c .before .wide2 .ensures .0))
-
-wide-requires-3 : tie.Need-wide-requires-3
-wide-requires-3 c κs = search needs
-
-fact-for-tracked-source-requires-2 : tie.Need-fact-for-tracked-source-requires-2
-fact-for-tracked-source-requires-2 c κs = search needs
-
-wide-requires-4 : tie.Need-wide-requires-4
-wide-requires-4 c κs = search needs
-
-fact-for-tracked-source-requires-3 : tie.Need-fact-for-tracked-source-requires-3
-fact-for-tracked-source-requires-3 c κs = search needs
-
-shl-cell-requires : tie.Need-shl-cell-requires
-shl-cell-requires c κs = search needs
 
 returns-4 : tie.Need-returns-4
 returns-4 c slot =
     let s = c .before .before .before .before .before .before .before .before .before .before .before .before .before in
     shifts (s .args .sheet .now) (s .args .inst) (s .args .slots .now) (factsOf (s .args .kinds .now) (s .args .values .now)) slot (c .before .before .before .before .before .if4 .taken) (c .shl-cell .ensures ∙ ap₂ (λ (x y : Fact). cellOf (foldBinary shl (u64Fact x) (u64Fact y))) (read _ (c .before .before .before .fact-for-tracked-source2 .ensures ∙ ap (λ (n : ℕ). cellOf (factFor (s .args .slots .now) (factsOf (s .args .kinds .now) (s .args .values .now)) n)) (c .before .before .before .before .wide3 .ensures .0))) (read _ (c .before .fact-for-tracked-source3 .ensures ∙ ap (λ (n : ℕ). cellOf (factFor (s .args .slots .now) (factsOf (s .args .kinds .now) (s .args .values .now)) n)) (c .before .before .wide4 .ensures .0))))
 
-wide-requires-5 : tie.Need-wide-requires-5
-wide-requires-5 c κs = search needs
-
-fact-for-tracked-source-requires-4 : tie.Need-fact-for-tracked-source-requires-4
-fact-for-tracked-source-requires-4 c κs = search needs
-
-wide-requires-6 : tie.Need-wide-requires-6
-wide-requires-6 c κs = search needs
-
-fact-for-tracked-source-requires-5 : tie.Need-fact-for-tracked-source-requires-5
-fact-for-tracked-source-requires-5 c κs = search needs
-
-or-cell-requires : tie.Need-or-cell-requires
-or-cell-requires c κs = search needs
-
 returns-5 : tie.Need-returns-5
 returns-5 c slot =
     let s = c .before .before .before .before .before .before .before .before .before .before .before .before .before .before in
     ors (s .args .sheet .now) (s .args .inst) (s .args .slots .now) (factsOf (s .args .kinds .now) (s .args .values .now)) slot (c .before .before .before .before .before .if5 .taken) (c .or-cell .ensures ∙ ap₂ (λ (x y : Fact). cellOf (foldBinary or (u64Fact x) (u64Fact y))) (read _ (c .before .before .before .fact-for-tracked-source4 .ensures ∙ ap (λ (n : ℕ). cellOf (factFor (s .args .slots .now) (factsOf (s .args .kinds .now) (s .args .values .now)) n)) (c .before .before .before .before .wide5 .ensures .0))) (read _ (c .before .fact-for-tracked-source5 .ensures ∙ ap (λ (n : ℕ). cellOf (factFor (s .args .slots .now) (factsOf (s .args .kinds .now) (s .args .values .now)) n)) (c .before .before .wide6 .ensures .0))))
-
-unknown-cell-requires : tie.Need-unknown-cell-requires
-unknown-cell-requires c κs = search needs
 
 returns-6 : tie.Need-returns-6
 returns-6 c slot =
@@ -94,28 +43,7 @@ returns-6 c slot =
 
 pub constant-fact-written-to-slot-spec : {M : Type 1} → statement M
 constant-fact-written-to-slot-spec =
-    tie.close
-    (tie.spec
-    imm32-bits-requires
-    integer-cell-requires
-    returns
-    wide-requires
-    load-const-cell-requires
-    returns-2
-    wide-requires-2
-    fact-for-tracked-source-requires
-    returns-3
-    wide-requires-3
-    fact-for-tracked-source-requires-2
-    wide-requires-4
-    fact-for-tracked-source-requires-3
-    shl-cell-requires
-    returns-4
-    wide-requires-5
-    fact-for-tracked-source-requires-4
-    wide-requires-6
-    fact-for-tracked-source-requires-5
-    or-cell-requires
-    returns-5
-    unknown-cell-requires
-    returns-6)
+    tie.close (tie.spec (λ c κs. search needs) (λ c κs. search needs) returns (λ c κs. search needs) (λ c κs. search needs) returns-2
+    (λ c κs. search needs) (λ c κs. search needs) returns-3 (λ c κs. search needs) (λ c κs. search needs) (λ c κs. search needs)
+    (λ c κs. search needs) (λ c κs. search needs) returns-4 (λ c κs. search needs) (λ c κs. search needs) (λ c κs. search needs)
+    (λ c κs. search needs) (λ c κs. search needs) returns-5 (λ c κs. search needs) returns-6)

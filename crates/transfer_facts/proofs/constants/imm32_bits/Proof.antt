@@ -7,24 +7,9 @@ use Rattle.transfer_facts.proofs.Numbers.{lower-half, upper-half}
 use Rattle.transfer_facts.proofs.constants.imm32_bits.Statement.{statement}
 use Rattle.transfer_facts.proofs.constants.imm32_bits.Tie as tie
 
-cast-bits : tie.Need-cast-bits
-cast-bits c = search needs
-
-cast-bits-2 : tie.Need-cast-bits-2
-cast-bits-2 c = search needs
-
-mul-bits : tie.Need-mul-bits
-mul-bits c = search needs
-
-add-bits : tie.Need-add-bits
-add-bits c = search needs
-
 returns : tie.Need-returns
 unfolding imm32
 returns c = lower-half (c .before .before .before .args .inst .b + 65536 * c .before .before .before .args .inst .c) (c .if1 .taken)
-
-add-result : tie.Need-add-result
-add-result c = search needs
 
 returns-2 : tie.Need-returns-2
 unfolding imm32
@@ -32,4 +17,4 @@ returns-2 c = upper-half (c .before .before .before .args .inst .b + 65536 * c .
 
 pub imm32-bits-spec : {M : Type 1} → statement M
 imm32-bits-spec =
-    tie.close (tie.spec cast-bits cast-bits-2 mul-bits add-bits returns add-result returns-2)
+    tie.close (tie.spec (λ c. search needs) (λ c. search needs) (λ c. search needs) (λ c. search needs) returns (λ c. search needs) returns-2)

@@ -8,16 +8,10 @@ use Rattle.transfer_facts.proofs.Numbers.{first-other, second-other, fo
 use Rattle.transfer_facts.proofs.constants.or_cell.Statement.{statement}
 use Rattle.transfer_facts.proofs.constants.or_cell.Tie as tie
 
-unknown-cell-requires : tie.Need-unknown-cell-requires
-unknown-cell-requires c κs = search needs
-
 returns : tie.Need-returns
 returns c =
     let s = c .before .before .before in
     c .unknown-cell .ensures ∙ ap cellOf (first-other or (s .args .left) (s .args .right) (c .before .if1 .taken))
-
-unknown-cell-requires-2 : tie.Need-unknown-cell-requires-2
-unknown-cell-requires-2 c κs = search needs
 
 returns-2 : tie.Need-returns-2
 returns-2 c =
@@ -31,5 +25,4 @@ returns-3 c =
     ap cellOf (folded or (s .args .left) (s .args .right) (c .before .before .before .before .if1 .left) (c .before .before .if2 .left))
 
 pub or-cell-spec : {M : Type 1} → statement M
-or-cell-spec =
-    tie.close (tie.spec unknown-cell-requires returns unknown-cell-requires-2 returns-2 returns-3)
+or-cell-spec = tie.close (tie.spec (λ c κs. search needs) returns (λ c κs. search needs) returns-2 returns-3)

@@ -8,32 +8,20 @@ use Rattle.transfer_facts.proofs.Numbers.{first-other, second-other, fo
 use Rattle.transfer_facts.proofs.constants.shl_cell.Statement.{statement}
 use Rattle.transfer_facts.proofs.constants.shl_cell.Tie as tie
 
-unknown-cell-requires : tie.Need-unknown-cell-requires
-unknown-cell-requires c κs = search needs
-
 returns : tie.Need-returns
 returns c =
     let s = c .before .before .before in
     c .unknown-cell .ensures ∙ ap cellOf (first-other shl (s .args .x) (s .args .y) (c .before .if1 .taken))
-
-unknown-cell-requires-2 : tie.Need-unknown-cell-requires-2
-unknown-cell-requires-2 c κs = search needs
 
 returns-2 : tie.Need-returns-2
 returns-2 c =
     let s = c .before .before .before .before .before in
     c .unknown-cell2 .ensures ∙ ap cellOf (second-other shl (s .args .x) (s .args .y) (c .before .before .before .if1 .left) (c .before .if2 .taken))
 
-unknown-cell-requires-3 : tie.Need-unknown-cell-requires-3
-unknown-cell-requires-3 c κs = search needs
-
 returns-3 : tie.Need-returns-3
 returns-3 c =
     let s = c .before .before .before .before .before .before .before in
     c .unknown-cell3 .ensures ∙ ap cellOf (shifted-out (s .args .x .value) (s .args .y .value) (c .before .if3 .taken) ∙ folded shl (s .args .x) (s .args .y) (c .before .before .before .before .before .if1 .left) (c .before .before .before .if2 .left))
-
-shl-t4 : tie.Need-shl-t4
-shl-t4 c = search needs
 
 returns-4 : tie.Need-returns-4
 unfolding cellOf kind value
@@ -43,13 +31,4 @@ returns-4 c =
 
 pub shl-cell-spec : {M : Type 1} → statement M
 shl-cell-spec =
-    tie.close
-    (tie.spec
-    unknown-cell-requires
-    returns
-    unknown-cell-requires-2
-    returns-2
-    unknown-cell-requires-3
-    returns-3
-    shl-t4
-    returns-4)
+    tie.close (tie.spec (λ c κs. search needs) returns (λ c κs. search needs) returns-2 (λ c κs. search needs) returns-3 (λ c. search needs) returns-4)

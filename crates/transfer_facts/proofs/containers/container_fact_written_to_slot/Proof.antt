@@ -11,25 +11,10 @@ use Rattle.transfer_facts.proofs.ContainerRules.{copies-container, iter
 use Rattle.transfer_facts.proofs.containers.container_fact_written_to_slot.Statement.{statement}
 use Rattle.transfer_facts.proofs.containers.container_fact_written_to_slot.Tie as tie
 
-wide-requires : tie.Need-wide-requires
-wide-requires c κs = search needs
-
-fact-for-tracked-source-requires : tie.Need-fact-for-tracked-source-requires
-fact-for-tracked-source-requires c κs = search needs
-
 returns : tie.Need-returns
 returns c slot =
     let s = c .before .before .before .before .before .before .before in
     copies-container (s .args .sheet .now) (s .args .pc) (s .args .inst) (s .pre .0 .3) (s .args .slots .now) (factsOf (s .args .kinds .now) (s .args .values .now)) slot (c .before .before .if1 .taken) (c .fact-for-tracked-source .ensures ∙ ap (λ (n : ℕ). cellOf (factFor (s .args .slots .now) (factsOf (s .args .kinds .now) (s .args .values .now)) n)) (c .before .wide .ensures .0))
-
-wide-requires-2 : tie.Need-wide-requires-2
-wide-requires-2 c κs = search needs
-
-fact-for-tracked-source-requires-2 : tie.Need-fact-for-tracked-source-requires-2
-fact-for-tracked-source-requires-2 c κs = search needs
-
-iter-init-cell-requires : tie.Need-iter-init-cell-requires
-iter-init-cell-requires c κs = search needs
 
 returns-2 : tie.Need-returns-2
 returns-2 c slot =
@@ -48,14 +33,5 @@ returns-3 c slot =
 
 pub container-fact-written-to-slot-spec : {M : Type 1} → statement M
 container-fact-written-to-slot-spec =
-    tie.close
-    (tie.spec
-    wide-requires
-    fact-for-tracked-source-requires
-    returns
-    wide-requires-2
-    fact-for-tracked-source-requires-2
-    iter-init-cell-requires
-    returns-2
-    instruction-fact-requires
-    returns-3)
+    tie.close (tie.spec (λ c κs. search needs) (λ c κs. search needs) returns (λ c κs. search needs) (λ c κs. search needs) (λ c κs. search needs)
+    returns-2 instruction-fact-requires returns-3)

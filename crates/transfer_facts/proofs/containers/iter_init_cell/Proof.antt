@@ -11,12 +11,9 @@ returns : tie.Need-returns
 unfolding cellOf kind value factIn
 returns c = ap cellOf (init-map _ (c .before .args .cell .value) (c .if1 .taken))
 
-iter-next-cell-requires : tie.Need-iter-next-cell-requires
-iter-next-cell-requires c κs = search needs
-
 returns-2 : tie.Need-returns-2
 unfolding factIn
 returns-2 c = c .iter-next-cell .ensures ∙ ap cellOf (init-other _ (c .before .before .args .cell .value) (c .before .if1 .left))
 
 pub iter-init-cell-spec : {M : Type 1} → statement M
-iter-init-cell-spec = tie.close (tie.spec returns iter-next-cell-requires returns-2)
+iter-init-cell-spec = tie.close (tie.spec returns (λ c κs. search needs) returns-2)

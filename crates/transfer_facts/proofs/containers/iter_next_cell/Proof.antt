@@ -7,9 +7,6 @@ use Rattle.transfer_facts.proofs.Iterators.{next-conflict, next-iter, n
 use Rattle.transfer_facts.proofs.containers.iter_next_cell.Statement.{statement}
 use Rattle.transfer_facts.proofs.containers.iter_next_cell.Tie as tie
 
-conflict-cell-requires : tie.Need-conflict-cell-requires
-conflict-cell-requires c κs = search needs
-
 returns : tie.Need-returns
 unfolding factIn
 returns c = c .conflict-cell .ensures ∙ ap cellOf (next-conflict _ (c .before .before .args .cell .value) (c .before .if1 .taken))
@@ -18,13 +15,9 @@ returns-2 : tie.Need-returns-2
 unfolding cellOf kind value factIn
 returns-2 c = ap cellOf (next-iter _ (c .before .before .args .cell .value) (c .if2 .taken))
 
-unknown-cell-requires : tie.Need-unknown-cell-requires
-unknown-cell-requires c κs = search needs
-
 returns-3 : tie.Need-returns-3
 unfolding factIn
 returns-3 c = c .unknown-cell .ensures ∙ ap cellOf (next-other _ (c .before .before .before .args .cell .value) (c .before .before .if1 .left) (c .before .if2 .left))
 
 pub iter-next-cell-spec : {M : Type 1} → statement M
-iter-next-cell-spec =
-    tie.close (tie.spec conflict-cell-requires returns returns-2 unknown-cell-requires returns-3)
+iter-next-cell-spec = tie.close (tie.spec (λ c κs. search needs) returns returns-2 (λ c κs. search needs) returns-3)

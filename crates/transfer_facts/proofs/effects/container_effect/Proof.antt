@@ -10,22 +10,10 @@ use Rattle.transfer_facts.proofs.EffectRules.{iterates-on, container-ef
 use Rattle.transfer_facts.proofs.effects.container_effect.Statement.{statement}
 use Rattle.transfer_facts.proofs.effects.container_effect.Tie as tie
 
-wide-requires : tie.Need-wide-requires
-wide-requires c κs = search needs
-
-fact-for-tracked-source-requires : tie.Need-fact-for-tracked-source-requires
-fact-for-tracked-source-requires c κs = search needs
-
-iter-next-cell-requires : tie.Need-iter-next-cell-requires
-iter-next-cell-requires c κs = search needs
-
 returns : tie.Need-returns
 returns c =
     let s = c .before .before .before .before .before .before .before .before .before in
     iterates-on (s .args .sheet .now) (s .args .pc) (s .args .slots .now) (factsOf (s .args .kinds .now) (s .args .values .now)) (s .args .inst) (s .pre .0 .3) (c .before .before .before .if1 .taken) (c .iter-next-cell .ensures ∙ ap (λ (x : Fact). cellOf (iterNext x)) (read _ (c .before .fact-for-tracked-source .ensures ∙ ap (λ (n : ℕ). cellOf (factFor (s .args .slots .now) (factsOf (s .args .kinds .now) (s .args .values .now)) n)) (c .before .before .wide .ensures .0))))
-
-container-fact-written-to-slot-requires : tie.Need-container-fact-written-to-slot-requires
-container-fact-written-to-slot-requires c κs = search needs
 
 returns-2 : tie.Need-returns-2
 returns-2 c =
@@ -34,11 +22,4 @@ returns-2 c =
 
 pub container-effect-spec : {M : Type 1} → statement M
 container-effect-spec =
-    tie.close
-    (tie.spec
-    wide-requires
-    fact-for-tracked-source-requires
-    iter-next-cell-requires
-    returns
-    container-fact-written-to-slot-requires
-    returns-2)
+    tie.close (tie.spec (λ c κs. search needs) (λ c κs. search needs) (λ c κs. search needs) returns (λ c κs. search needs) returns-2)

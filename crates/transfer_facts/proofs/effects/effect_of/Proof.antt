@@ -16,21 +16,6 @@ returns c =
 enum-told : tie.Need-enum-told
 enum-told c = search needs
 
-constant-fact-written-to-slot-requires : tie.Need-constant-fact-written-to-slot-requires
-constant-fact-written-to-slot-requires c κs = search needs
-
-enum-told-2 : tie.Need-enum-told-2
-enum-told-2 c = search needs
-
-index-check-fact-written-to-slot-requires : tie.Need-index-check-fact-written-to-slot-requires
-index-check-fact-written-to-slot-requires c κs = search needs
-
-enum-told-3 : tie.Need-enum-told-3
-enum-told-3 c = search needs
-
-container-effect-requires : tie.Need-container-effect-requires
-container-effect-requires c κs = search needs
-
 returns-2 : tie.Need-returns-2
 returns-2 c =
     let s = c .before .before .before .before .before .before .before .before .before in
@@ -48,15 +33,5 @@ returns-4 c =
 
 pub effect-of-spec : {M : Type 1} → statement M
 effect-of-spec =
-    tie.close
-    (tie.spec
-    returns
-    enum-told
-    constant-fact-written-to-slot-requires
-    enum-told-2
-    index-check-fact-written-to-slot-requires
-    enum-told-3
-    container-effect-requires
-    returns-2
-    returns-3
-    returns-4)
+    tie.close (tie.spec returns enum-told (λ c κs. search needs) (λ c. search needs) (λ c κs. search needs) (λ c. search needs) (λ c κs. search needs)
+    returns-2 returns-3 returns-4)

@@ -5,49 +5,25 @@ use Rattle.transfer_facts.proofs.Targets.{filled-outside, filled-past, 
 use Rattle.transfer_facts.proofs.effects.effect_on_slot.Statement.{statement}
 use Rattle.transfer_facts.proofs.effects.effect_on_slot.Tie as tie
 
-enum-known-effect : tie.Need-enum-known-effect
-enum-known-effect c = search needs
-
-unknown-cell-requires : tie.Need-unknown-cell-requires
-unknown-cell-requires c κs = search needs
-
 returns : tie.Need-returns
 returns c =
     let s = c .before .before .before .before .before .before .before .before in
     filled-outside (s .args .slots .now) (factsOf (s .args .kinds .now) (s .args .values .now)) (s .args .slot) _ _ (s .args .effect) _ (c .before .before .before .effect .given .1) (c .before .if1 .taken) (c .unknown-cell .ensures)
-
-unknown-cell-requires-2 : tie.Need-unknown-cell-requires-2
-unknown-cell-requires-2 c κs = search needs
 
 returns-2 : tie.Need-returns-2
 returns-2 c =
     let s = c .before .before .before .before .before .before .before .before .before in
     filled-past (s .args .slots .now) (factsOf (s .args .kinds .now) (s .args .values .now)) (s .args .slot) _ _ (s .args .effect) _ (c .before .before .before .before .effect .given .1) (c .before .before .if1 .left) (c .before .if2 .taken) (c .unknown-cell2 .ensures)
 
-enum-known-effect-2 : tie.Need-enum-known-effect-2
-enum-known-effect-2 c = search needs
-
-unknown-cell-requires-3 : tie.Need-unknown-cell-requires-3
-unknown-cell-requires-3 c κs = search needs
-
 returns-3 : tie.Need-returns-3
 returns-3 c =
     let s = c .before .before .before .before .before .before .before .before in
     copied-outside (s .args .slots .now) (factsOf (s .args .kinds .now) (s .args .values .now)) (s .args .slot) _ _ (s .args .effect) _ (c .before .before .before .effect2 .given .1) (c .before .if3 .taken) (c .unknown-cell3 .ensures)
 
-unknown-cell-requires-4 : tie.Need-unknown-cell-requires-4
-unknown-cell-requires-4 c κs = search needs
-
 returns-4 : tie.Need-returns-4
 returns-4 c =
     let s = c .before .before .before .before .before .before .before .before .before in
     copied-past (s .args .slots .now) (factsOf (s .args .kinds .now) (s .args .values .now)) (s .args .slot) _ _ (s .args .effect) _ (c .before .before .before .before .effect2 .given .1) (c .before .before .if3 .left) (c .before .if4 .taken) (c .unknown-cell4 .ensures)
-
-source-slot-requires : tie.Need-source-slot-requires
-source-slot-requires c κs = search needs
-
-fact-for-tracked-source-requires : tie.Need-fact-for-tracked-source-requires
-fact-for-tracked-source-requires c κs = search needs
 
 returns-5 : tie.Need-returns-5
 returns-5 c =
@@ -61,19 +37,5 @@ returns-6 c =
 
 pub effect-on-slot-spec : {M : Type 1} → statement M
 effect-on-slot-spec =
-    tie.close
-    (tie.spec
-    enum-known-effect
-    unknown-cell-requires
-    returns
-    unknown-cell-requires-2
-    returns-2
-    enum-known-effect-2
-    unknown-cell-requires-3
-    returns-3
-    unknown-cell-requires-4
-    returns-4
-    source-slot-requires
-    fact-for-tracked-source-requires
-    returns-5
-    returns-6)
+    tie.close (tie.spec (λ c. search needs) (λ c κs. search needs) returns (λ c κs. search needs) returns-2 (λ c. search needs) (λ c κs. search needs)
+    returns-3 (λ c κs. search needs) returns-4 (λ c κs. search needs) (λ c κs. search needs) returns-5 returns-6)

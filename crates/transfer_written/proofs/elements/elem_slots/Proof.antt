@@ -6,20 +6,11 @@ use Rattle.transfer_written.proofs.Notes.{note-elements, flag-elements}
 use Rattle.transfer_written.proofs.elements.elem_slots.Statement.{statement}
 use Rattle.transfer_written.proofs.elements.elem_slots.Tie as tie
 
-note-kind-at-requires : tie.Need-note-kind-at-requires
-note-kind-at-requires c κs = search needs
-
-note-length-requires : tie.Need-note-length-requires
-note-length-requires c κs = search needs
-
 returns : tie.Need-returns
 returns c = note-elements (now (c .before .before .before .before .args .sheet)) (c .before .before .before .before .args .pc) (c .before .before .note-kind-at .result) (c .before .before .note-kind-at .ensures) (c .before .if1 .taken) (c .note-length .result) (c .note-length .ensures)
-
-cast-result : tie.Need-cast-result
-cast-result c = search needs
 
 returns-2 : tie.Need-returns-2
 returns-2 c = flag-elements (now (c .before .before .before .before .args .sheet)) (c .before .before .before .before .args .pc) (c .before .before .note-kind-at .result) (c .before .before .note-kind-at .ensures) (c .before .if1 .left) (c .before .before .before .before .args .inst) (c .before .before .before .before .pre .2)
 
 pub elem-slots-spec : {M : Type 1} → statement M
-elem-slots-spec = tie.close (tie.spec note-kind-at-requires note-length-requires returns cast-result returns-2)
+elem-slots-spec = tie.close (tie.spec (λ c κs. search needs) (λ c κs. search needs) returns (λ c. search needs) returns-2)

@@ -6,12 +6,6 @@ use Rattle.transfer_written.proofs.Notes.{elements, no-elements}
 use Rattle.transfer_written.proofs.elements.has_elements.Statement.{statement}
 use Rattle.transfer_written.proofs.elements.has_elements.Tie as tie
 
-note-kind-at-requires : tie.Need-note-kind-at-requires
-note-kind-at-requires c κs = search needs
-
-note-length-requires : tie.Need-note-length-requires
-note-length-requires c κs = search needs
-
 returns : tie.Need-returns
 returns c = elements (now (c .before .before .before .before .args .sheet)) (c .before .before .before .before .args .pc) (c .before .before .note-kind-at .result) (c .before .before .note-kind-at .ensures) (c .before .if1 .taken) (c .note-length .result) (c .note-length .ensures)
 
@@ -19,4 +13,4 @@ returns-2 : tie.Need-returns-2
 returns-2 c = no-elements (now (c .before .before .before .args .sheet)) (c .before .before .before .args .pc) (c .before .note-kind-at .result) (c .before .note-kind-at .ensures) (c .if1 .left)
 
 pub has-elements-spec : {M : Type 1} → statement M
-has-elements-spec = tie.close (tie.spec note-kind-at-requires note-length-requires returns returns-2)
+has-elements-spec = tie.close (tie.spec (λ c κs. search needs) (λ c κs. search needs) returns returns-2)

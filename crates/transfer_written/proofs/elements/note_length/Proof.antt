@@ -7,17 +7,8 @@ use Rattle.model.specs.Sheet.{layoutLength}
 use Rattle.transfer_written.proofs.elements.note_length.Statement.{statement}
 use Rattle.transfer_written.proofs.elements.note_length.Tie as tie
 
-note-a-at-requires : tie.Need-note-a-at-requires
-note-a-at-requires c κs = search needs
-
-cast-layout-length-at : tie.Need-cast-layout-length-at
-cast-layout-length-at c = search needs
-
-layout-length-at-requires : tie.Need-layout-length-at-requires
-layout-length-at-requires c κs = search needs
-
 returns : tie.Need-returns
 returns c = c .layout-length-at .ensures ∙ ap (layoutLength (now (c .before .before .before .args .sheet))) (c .before .note-a-at .ensures)
 
 pub note-length-spec : {M : Type 1} → statement M
-note-length-spec = tie.close (tie.spec note-a-at-requires cast-layout-length-at layout-length-at-requires returns)
+note-length-spec = tie.close (tie.spec (λ c κs. search needs) (λ c. search needs) (λ c κs. search needs) returns)

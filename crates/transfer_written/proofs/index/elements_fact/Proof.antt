@@ -7,12 +7,6 @@ use Rattle.transfer_written.proofs.Spans.{set-elements, setn-elements, 
 use Rattle.transfer_written.proofs.index.elements_fact.Statement.{statement}
 use Rattle.transfer_written.proofs.index.elements_fact.Tie as tie
 
-wide-requires : tie.Need-wide-requires
-wide-requires c κs = search needs
-
-fact-for-tracked-source-requires : tie.Need-fact-for-tracked-source-requires
-fact-for-tracked-source-requires c κs = search needs
-
 returns : tie.Need-returns
 returns c =
     let s = c .before .before .before .before .before .before in
@@ -22,18 +16,8 @@ returns c =
     (λ w. setn-elements (s .args .slots .now) row (c .before .wide .ensures .0) (c .fact-for-tracked-source .ensures) (eqb-true _ 8 (w .1 .taken)))
     (c .before .before .if1 .came)
 
-unknown-cell-requires : tie.Need-unknown-cell-requires
-unknown-cell-requires c κs = search needs
-
 returns-2 : tie.Need-returns-2
 returns-2 c = no-elements-fact (c .before .before .if1 .left) (eqb-false _ 8 (c .before .if2 .left)) _ (c .unknown-cell .ensures)
 
 pub elements-fact-spec : {M : Type 1} → statement M
-elements-fact-spec =
-    tie.close
-    (tie.spec
-    wide-requires
-    fact-for-tracked-source-requires
-    returns
-    unknown-cell-requires
-    returns-2)
+elements-fact-spec = tie.close (tie.spec (λ c κs. search needs) (λ c κs. search needs) returns (λ c κs. search needs) returns-2)

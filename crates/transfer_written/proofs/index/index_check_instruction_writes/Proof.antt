@@ -7,9 +7,6 @@ use Rattle.transfer_written.proofs.Spans.{unchecked-spans, checked-span
 use Rattle.transfer_written.proofs.index.index_check_instruction_writes.Statement.{statement}
 use Rattle.transfer_written.proofs.index.index_check_instruction_writes.Tie as tie
 
-span-requires : tie.Need-span-requires
-span-requires c κs = search needs
-
 returns : tie.Need-returns
 unfolding factIn
 returns c =
@@ -21,17 +18,11 @@ elem-slots-requires c κs =
     let s = c .before .before .before .before .before .before in
     (measured (s .pre .0 .0), s .pre .0 .2, s .pre .1)
 
-span-requires-2 : tie.Need-span-requires-2
-span-requires-2 c κs = search needs
-
 returns-2 : tie.Need-returns-2
 unfolding factIn
 returns-2 c =
     let s = c .before .before .before .before .before .before .before .before in
     checked-n-spans (s .args .sheet .now) (s .args .pc) (s .args .inst) (s .pre .1) (s .args .before .kind) (s .args .before .value) (c .before .before .before .before .if1 .taken) (c .before .before .if3 .taken) (c .before .elem-slots .ensures) (c .span2 .ensures)
-
-instruction-writes-requires : tie.Need-instruction-writes-requires
-instruction-writes-requires c κs = search needs
 
 returns-3 : tie.Need-returns-3
 unfolding factIn
@@ -44,12 +35,4 @@ returns-3 c =
 
 pub index-check-instruction-writes-spec : {M : Type 1} → statement M
 index-check-instruction-writes-spec =
-    tie.close
-    (tie.spec
-    span-requires
-    returns
-    elem-slots-requires
-    span-requires-2
-    returns-2
-    instruction-writes-requires
-    returns-3)
+    tie.close (tie.spec (λ c κs. search needs) returns elem-slots-requires (λ c κs. search needs) returns-2 (λ c κs. search needs) returns-3)

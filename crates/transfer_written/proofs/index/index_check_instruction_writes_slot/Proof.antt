@@ -8,9 +8,6 @@ use Rattle.transfer_written.proofs.Exact.{index-spans-are}
 use Rattle.transfer_written.proofs.index.index_check_instruction_writes_slot.Statement.{statement}
 use Rattle.transfer_written.proofs.index.index_check_instruction_writes_slot.Tie as tie
 
-index-check-instruction-writes-requires : tie.Need-index-check-instruction-writes-requires
-index-check-instruction-writes-requires c κs = search needs
-
 holds-requires : tie.Need-holds-requires
 holds-requires c κs =
     let s = c .before .before .before in
@@ -22,4 +19,4 @@ returns c =
     c .holds .ensures ∙ rw (c .before .index-check-instruction-writes .ensures) (index-spans-are (s .pre .0 .0) (s .args .pc) (s .pre .0 .2) (factIn (s .args .before)) .slots (s .args .slot) (omega arith))
 
 pub index-check-instruction-writes-slot-spec : {M : Type 1} → statement M
-index-check-instruction-writes-slot-spec = tie.close (tie.spec index-check-instruction-writes-requires holds-requires returns)
+index-check-instruction-writes-slot-spec = tie.close (tie.spec (λ c κs. search needs) holds-requires returns)

@@ -8,24 +8,6 @@ use Rattle.transfer_written.proofs.index.slots_written.Tie as tie
 enum-told : tie.Need-enum-told
 enum-told c = search needs
 
-instruction-writes-requires : tie.Need-instruction-writes-requires
-instruction-writes-requires c κs = search needs
-
-enum-told-2 : tie.Need-enum-told-2
-enum-told-2 c = search needs
-
-elements-fact-requires : tie.Need-elements-fact-requires
-elements-fact-requires c κs = search needs
-
-index-check-instruction-writes-requires : tie.Need-index-check-instruction-writes-requires
-index-check-instruction-writes-requires c κs = search needs
-
-enum-told-3 : tie.Need-enum-told-3
-enum-told-3 c = search needs
-
-instruction-writes-requires-2 : tie.Need-instruction-writes-requires-2
-instruction-writes-requires-2 c κs = search needs
-
 returns : tie.Need-returns
 returns c =
     let s = c .before .before .before .before .before .before .before .before in
@@ -43,15 +25,5 @@ returns-3 c =
 
 pub slots-written-spec : {M : Type 1} → statement M
 slots-written-spec =
-    tie.close
-    (tie.spec
-    enum-told
-    instruction-writes-requires
-    enum-told-2
-    elements-fact-requires
-    index-check-instruction-writes-requires
-    enum-told-3
-    instruction-writes-requires-2
-    returns
-    returns-2
-    returns-3)
+    tie.close (tie.spec enum-told (λ c κs. search needs) (λ c. search needs) (λ c κs. search needs) (λ c κs. search needs) (λ c. search needs)
+    (λ c κs. search needs) returns returns-2 returns-3)

@@ -12,9 +12,6 @@ Inv-loop sheet sizes written slot n i₀ i = NoneHolds written sheet slot i
 abbrev μ-loop : tie.MeasureT-loop
 μ-loop sheet sizes written slot n i₀ i = n - i
 
-range-count-requires : tie.Need-range-count-requires Inv-loop μ-loop
-range-count-requires c κs = search needs
-
 loop-holds : tie.Need-loop-holds Inv-loop μ-loop
 loop-holds c = none-yet _ _ _
 
@@ -23,19 +20,10 @@ range-of-requires c κs =
     let s = c .before .before .before .before in
     (s .pre .0, s .pre .1, omega (arith, c .before .before .range-count .ensures))
 
-in-range-requires : tie.Need-in-range-requires Inv-loop μ-loop
-in-range-requires c κs = search needs
-
 returns : tie.Need-returns Inv-loop μ-loop
 returns c =
     one-holds _ _ _ _ (c .before .before .range-of .ensures) (c .before .in-range .ensures)
     (omega (arith, c .before .before .before .before .before .range-count .ensures)) (c .if1 .taken)
-
-add-i : tie.Need-add-i Inv-loop μ-loop
-add-i c = omega arith
-
-loop-less : tie.Need-loop-less Inv-loop μ-loop
-loop-less c = omega arith
 
 loop-again : tie.Need-loop-again Inv-loop μ-loop
 loop-again c =
@@ -47,16 +35,5 @@ returns-2 c = none-of-all _ _ _ (c .before .loop .inv) (omega (arith, c .before 
 
 pub holds-spec : {M : Type 1} → statement M
 holds-spec =
-    tie.close
-    (tie.spec
-    Inv-loop
-    μ-loop
-    range-count-requires
-    loop-holds
-    range-of-requires
-    in-range-requires
-    returns
-    add-i
-    loop-less
-    loop-again
-    returns-2)
+    tie.close (tie.spec Inv-loop μ-loop (λ c κs. search needs) loop-holds range-of-requires (λ c κs. search needs) returns (λ c. omega arith)
+    (λ c. omega arith) loop-again returns-2)

@@ -8,11 +8,8 @@ use Rattle.transfer_written.proofs.ranges.in_range.Tie as tie
 returns : tie.Need-returns
 returns c = before (c .before .args .slot) (c .before .args .start) (c .before .args .count) (c .if1 .taken)
 
-cast-result : tie.Need-cast-result
-cast-result c = search needs
-
 returns-2 : tie.Need-returns-2
 returns-2 c = from-start (c .before .args .slot) (c .before .args .start) (c .before .args .count) (c .if1 .left)
 
 pub in-range-spec : {M : Type 1} → statement M
-in-range-spec = tie.close (tie.spec returns cast-result returns-2)
+in-range-spec = tie.close (tie.spec returns (λ c. search needs) returns-2)

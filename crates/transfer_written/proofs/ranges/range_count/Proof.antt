@@ -7,9 +7,6 @@ use Rattle.transfer_written.proofs.ranges.range_count.Tie as tie
 enum-told : tie.Need-enum-told
 enum-told c = search needs
 
-enum-known-written : tie.Need-enum-known-written
-enum-known-written c = search needs
-
 returns : tie.Need-returns
 returns c = span-count (c .enum-told .given .1)
 
@@ -17,4 +14,4 @@ returns-2 : tie.Need-returns-2
 returns-2 c = ranges-count (c .before .written .given .1)
 
 pub range-count-spec : {M : Type 1} → statement M
-range-count-spec = tie.close (tie.spec enum-told enum-known-written returns returns-2)
+range-count-spec = tie.close (tie.spec enum-told (λ c. search needs) returns returns-2)

@@ -6,12 +6,6 @@ use Rattle.transfer_written.proofs.InRanges.{span-range, range-inside, 
 use Rattle.transfer_written.proofs.ranges.range_of.Statement.{statement}
 use Rattle.transfer_written.proofs.ranges.range_of.Tie as tie
 
-enum-known-written : tie.Need-enum-known-written
-enum-known-written c = search needs
-
-enum-known-written-2 : tie.Need-enum-known-written-2
-enum-known-written-2 c = search needs
-
 add-range-start-at : tie.Need-add-range-start-at
 add-range-start-at c =
     let start = c .before .before .before .before in
@@ -32,9 +26,6 @@ range-length-at-requires c κs =
     let start = c .before .before .before .before .before in
     (start .pre .0, range-inside (c .before .before .written2 .given .1) (start .pre .1) (start .pre .2))
 
-cast-t13 : tie.Need-cast-t13
-cast-t13 c = search needs
-
 returns : tie.Need-returns
 returns c = span-range _ _ (c .before .written .given .1)
 
@@ -43,14 +34,5 @@ returns-2 c = sheet-range (c .before .before .before .written2 .given .1) _ _ (c
 
 pub range-of-spec : {M : Type 1} → statement M
 range-of-spec =
-    tie.close
-    (tie.spec
-    enum-known-written
-    enum-known-written-2
-    add-range-start-at
-    range-start-at-requires
-    add-range-length-at
-    range-length-at-requires
-    cast-t13
-    returns
-    returns-2)
+    tie.close (tie.spec (λ c. search needs) (λ c. search needs) add-range-start-at range-start-at-requires add-range-length-at
+    range-length-at-requires (λ c. search needs) returns returns-2)

@@ -23,12 +23,6 @@ shared-slice-read-wide c =
     let s = c .before .before .before .before .before in
     in-firsts (s .pre .0) (s .pre .1) (s .args .pc) (s .pre .2)
 
-wide-requires : tie.Need-wide-requires
-wide-requires c κs = search needs
-
-wide-requires-2 : tie.Need-wide-requires-2
-wide-requires-2 c κs = search needs
-
 returns-2 : tie.Need-returns-2
 returns-2 c =
     let s = c .before .before .before .before .before .before .before in
@@ -36,12 +30,4 @@ returns-2 c =
 
 pub ranges-written-spec : {M : Type 1} → statement M
 ranges-written-spec =
-    tie.close
-    (tie.spec
-    write-count-at-requires
-    returns
-    mul-wide
-    shared-slice-read-wide
-    wide-requires
-    wide-requires-2
-    returns-2)
+    tie.close (tie.spec write-count-at-requires returns mul-wide shared-slice-read-wide (λ c κs. search needs) (λ c κs. search needs) returns-2)

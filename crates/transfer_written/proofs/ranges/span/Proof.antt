@@ -14,11 +14,8 @@ mul-result c = record { fits = omega (arith, mul-le-mul-right {m = c .before .ar
 returns : tie.Need-returns
 returns c = let few : min (c .before .args .len) 65536 ≡ c .before .args .len = omega arith in rw few
 
-mul-result-2 : tie.Need-mul-result-2
-mul-result-2 c = search needs
-
 returns-2 : tie.Need-returns-2
 returns-2 c = let many : min (c .before .args .len) 65536 ≡ 65536 = omega arith in rw many
 
 pub span-spec : {M : Type 1} → statement M
-span-spec = tie.close (tie.spec mul-result returns mul-result-2 returns-2)
+span-spec = tie.close (tie.spec mul-result returns (λ c. search needs) returns-2)

@@ -23,15 +23,10 @@ returns-3 c =
     let s = c .before .before .before .before .before .before in
     no-spans (s .args .sheet .now) (s .args .pc) (s .args .inst) (s .pre .1) (c .before .before .if2 .taken) (c .before .has-elements .ensures) (c .if3 .left)
 
-ranges-written-requires : tie.Need-ranges-written-requires
-ranges-written-requires c κs = search needs
-
 returns-4 : tie.Need-returns-4
 returns-4 c =
     let s = c .before .before .before .before .before in
     other-spans (s .args .sheet .now) (s .args .pc) (s .args .inst) (s .pre .1) (c .before .before .if1 .left) (c .before .if2 .left) (c .ranges-written .ensures)
 
 pub instruction-writes-spec : {M : Type 1} → statement M
-instruction-writes-spec =
-    tie.close
-    (tie.spec returns has-elements-requires returns-2 returns-3 ranges-written-requires returns-4)
+instruction-writes-spec = tie.close (tie.spec returns has-elements-requires returns-2 returns-3 (λ c κs. search needs) returns-4)

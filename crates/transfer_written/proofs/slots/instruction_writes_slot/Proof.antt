@@ -7,9 +7,6 @@ use Rattle.transfer_written.proofs.Exact.{spans-are}
 use Rattle.transfer_written.proofs.slots.instruction_writes_slot.Statement.{statement}
 use Rattle.transfer_written.proofs.slots.instruction_writes_slot.Tie as tie
 
-instruction-writes-requires : tie.Need-instruction-writes-requires
-instruction-writes-requires c κs = search needs
-
 holds-requires : tie.Need-holds-requires
 holds-requires c κs =
     let s = c .before .before .before in
@@ -21,4 +18,4 @@ returns c =
     c .holds .ensures ∙ rw (c .before .instruction-writes .ensures) (spans-are (s .pre .0 .0) (s .args .pc) (s .pre .0 .2) .slots (s .args .slot) (omega arith))
 
 pub instruction-writes-slot-spec : {M : Type 1} → statement M
-instruction-writes-slot-spec = tie.close (tie.spec instruction-writes-requires holds-requires returns)
+instruction-writes-slot-spec = tie.close (tie.spec (λ c κs. search needs) holds-requires returns)
