@@ -4,11 +4,11 @@
 mod limits;
 mod question_5;
 mod sums;
-mod whole;
+mod sheet_check;
 
 pub use question_5::kinds_named;
 use sheet::Sizes;
-pub use whole::check_sheet;
+pub use sheet_check::check_sheet;
 
 // What the questions come to that are asked before any charge, 1 to 5 of a sheet and 6 of a call: the sheet's sizes, or the number of the
 // first that refuses.

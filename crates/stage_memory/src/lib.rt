@@ -1,9 +1,9 @@
 // What is cleared of the lent memory, before an analysis and behind it.
 mod clearing;
-mod concluding;
+mod conclusion;
 
 pub use clearing::clear_rows;
 pub use clearing::clear_scratch;
 pub use clearing::clear_table;
 pub use clearing::clear_table_if;
-pub use concluding::conclude;
+pub use conclusion::conclude;

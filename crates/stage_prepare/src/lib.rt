@@ -1,10 +1,10 @@
 // A stage up to its run: closure, question 8, matrix charge and entry row. It sees neither tables nor work list.
 mod begin;
 mod entry;
-mod preparing;
+mod preparation;
 
 use budget::Outcome;
-pub use preparing::prepare;
+pub use preparation::prepare;
 
 // How long the tables and the work list are, of which question 8 asks.
 pub struct Room {
