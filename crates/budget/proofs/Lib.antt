@@ -1,6 +1,6 @@
 -- Equal charges in a row
-pub mod Row
+pub mod EqualCharges
 -- Parts that spend, one after the other
 pub mod Spending
 -- What a part came to and left
-pub mod Left
+pub mod Outcomes

@@ -11,7 +11,7 @@ use Rattle.model.proofs.Loops.{each-stops}
 use Rattle.budget.specs.Outcome.{asSpent}
 use Rattle.budget.specs.declared.Outcome.{Outcome}
 use Rattle.budget.specs.declared.Outcome.the-variants.{Covered}
-use Rattle.budget.proofs.Left.{Stopped, NotCovered, stopped-then, stopped-spent, spent-stopped}
+use Rattle.budget.proofs.Outcomes.{Stopped, NotCovered, stopped-then, stopped-spent, spent-stopped}
 
 module _ {A B : Type 0} (part : Metered A) (next : Metered B) (budget : VerifierResources) where
   pub then-covered : {a : A} {left : VerifierResources} → part budget ≡ ok a left → (part >> next) budget ≡ next left

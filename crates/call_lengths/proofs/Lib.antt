@@ -1,6 +1,6 @@
 -- The laws of this crate. For the caller of `length_facts`: Stored, what its tables read as, and Runs, that the index run is the same by them.
-pub mod Tables
-pub mod Stored
-pub mod Runs
+pub mod EndedTables
+pub mod LengthTables
+pub mod IndexRuns
 -- The laws of this crate.
-pub mod Storing
+pub mod ConstantTables

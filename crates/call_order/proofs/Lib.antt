@@ -1,6 +1,6 @@
 -- The laws of this crate.
-pub mod Then
-pub mod Same
-pub mod Cleared
-pub mod Constants
-pub mod Order
+pub mod PartAfterPart
+pub mod SameStages
+pub mod ClearedOutputs
+pub mod ConstantOutput
+pub mod CallOrder

@@ -1,6 +1,6 @@
 -- Signed offsets, and their sums with an instruction's number
-pub mod Signed
+pub mod SignedOffsets
 -- What a target adds to the successors
-pub mod Pushes
+pub mod TargetTests
 -- The successors, by the way in which the instruction goes on
-pub mod Going
+pub mod FlowCases

@@ -1,2 +1,2 @@
 -- Each way to answer a question
-pub mod Answering
+pub mod AnswerLines

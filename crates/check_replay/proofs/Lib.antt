@@ -1,4 +1,4 @@
 -- The laws of the calls, and of the numbers that are printed.
-pub mod Called
-pub mod Replayed
-pub mod Spaced
+pub mod CallBuffers
+pub mod CallsInTurn
+pub mod SpacedNumbers

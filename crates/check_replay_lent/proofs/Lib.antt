@@ -1,3 +1,3 @@
 -- The laws of the loops that fill a room, and that put a list into a checksum.
-pub mod Filled
-pub mod Summed
+pub mod PatternLoop
+pub mod ChecksumLoop

@@ -1,4 +1,4 @@
 -- The loop of the closure
-pub mod Expanding
+pub mod ExpandLoop
 -- The whole closure
-pub mod Tracking
+pub mod TrackedSlots

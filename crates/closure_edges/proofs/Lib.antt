@@ -1,10 +1,10 @@
 -- The edges of an instruction as rows
-pub mod Rows
+pub mod EdgeRows
 -- What the instructions' charges are
-pub mod Charging
+pub mod EdgeCharges
 -- The edges to one slot
-pub mod Into
+pub mod EdgesToSlot
 -- The laws of this crate. For other crates to cite: Chains.
-pub mod Ordering
-pub mod Linking
-pub mod Chains
+pub mod Buckets
+pub mod ChainLoops
+pub mod ChainEdges

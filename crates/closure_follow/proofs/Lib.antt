@@ -1,2 +1,2 @@
 -- The edges to one slot
-pub mod Following
+pub mod FollowEdges

@@ -1,6 +1,6 @@
 -- Marks and stack, as they lie in lent memory
-pub mod Marking
+pub mod Marks
 -- The places of the marks
-pub mod Listing
+pub mod MarkedSlots
 -- The seeds of an analysis
-pub mod Seeding
+pub mod Seeds

@@ -1,2 +1,2 @@
 -- What the numbers of C say of a call
-pub mod Handed
+pub mod Wrappers

@@ -1,5 +1,5 @@
 -- The closure without a budget: its charges are few, and what a call's closures give is what it gives. Then what a loader is told.
-pub mod Few
-pub mod Free
-pub mod Exact
-pub mod Telling
+pub mod EdgeBound
+pub mod Unlimited
+pub mod TrackedCounts
+pub mod RoomAnswers

@@ -1,2 +1,2 @@
 -- What is lent, and what the call's text comes to
-pub mod Lent
+pub mod ListedCall

@@ -1,2 +1,2 @@
 -- The listing, question by question
-pub mod Asked
+pub mod ListingQuestions

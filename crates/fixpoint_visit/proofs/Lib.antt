@@ -1,3 +1,3 @@
 -- The laws of this crate, in order: one visit, then those of the successors.
-pub mod Laying
-pub mod Visits
+pub mod VisitedTables
+pub mod TwoSuccessors

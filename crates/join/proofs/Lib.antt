@@ -1,9 +1,9 @@
 -- Joins of two cells, by the tests of the code
-pub mod Cells
+pub mod CellJoins
 -- Containers, by kind and classes
-pub mod Classes
+pub mod ContainerEquality
 -- A row that a loop joins from the left
-pub mod Fill
-pub mod Changes
-pub mod Joined
-pub mod Joining
+pub mod Prefixes
+pub mod CellChanges
+pub mod JoinedPlaces
+pub mod JoinLoop

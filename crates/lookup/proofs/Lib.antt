@@ -1,8 +1,8 @@
 -- What the tests of a lookup show
-pub mod Show
-pub mod Answers
+pub mod FixedSlots
+pub mod LookupAnswers
 -- Lookups in what a call left
-pub mod Named
-pub mod Transfers
-pub mod Tables
-pub mod Call
+pub mod NamedKinds
+pub mod NamedTransfers
+pub mod RowLookups
+pub mod AfterCall

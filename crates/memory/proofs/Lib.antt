@@ -1,3 +1,3 @@
 -- The laws of `front`, and of the loops that write it, for any element.
 pub mod Front
-pub mod Turned
+pub mod StoreLoops

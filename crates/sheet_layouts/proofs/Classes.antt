@@ -17,14 +17,14 @@ use Rattle.model.specs.declared.AnalysisKind.{AnalysisKind}
 use Rattle.model.specs.declared.AnalysisKind.the-variants.{Constant, IndexCheck, Container}
 use Rattle.memory.specs.Front.{front}
 use Rattle.memory.proofs.Front.{length-front, getD-front, front-whole, front-holds}
-use Rattle.memory.proofs.Turned.{Turned}
+use Rattle.memory.proofs.StoreLoops.{Turned}
 use Rattle.sheet.specs.declared.Sizes.{Sizes}
-use Rattle.sheet.proofs.Limited.{limited}
-use Rattle.sheet.proofs.Asked.{measured}
+use Rattle.sheet.proofs.SizeLimits.{limited}
+use Rattle.sheet.proofs.AcceptedSheet.{measured}
 use Rattle.sheet_layouts.specs.Readable.{Readable}
 use Rattle.sheet_layouts.specs.Classes.{layoutClasses, classOf, Classes, equalContainersBy, equalBy}
-use Rattle.sheet_layouts.proofs.Equal.{by-lowest, lowest-within}
-use Rattle.sheet_layouts.proofs.Search.{past}
+use Rattle.sheet_layouts.proofs.EqualLayouts.{by-lowest, lowest-within}
+use Rattle.sheet_layouts.proofs.LowestSearch.{past}
 
 -- ---- the table is filled
 

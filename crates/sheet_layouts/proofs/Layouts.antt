@@ -13,10 +13,10 @@ use Rattle.model.specs.Fact.{equalContent, equalLayouts}
 use Rattle.model.specs.Sheet.{layout, layoutLength, layoutStart, slotKindsAt}
 use Rattle.sheet.specs.Measured.{Accepted}
 use Rattle.sheet.specs.declared.Sizes.{Sizes}
-use Rattle.sheet.proofs.Counted.{counted}
-use Rattle.sheet.proofs.Laid.{laid}
-use Rattle.sheet.proofs.Inside.{layout-length-past}
-use Rattle.sheet.proofs.Asked.{measured, layout-fits}
+use Rattle.sheet.proofs.SizeNames.{counted}
+use Rattle.sheet.proofs.SheetLength.{laid}
+use Rattle.sheet.proofs.FieldBounds.{layout-length-past}
+use Rattle.sheet.proofs.AcceptedSheet.{measured, layout-fits}
 use Rattle.sheet_layouts.proofs.Content.{content-false}
 
 module _ {sheet : List ℕ} {sizes : Sizes} (a : Accepted sheet sizes) (i : ℕ) where

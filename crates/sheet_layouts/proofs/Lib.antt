@@ -2,7 +2,7 @@
 pub mod Content
 pub mod Layouts
 -- The search for equal layouts
-pub mod Search
+pub mod LowestSearch
 -- For other crates to cite: equal layouts have one lowest number, and one class
-pub mod Equal
+pub mod EqualLayouts
 pub mod Classes

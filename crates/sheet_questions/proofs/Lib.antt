@@ -1,6 +1,6 @@
 -- Passes over all entries
-pub mod Every
+pub mod AllLoop
 -- The laws of this crate. Refused is for other crates to cite: what `check_sheet` has answered.
-pub mod Within
-pub mod Placed
-pub mod Refused
+pub mod LimitLoop
+pub mod ArrayPlaces
+pub mod FirstRefusal

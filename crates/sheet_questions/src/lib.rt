@@ -3,8 +3,8 @@
 // Questions 1 to 5 of a sheet.
 mod limits;
 mod question_5;
-mod sums;
 mod sheet_check;
+mod sums;
 
 pub use question_5::kinds_named;
 use sheet::Sizes;

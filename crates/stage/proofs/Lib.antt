@@ -1,4 +1,4 @@
 -- The laws of this crate, in order: what was begun, nothing to run, what ran.
-pub mod Begun
-pub mod Idle
-pub mod Ran
+pub mod StageBegun
+pub mod NothingToRun
+pub mod StageRun

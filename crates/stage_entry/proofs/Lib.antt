@@ -1,6 +1,6 @@
 -- The laws of this crate.
-pub mod Brought
-pub mod Starts
-pub mod Made
-pub mod Seeded
-pub mod Entered
+pub mod ParamFacts
+pub mod ParamStarts
+pub mod RowsMade
+pub mod ParamSeeds
+pub mod FirstRows

@@ -1,2 +1,2 @@
 -- The laws of this crate, for other crates to cite.
-pub mod Paths
+pub mod RecordEqualities

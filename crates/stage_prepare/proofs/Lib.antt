@@ -1,7 +1,7 @@
 -- The laws of this crate. For other crates to cite: Zeros, Stepwise, Ready.
-pub mod Zeros
-pub mod Stepwise
-pub mod Entering
-pub mod Tracked
-pub mod Closing
-pub mod Ready
+pub mod ZeroFronts
+pub mod StageParts
+pub mod EntryRow
+pub mod RoomAndRow
+pub mod ClosureSlots
+pub mod PreparedOutcome

@@ -1,2 +1,2 @@
 -- The texts of facts
-pub mod Texts
+pub mod FactTexts

@@ -1,6 +1,6 @@
 -- The lines of a row, and of the rows of an analysis
-pub mod Cells
-pub mod Walk
+pub mod CellLines
+pub mod RowLines
 -- That the lines in order are the listing
-pub mod Order
-pub mod Answered
+pub mod AnalysisLines
+pub mod AnswerText

@@ -1,3 +1,3 @@
 -- Decimals, and texts in a buffer. Writing is for other crates to cite: one text behind another.
-pub mod Writing
-pub mod Decimal
+pub mod TextWritten
+pub mod Decimals

@@ -14,7 +14,7 @@ use Rattle.model.specs.Transfer.{factFor, copied, integer, loadConst, fold, fol
 use Rattle.model.specs.declared.FactCell.{FactCell}
 use Rattle.model.specs.declared.Instruction.{Instruction}
 use Rattle.fact_row.specs.Target.{targetCell}
-use Rattle.fact_row.proofs.Target.{targeted, untargeted}
+use Rattle.fact_row.proofs.TargetCell.{targeted, untargeted}
 
 module _ (sheet : List ℕ) (inst : Instruction) (slots : List ℕ) (row : Row) (slot : ℕ) where
   abbrev constant : Fact

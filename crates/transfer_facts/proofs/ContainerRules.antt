@@ -15,8 +15,8 @@ use Rattle.model.specs.Transfer.{factFor, copied, instructionFact, orUnknown, i
 use Rattle.model.specs.declared.FactCell.{FactCell}
 use Rattle.model.specs.declared.Instruction.{Instruction}
 use Rattle.fact_row.specs.Target.{targetCell}
-use Rattle.fact_row.proofs.Target.{targeted, untargeted}
-use Rattle.fact_row.proofs.Noted.{no-container}
+use Rattle.fact_row.proofs.TargetCell.{targeted, untargeted}
+use Rattle.fact_row.proofs.NoteFacts.{no-container}
 
 module _ (sheet : List ℕ) (pc : ℕ) (inst : Instruction) (is : inst ≡ instruction sheet pc) (slots : List ℕ) (row : Row) (slot : ℕ) where
   abbrev container : Fact

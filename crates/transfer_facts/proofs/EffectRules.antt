@@ -19,11 +19,11 @@ use Rattle.model.specs.declared.Instruction.{Instruction}
 use Rattle.model.specs.declared.AnalysisKind.{AnalysisKind}
 use Rattle.model.specs.declared.AnalysisKind.the-variants.{Constant, IndexCheck, Container}
 use Rattle.fact_row.specs.Target.{targetCell}
-use Rattle.fact_row.proofs.Target.{targeted, untargeted}
+use Rattle.fact_row.proofs.TargetCell.{targeted, untargeted}
 use Rattle.transfer_facts.specs.Effect.{effectCell, factWritten, iterates, effectBy, effectOf}
 use Rattle.transfer_facts.specs.declared.Effect.{Effect}
 use Rattle.transfer_facts.specs.declared.Effect.the-variants.{Filled, Copied}
-use Rattle.transfer_facts.proofs.Targets.{one-slot}
+use Rattle.transfer_facts.proofs.SlotEffects.{one-slot}
 
 -- ---- index checks
 

@@ -1,9 +1,9 @@
 -- The laws of this crate.
-pub mod Numbers
+pub mod ConstantFacts
 pub mod ConstantRules
 -- The laws of this crate.
-pub mod Iterators
+pub mod IteratorFacts
 pub mod ContainerRules
 -- The laws of this crate.
-pub mod Targets
+pub mod SlotEffects
 pub mod EffectRules

@@ -1,3 +1,3 @@
 -- The laws of this crate.
-pub mod Writing
-pub mod Ranging
+pub mod SlotWrites
+pub mod RangeWrites

@@ -1,10 +1,10 @@
 -- When a slot is in a range
-pub mod InRange
+pub mod RangeTests
 -- and in one of the written ones
-pub mod InRanges
+pub mod RangeLoop
 -- The elements of SlotSetN, by its note
-pub mod Notes
+pub mod NoteElements
 -- What an instruction writes, by its opcode
 pub mod Spans
 -- They are the slots that `model` says
-pub mod Exact
+pub mod WrittenSlots

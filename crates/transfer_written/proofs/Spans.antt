@@ -21,7 +21,7 @@ use Rattle.model.specs.declared.AnalysisKind.the-variants.{Constant, IndexCheck
 use Rattle.memory.specs.Front.{Holds}
 use Rattle.sheet.specs.Measured.{Accepted}
 use Rattle.sheet.specs.declared.Sizes.{Sizes}
-use Rattle.sheet.proofs.Counted.{counted}
+use Rattle.sheet.proofs.SizeNames.{counted}
 use Rattle.fact_row.proofs.Facts.{read}
 use Rattle.transfer_written.specs.Spans.{rangeSpans, elementSpans, spansBy, spans, indexSpansBy, indexSpans, elementsFact, slotsWritten}
 use Rattle.transfer_written.specs.declared.Written.{Written}

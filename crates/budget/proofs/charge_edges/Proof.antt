@@ -5,7 +5,7 @@ use Prim.Native.Nat.{_/_, _%_}
 use native.Mathlib.Omega.{arith}
 use borrow.Author.Needs.{needs}
 use Rattle.budget.specs.Outcome.{asSpent}
-use Rattle.budget.proofs.Row.{edges-covered, edges-refused}
+use Rattle.budget.proofs.EqualCharges.{edges-covered, edges-refused}
 use Rattle.budget.proofs.charge_edges.Statement.{statement}
 use Rattle.budget.proofs.charge_edges.Tie as tie
 

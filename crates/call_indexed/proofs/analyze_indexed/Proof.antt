@@ -2,8 +2,8 @@
 -- Assumes nothing.
 use mathlib.Core.Path.{refl, _∙_}
 use Rattle.model.specs.Call.{Table, table, Scratch, scratch}
-use Rattle.call_order.proofs.Cleared.{clean, index-found}
-use Rattle.call_order.proofs.Order.{values-clear, call-promise}
+use Rattle.call_order.proofs.ClearedOutputs.{clean, index-found}
+use Rattle.call_order.proofs.CallOrder.{values-clear, call-promise}
 use borrow.Author.Needs.{needs}
 use Rattle.call_indexed.proofs.analyze_indexed.Statement.{statement}
 use Rattle.call_indexed.proofs.analyze_indexed.Tie as tie

@@ -2,12 +2,12 @@
 -- Assumes nothing.
 use mathlib.Core.Path.{_≡_, refl, _∙_}
 use Rattle.model.specs.Call.{Table, table, Scratch, scratch}
-use Rattle.sheet.proofs.Asked.{measured}
+use Rattle.sheet.proofs.AcceptedSheet.{measured}
 use Rattle.stage_memory.specs.Stage.{zeroScratch}
-use Rattle.stage_memory.proofs.Paths.{scratch-zeroed}
-use Rattle.call_order.proofs.Cleared.{clean, still-clear, few-code, index-found}
-use Rattle.call_order.proofs.Constants.{constants-stored}
-use Rattle.call_order.proofs.Order.{values-promise}
+use Rattle.stage_memory.proofs.RecordEqualities.{scratch-zeroed}
+use Rattle.call_order.proofs.ClearedOutputs.{clean, still-clear, few-code, index-found}
+use Rattle.call_order.proofs.ConstantOutput.{constants-stored}
+use Rattle.call_order.proofs.CallOrder.{values-promise}
 use borrow.Author.Needs.{needs}
 use Rattle.call_values.proofs.analyze_values.Statement.{statement}
 use Rattle.call_values.proofs.analyze_values.Tie as tie

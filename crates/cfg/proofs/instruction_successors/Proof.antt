@@ -5,7 +5,7 @@ use mathlib.Core.List.{[]}
 use borrow.Author.Needs.{needs}
 use mir.Syntax.{w16, w32}
 use Rattle.model.specs.Successors.{pushFallthrough, asRecord}
-use Rattle.cfg.proofs.Going.{second-fits, falls, leaves-none, jumps, branches, loops}
+use Rattle.cfg.proofs.FlowCases.{second-fits, falls, leaves-none, jumps, branches, loops}
 use Rattle.cfg.proofs.instruction_successors.Statement.{statement}
 use Rattle.cfg.proofs.instruction_successors.Tie as tie
 

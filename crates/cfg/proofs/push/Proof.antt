@@ -1,7 +1,7 @@
 -- `cfg::push` meets its contract: the first target, an equal second one, another second one.
 -- Assumes nothing.
 use borrow.Author.Needs.{needs}
-use Rattle.cfg.proofs.Pushes.{push-first, push-equal, push-second}
+use Rattle.cfg.proofs.TargetTests.{push-first, push-equal, push-second}
 use Rattle.cfg.proofs.push.Statement.{statement}
 use Rattle.cfg.proofs.push.Tie as tie
 

@@ -7,7 +7,7 @@ use borrow.Author.Tests.{le-ltb}
 use Prim.Native.Nat.{_+_}
 use native.Mathlib.Omega.{arith}
 use Rattle.model.specs.Successors.{pushFallthrough, asRecord}
-use Rattle.cfg.proofs.Pushes.{past-end, valid-inside}
+use Rattle.cfg.proofs.TargetTests.{past-end, valid-inside}
 use Rattle.cfg.proofs.push_fallthrough_successor.Statement.{statement}
 use Rattle.cfg.proofs.push_fallthrough_successor.Tie as tie
 

@@ -7,7 +7,7 @@ use mir.Val.{toZ, ofZ}
 use mir.ValLaws.{toZ-ofZ}
 use Rattle.model.specs.Successors.{asRecord}
 use Rattle.model.proofs.Signed.{natural}
-use Rattle.cfg.proofs.Pushes.{below-zero, past-end, valid-inside}
+use Rattle.cfg.proofs.TargetTests.{below-zero, past-end, valid-inside}
 use Rattle.cfg.proofs.push_valid_successor.Statement.{statement}
 use Rattle.cfg.proofs.push_valid_successor.Tie as tie
 

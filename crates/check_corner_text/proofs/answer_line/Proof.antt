@@ -1,10 +1,10 @@
 -- `check_corner_text::answer_line` meets its contract: by what is asked. An accepted sheet has each instruction below n.
 -- Assumes nothing.
-use Rattle.sheet.proofs.Asked.{measured}
-use Rattle.sheet.proofs.Counted.{counted}
-use Rattle.sheet.proofs.Inside.{code-inside}
-use Rattle.sheet.proofs.Limited.{limited}
-use Rattle.check_corner_text.proofs.Answering.{successors-answered, writes-answered, index-answered, not-answered}
+use Rattle.sheet.proofs.AcceptedSheet.{measured}
+use Rattle.sheet.proofs.SizeNames.{counted}
+use Rattle.sheet.proofs.FieldBounds.{code-inside}
+use Rattle.sheet.proofs.SizeLimits.{limited}
+use Rattle.check_corner_text.proofs.AnswerLines.{successors-answered, writes-answered, index-answered, not-answered}
 use borrow.Author.Needs.{needs}
 use Rattle.check_corner_text.proofs.answer_line.Statement.{statement}
 use Rattle.check_corner_text.proofs.answer_line.Tie as tie

@@ -2,10 +2,10 @@
 -- Assumes nothing.
 use native.Mathlib.Omega.{arith}
 use borrow.Author.Needs.{needs}
-use Rattle.sheet.proofs.Asked.{measured}
-use Rattle.sheet.proofs.Counted.{counted}
-use Rattle.sheet.proofs.Limited.{limited}
-use Rattle.sheet_index.proofs.Tabled.{first-ranges-hold}
+use Rattle.sheet.proofs.AcceptedSheet.{measured}
+use Rattle.sheet.proofs.SizeNames.{counted}
+use Rattle.sheet.proofs.SizeLimits.{limited}
+use Rattle.sheet_index.proofs.OffsetTables.{first-ranges-hold}
 use Rattle.check_corners.proofs.answer_accepted.Statement.{statement}
 use Rattle.check_corners.proofs.answer_accepted.Tie as tie
 

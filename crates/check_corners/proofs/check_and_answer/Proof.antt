@@ -1,7 +1,7 @@
 -- `check_corners::check_and_answer` is safe: what `check_sheet` accepts is accepted.
 -- Assumes nothing.
 use mathlib.Core.Path.{sym, _∙_}
-use Rattle.sheet_questions.proofs.Refused.{accepted}
+use Rattle.sheet_questions.proofs.FirstRefusal.{accepted}
 use borrow.Author.Needs.{needs}
 use Rattle.check_corners.proofs.check_and_answer.Statement.{statement}
 use Rattle.check_corners.proofs.check_and_answer.Tie as tie

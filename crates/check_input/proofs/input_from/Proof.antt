@@ -4,7 +4,7 @@ use native.Mathlib.Omega.{arith}
 use mir.Syntax.{w64}
 use mir.Val.{toZ, ofZ}
 use mir.ValLaws.{toZ-ofZ}
-use Rattle.check_input.proofs.Filled.{failed-is, came-is}
+use Rattle.check_input.proofs.BufferReads.{failed-is, came-is}
 use borrow.Author.Needs.{needs}
 use Rattle.model.proofs.Signed.{natural}
 use Rattle.check_input.proofs.input_from.Statement.{statement}

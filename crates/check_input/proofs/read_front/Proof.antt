@@ -2,7 +2,7 @@
 use mathlib.Core.Path.{sym}
 use lib.Seq.{length-take-le}
 use denote.Ref.{now}
-use Rattle.check_input.proofs.Filled.{front-read}
+use Rattle.check_input.proofs.BufferReads.{front-read}
 use borrow.Author.Needs.{needs}
 use Rattle.check_input.proofs.read_front.Statement.{statement}
 use Rattle.check_input.proofs.read_front.Tie as tie

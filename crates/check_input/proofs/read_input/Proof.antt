@@ -6,7 +6,7 @@ use Prim.Native.Nat.{_≤_, _-_}
 use native.Mathlib.Omega.{arith}
 use lib.ListN.{length, drop}
 use Rattle.check_input.specs.declared.Input.{Input}
-use Rattle.check_input.proofs.Filled.{still-behind, counts-first}
+use Rattle.check_input.proofs.BufferReads.{still-behind, counts-first}
 use Rattle.check_input.proofs.read_input.Statement.{statement}
 use Rattle.check_input.proofs.read_input.Tie as tie
 

@@ -3,7 +3,7 @@ use mathlib.Core.Path.{sym}
 use native.Mathlib.Omega.{arith}
 use lib.Seq.{length-take-le}
 use denote.Ref.{now}
-use Rattle.check_input.proofs.Filled.{failed-none, taken-long, piece-written}
+use Rattle.check_input.proofs.BufferReads.{failed-none, taken-long, piece-written}
 use borrow.Author.Needs.{needs}
 use Rattle.check_input.proofs.read_to.Statement.{statement}
 use Rattle.check_input.proofs.read_to.Tie as tie

@@ -4,9 +4,9 @@ use mathlib.Core.Path.{refl}
 use mathlib.Core.Logic.{inl, inr}
 use Prim.Native.Nat.{_-_}
 use native.Mathlib.Omega.{arith}
-use Rattle.closure_edges.proofs.Rows.{edge-rows-are}
-use Rattle.closure_follow.proofs.Following.{met-none, met-some}
-use Rattle.closure_marks.proofs.Marking.{none-held}
+use Rattle.closure_edges.proofs.EdgeRows.{edge-rows-are}
+use Rattle.closure_follow.proofs.FollowEdges.{met-none, met-some}
+use Rattle.closure_marks.proofs.Marks.{none-held}
 use borrow.Author.Needs.{needs}
 use Rattle.closure_follow.proofs.edges_to.Statement.{statement}
 use Rattle.closure_follow.proofs.edges_to.Tie as tie

@@ -3,13 +3,13 @@
 use Prim.Native.Nat.{_*_, _-_, _≤_}
 use native.Mathlib.Omega.{arith}
 use Rattle.model.specs.Count.{collect}
-use Rattle.sheet.proofs.Counted.{counted}
-use Rattle.sheet.proofs.Limited.{limited}
-use Rattle.sheet.proofs.Inside.{code-inside}
+use Rattle.sheet.proofs.SizeNames.{counted}
+use Rattle.sheet.proofs.SizeLimits.{limited}
+use Rattle.sheet.proofs.FieldBounds.{code-inside}
 use Rattle.closure_edges.specs.Chain.{edgesAt}
-use Rattle.closure_marks.proofs.Marking.{lain-on, goes-wide, goes-long}
+use Rattle.closure_marks.proofs.Marks.{lain-on, goes-wide, goes-long}
 use Rattle.closure_follow.specs.Sources.{Follows}
-use Rattle.closure_follow.proofs.Following.{follows-none, follows-more, follows-below}
+use Rattle.closure_follow.proofs.FollowEdges.{follows-none, follows-more, follows-below}
 use Rattle.closure_follow.proofs.follow_code.Statement.{statement}
 use Rattle.closure_follow.proofs.follow_code.Tie as tie
 

@@ -4,11 +4,11 @@ use mathlib.Core.Path.{_∙_}
 use Prim.Native.Nat.{_-_}
 use native.Mathlib.Omega.{arith}
 use borrow.Author.Needs.{needs}
-use Rattle.sheet.proofs.Counted.{counted}
-use Rattle.sheet.proofs.Limited.{limited}
-use Rattle.sheet.proofs.Inside.{code-inside}
-use Rattle.closure_marks.proofs.Marking.{lain-on, goes-wide, goes-long}
-use Rattle.closure_follow.proofs.Following.{follows-all, ChainWalked, chain-walked-none, walked-next, chain-walked-more, walked-done, chain-of}
+use Rattle.sheet.proofs.SizeNames.{counted}
+use Rattle.sheet.proofs.SizeLimits.{limited}
+use Rattle.sheet.proofs.FieldBounds.{code-inside}
+use Rattle.closure_marks.proofs.Marks.{lain-on, goes-wide, goes-long}
+use Rattle.closure_follow.proofs.FollowEdges.{follows-all, ChainWalked, chain-walked-none, walked-next, chain-walked-more, walked-done, chain-of}
 use Rattle.closure_follow.proofs.follow_edges.Statement.{statement}
 use Rattle.closure_follow.proofs.follow_edges.Tie as tie
 

@@ -1,7 +1,7 @@
 -- `closure_follow::follow_instruction` meets its contract.
 -- Assumes nothing.
 use native.Mathlib.Omega.{arith}
-use Rattle.closure_follow.proofs.Following.{outside-reach, followed-nothing, followed-none, followed-some}
+use Rattle.closure_follow.proofs.FollowEdges.{outside-reach, followed-nothing, followed-none, followed-some}
 use borrow.Author.Needs.{needs}
 use Rattle.closure_follow.proofs.follow_instruction.Statement.{statement}
 use Rattle.closure_follow.proofs.follow_instruction.Tie as tie

@@ -1,7 +1,7 @@
 -- `closure_follow::reach` meets its contract.
 -- Assumes nothing.
 use native.Mathlib.Omega.{arith}
-use Rattle.closure_follow.proofs.Following.{copy-n-reach, other-reach}
+use Rattle.closure_follow.proofs.FollowEdges.{copy-n-reach, other-reach}
 use borrow.Author.Needs.{needs}
 use Rattle.closure_follow.proofs.reach.Statement.{statement}
 use Rattle.closure_follow.proofs.reach.Tie as tie

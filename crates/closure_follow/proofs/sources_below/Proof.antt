@@ -2,7 +2,7 @@
 -- Assumes nothing.
 use borrow.Author.Tests.{lt-ltb, le-ltb}
 use Rattle.closure_follow.specs.Sources.{onlyIf}
-use Rattle.closure_marks.proofs.Marking.{none-held, one-held, two-held}
+use Rattle.closure_marks.proofs.Marks.{none-held, one-held, two-held}
 use borrow.Author.Needs.{needs}
 use Rattle.closure_follow.proofs.sources_below.Statement.{statement}
 use Rattle.closure_follow.proofs.sources_below.Tie as tie

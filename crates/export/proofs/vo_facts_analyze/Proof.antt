@@ -1,7 +1,7 @@
 -- `vo_facts_analyze` meets its contract: too short a memory for the answer, or the call. Assumes nothing.
 use Rattle.model.specs.Call.{Lent, lent, table, scratch}
 use Rattle.model.specs.declared.VerifierResources.{VerifierResources}
-use Rattle.export.proofs.Handed.{too-few, all-handed}
+use Rattle.export.proofs.Wrappers.{too-few, all-handed}
 use borrow.Author.Needs.{needs}
 use Rattle.export.proofs.vo_facts_analyze.Statement.{statement}
 use Rattle.export.proofs.vo_facts_analyze.Tie as tie

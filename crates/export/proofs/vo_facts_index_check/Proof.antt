@@ -1,5 +1,5 @@
 -- `vo_facts_index_check` meets its contract. Assumes nothing.
-use Rattle.export.proofs.Handed.{told}
+use Rattle.export.proofs.Wrappers.{told}
 use borrow.Author.Needs.{needs}
 use Rattle.export.proofs.vo_facts_index_check.Statement.{statement}
 use Rattle.export.proofs.vo_facts_index_check.Tie as tie

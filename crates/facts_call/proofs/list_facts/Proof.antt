@@ -7,8 +7,8 @@ use Rattle.model.specs.Sheet.{codeCount}
 use Rattle.model.specs.Call.{Lent, table, scratch, lent, tableOf, result, analyzed}
 use Rattle.model.specs.Listing.{listingLent}
 use Rattle.model.specs.declared.AnalysisKind.the-variants.{Constant, IndexCheck, Container}
-use Rattle.sheet.proofs.Counted.{counted}
-use Rattle.facts_call.proofs.Lent.{listing-call, call-listable, call-shown}
+use Rattle.sheet.proofs.SizeNames.{counted}
+use Rattle.facts_call.proofs.ListedCall.{listing-call, call-listable, call-shown}
 use borrow.Author.Needs.{needs}
 use Rattle.facts_call.proofs.list_facts.Statement.{statement}
 use Rattle.facts_call.proofs.list_facts.Tie as tie

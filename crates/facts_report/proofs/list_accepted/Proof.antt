@@ -4,10 +4,10 @@ use Rattle.model.specs.Sheet.{codeCount, localSlots}
 use native.Mathlib.Omega.{arith}
 use denote.Ref.{now}
 use borrow.Author.Tests.{le-leb, lt-leb}
-use Rattle.sheet.proofs.Counted.{counted}
-use Rattle.sheet_index.proofs.Found.{few-layouts, firsts-found, classes-found}
-use Rattle.text_words.proofs.Writing.{shows}
-use Rattle.facts_report.proofs.Asked.{shown-as, many-instructions, many-locals, asked-call}
+use Rattle.sheet.proofs.SizeNames.{counted}
+use Rattle.sheet_index.proofs.IndexFound.{few-layouts, firsts-found, classes-found}
+use Rattle.text_words.proofs.TextWritten.{shows}
+use Rattle.facts_report.proofs.ListingQuestions.{shown-as, many-instructions, many-locals, asked-call}
 use borrow.Author.Needs.{needs}
 use Rattle.facts_report.proofs.list_accepted.Statement.{statement}
 use Rattle.facts_report.proofs.list_accepted.Tie as tie

@@ -1,7 +1,7 @@
 -- `step` meets its contract: the copy goes through the transfer, then to each successor.
 -- Assumes nothing.
 use native.Mathlib.Omega.{arith}
-use Rattle.fixpoint_step.proofs.Stepping.{step-end, step-length, transfer-asks, visiting, step-visits, step-copies}
+use Rattle.fixpoint_step.proofs.OneStep.{step-end, step-length, transfer-asks, visiting, step-visits, step-copies}
 use Rattle.fixpoint_step.proofs.step.Statement.{statement}
 use Rattle.fixpoint_step.proofs.step.Tie as tie
 

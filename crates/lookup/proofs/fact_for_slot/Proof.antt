@@ -3,7 +3,7 @@ use mathlib.Core.Path.{sym, ap, _∙_}
 use borrow.Author.Tests.{not-true, not-false}
 use Rattle.model.specs.Lookup.{factWithNumbers}
 use Rattle.lookup_tables.proofs.Agreement.{agreed}
-use Rattle.lookup.proofs.Answers.{found-inside, same-length, tables-damaged, row-damaged, row-answered}
+use Rattle.lookup.proofs.LookupAnswers.{found-inside, same-length, tables-damaged, row-damaged, row-answered}
 use borrow.Author.Needs.{needs}
 use denote.Ref.{now}
 use Rattle.lookup.proofs.fact_for_slot.Statement.{statement}

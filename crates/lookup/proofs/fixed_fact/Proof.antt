@@ -3,7 +3,7 @@ use mathlib.Core.Path.{sym, ap, _∙_}
 use borrow.Author.Tests.{not-true, not-false}
 use Rattle.model.specs.Lookup.{factWithNumbers}
 use Rattle.lookup_tables.proofs.Agreement.{agreed}
-use Rattle.lookup.proofs.Answers.{found-inside, same-length, fixed-damaged, fixed-row-damaged, fixed-answered}
+use Rattle.lookup.proofs.LookupAnswers.{found-inside, same-length, fixed-damaged, fixed-row-damaged, fixed-answered}
 use borrow.Author.Needs.{needs}
 use denote.Ref.{now}
 use Rattle.lookup.proofs.fixed_fact.Statement.{statement}

@@ -1,10 +1,10 @@
 -- `index_sheet` meets its contract.
 -- Assumes nothing.
 use native.Mathlib.Omega.{arith}
-use Rattle.sheet.proofs.Asked.{measured}
-use Rattle.sheet.proofs.Counted.{counted}
-use Rattle.sheet.proofs.Limited.{limited}
-use Rattle.sheet_index.proofs.Tabled.{layout-starts-hold}
+use Rattle.sheet.proofs.AcceptedSheet.{measured}
+use Rattle.sheet.proofs.SizeNames.{counted}
+use Rattle.sheet.proofs.SizeLimits.{limited}
+use Rattle.sheet_index.proofs.OffsetTables.{layout-starts-hold}
 use borrow.Author.Needs.{needs}
 use Rattle.sheet_index.proofs.index_sheet.Statement.{statement}
 use Rattle.sheet_index.proofs.index_sheet.Tie as tie

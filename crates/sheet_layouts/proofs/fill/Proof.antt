@@ -2,7 +2,7 @@
 use Prim.Native.Nat.{_-_}
 use lib.ListN.{length}
 use mathlib.Core.Path.{refl}
-use Rattle.memory.proofs.Turned.{Turned, turned-none, turn}
+use Rattle.memory.proofs.StoreLoops.{Turned, turned-none, turn}
 use Rattle.sheet_layouts.proofs.Classes.{filled}
 use native.Mathlib.Omega.{arith}
 use Rattle.sheet_layouts.proofs.fill.Statement.{statement}

@@ -5,8 +5,8 @@ use denote.Ref.{now}
 use lib.ListN.{length}
 use native.Mathlib.Omega.{arith}
 use Rattle.model.specs.Listing.{lowest}
-use Rattle.memory.proofs.Turned.{Turned, turned-none, turn}
-use Rattle.sheet_layouts.proofs.Search.{past-count}
+use Rattle.memory.proofs.StoreLoops.{Turned, turned-none, turn}
+use Rattle.sheet_layouts.proofs.LowestSearch.{past-count}
 use Rattle.sheet_layouts.proofs.Classes.{all-classes, class-fits}
 use Rattle.sheet_layouts.proofs.layout_classes.Statement.{statement}
 use Rattle.sheet_layouts.proofs.layout_classes.Tie as tie

@@ -1,6 +1,6 @@
 -- `sheet_layouts::lowest` meets its contract. Assumes nothing.
 use mathlib.Core.Path.{_∙_}
-use Rattle.sheet_layouts.proofs.Search.{past-count}
+use Rattle.sheet_layouts.proofs.LowestSearch.{past-count}
 use borrow.Author.Needs.{needs}
 use Rattle.sheet_layouts.proofs.lowest.Statement.{statement}
 use Rattle.sheet_layouts.proofs.lowest.Tie as tie

@@ -2,9 +2,9 @@
 use mathlib.Core.Path.{_≡_, refl, sym, _∙_}
 use Prim.Native.Nat.{_-_, _≤_}
 use borrow.Author.Count.{below-none, below-more}
-use Rattle.sheet.proofs.Asked.{measured}
+use Rattle.sheet.proofs.AcceptedSheet.{measured}
 use Rattle.sheet_layouts.proofs.Layouts.{other-length}
-use Rattle.sheet_layouts.proofs.Search.{None, Agree, found, absent, starts-long, first-inside, second-inside, kinds-differ, kinds-agree}
+use Rattle.sheet_layouts.proofs.LowestSearch.{None, Agree, found, absent, starts-long, first-inside, second-inside, kinds-differ, kinds-agree}
 use native.Mathlib.Omega.{arith}
 use Rattle.sheet_layouts.proofs.lowest_of.Statement.{statement}
 use Rattle.sheet_layouts.proofs.lowest_of.Tie as tie

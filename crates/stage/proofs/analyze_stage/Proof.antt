@@ -5,11 +5,11 @@ use borrow.Author.Needs.{needs}
 use borrow.Author.Tests.{not-true, not-false}
 use lib.Seq.{length-take-le}
 use Rattle.model.specs.Call.{Table, Scratch, table, scratch}
-use Rattle.sheet.proofs.Counted.{counted}
+use Rattle.sheet.proofs.SizeNames.{counted}
 use Rattle.fixpoint.specs.Memory.{runMemory}
-use Rattle.stage.proofs.Begun.{PreparedTold, asked-lent, Ready, ready}
-use Rattle.stage.proofs.Idle.{idles}
-use Rattle.stage.proofs.Ran.{whole-length, RunLent, run-lent, concluded}
+use Rattle.stage.proofs.StageBegun.{PreparedTold, asked-lent, Ready, ready}
+use Rattle.stage.proofs.NothingToRun.{idles}
+use Rattle.stage.proofs.StageRun.{whole-length, RunLent, run-lent, concluded}
 use Rattle.stage.proofs.analyze_stage.Statement.{statement}
 use Rattle.stage.proofs.analyze_stage.Tie as tie
 

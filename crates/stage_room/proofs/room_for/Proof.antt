@@ -4,7 +4,7 @@ use mathlib.Core.Path.{_∙_}
 use native.Mathlib.Omega.{arith}
 use borrow.Author.Tests.{le-leb, lt-leb}
 use Rattle.stage_room.specs.Room.{roomBy}
-use Rattle.stage_room.proofs.Fits.{cells-fit}
+use Rattle.stage_room.proofs.RoomTests.{cells-fit}
 use borrow.Author.Needs.{needs}
 use Rattle.stage_room.proofs.room_for.Statement.{statement}
 use Rattle.stage_room.proofs.room_for.Tie as tie

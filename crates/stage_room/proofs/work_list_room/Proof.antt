@@ -1,7 +1,7 @@
 -- `work_list_room` meets its contract.
 -- Assumes nothing.
 use native.Mathlib.Omega.{arith}
-use Rattle.stage_room.proofs.Fits.{cells-fit, no-code, no-slots, some-room}
+use Rattle.stage_room.proofs.RoomTests.{cells-fit, no-code, no-slots, some-room}
 use borrow.Author.Needs.{needs}
 use Rattle.stage_room.proofs.work_list_room.Statement.{statement}
 use Rattle.stage_room.proofs.work_list_room.Tie as tie

@@ -1,7 +1,7 @@
 -- `text_facts::put_container` meets its contract. Assumes nothing.
 use Rattle.model.specs.Listing.{ascii, decimal, space}
-use Rattle.text_words.proofs.Writing.{reword, then, then-two}
-use Rattle.text_facts.proofs.Texts.{map-text, iter-text, queue-text}
+use Rattle.text_words.proofs.TextWritten.{reword, then, then-two}
+use Rattle.text_facts.proofs.FactTexts.{map-text, iter-text, queue-text}
 use borrow.Author.Needs.{needs}
 use native.Mathlib.Omega.{arith}
 use denote.Ref.{now}

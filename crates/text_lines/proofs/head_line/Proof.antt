@@ -1,6 +1,6 @@
 -- `text_lines::head_line` meets its contract. Assumes nothing.
 use Rattle.model.specs.Listing.{ascii, decimal, space, newline, headLine}
-use Rattle.text_words.proofs.Writing.{then, then-two}
+use Rattle.text_words.proofs.TextWritten.{then, then-two}
 use borrow.Author.Needs.{needs}
 use Rattle.text_lines.proofs.head_line.Statement.{statement}
 use Rattle.text_lines.proofs.head_line.Tie as tie

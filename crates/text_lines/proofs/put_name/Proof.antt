@@ -1,7 +1,7 @@
 -- `text_lines::put_name` meets its contract. Assumes nothing.
 use mathlib.Core.Path.{refl}
 use Rattle.model.specs.Listing.{ascii, analysisName}
-use Rattle.text_words.proofs.Writing.{reword}
+use Rattle.text_words.proofs.TextWritten.{reword}
 use borrow.Author.Needs.{needs}
 use native.Mathlib.Omega.{arith}
 use Rattle.text_lines.proofs.put_name.Statement.{statement}

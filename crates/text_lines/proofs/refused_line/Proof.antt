@@ -1,6 +1,6 @@
 -- `text_lines::refused_line` meets its contract. Assumes nothing.
 use Rattle.model.specs.Listing.{ascii, newline, refusedLine}
-use Rattle.text_words.proofs.Writing.{then}
+use Rattle.text_words.proofs.TextWritten.{then}
 use borrow.Author.Needs.{needs}
 use Rattle.text_lines.proofs.refused_line.Statement.{statement}
 use Rattle.text_lines.proofs.refused_line.Tie as tie

@@ -1,8 +1,8 @@
 -- `text_words::put_decimal` meets its contract. Assumes nothing.
 use mathlib.Core.Path.{refl}
 use Rattle.model.specs.Listing.{ascii}
-use Rattle.text_words.proofs.Writing.{reword}
-use Rattle.text_words.proofs.Decimal.{DigitsFound, found-start, found-above, found-turn, found-all, zero-digit}
+use Rattle.text_words.proofs.TextWritten.{reword}
+use Rattle.text_words.proofs.Decimals.{DigitsFound, found-start, found-above, found-turn, found-all, zero-digit}
 use native.Mathlib.Omega.{arith}
 use Rattle.text_words.proofs.put_decimal.Statement.{statement}
 use Rattle.text_words.proofs.put_decimal.Tie as tie

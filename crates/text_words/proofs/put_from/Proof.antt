@@ -3,7 +3,7 @@ use mathlib.Core.Path.{_≡_, refl, sym, _∙_}
 use Prim.Native.Nat.{_+_, _-_, _≤_}
 use lib.ListN.{length, drop, length-drop, length-set}
 use lib.Seq.{getD-drop, paste, paste-zero}
-use Rattle.text_words.proofs.Writing.{byte-more, text-written}
+use Rattle.text_words.proofs.TextWritten.{byte-more, text-written}
 use native.Mathlib.Omega.{arith}
 use denote.Ref.{now}
 use Rattle.text_words.proofs.put_from.Statement.{statement}

@@ -1,6 +1,6 @@
 -- `text_words::put_spaced` meets its contract. Assumes nothing.
 use Rattle.model.specs.Listing.{ascii, space}
-use Rattle.text_words.proofs.Writing.{then}
+use Rattle.text_words.proofs.TextWritten.{then}
 use borrow.Author.Needs.{needs}
 use Rattle.text_words.proofs.put_spaced.Statement.{statement}
 use Rattle.text_words.proofs.put_spaced.Tie as tie

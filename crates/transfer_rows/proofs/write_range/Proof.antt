@@ -5,7 +5,7 @@ use lib.ListN.{length}
 use borrow.Author.Needs.{needs}
 use Rattle.model.specs.Tables.{factsOf}
 use Rattle.transfer_facts.specs.Effect.{effectCell}
-use Rattle.transfer_rows.proofs.Ranging.{Writing, writing-start, writing-more, written-all, written-range, wrote-beyond, last-below}
+use Rattle.transfer_rows.proofs.RangeWrites.{Writing, writing-start, writing-more, written-all, written-range, wrote-beyond, last-below}
 use Rattle.transfer_rows.proofs.write_range.Statement.{statement}
 use Rattle.transfer_rows.proofs.write_range.Tie as tie
 

@@ -5,7 +5,7 @@ use native.Mathlib.Omega.{arith}
 use borrow.Author.Needs.{needs}
 use Rattle.model.specs.Tables.{factsOf}
 use Rattle.transfer_facts.specs.Effect.{effectCell}
-use Rattle.transfer_rows.proofs.Ranging.{wrote-nowhere, Ranging, ranging-start, ranging-more, ranging-all}
+use Rattle.transfer_rows.proofs.RangeWrites.{wrote-nowhere, Ranging, ranging-start, ranging-more, ranging-all}
 use Rattle.transfer_rows.proofs.write_slots.Statement.{statement}
 use Rattle.transfer_rows.proofs.write_slots.Tie as tie
 

@@ -1,10 +1,10 @@
 -- `analyze` meets its contract: questions 1 to 6, the sheet's index, then the three analyses.
 -- Assumes nothing.
 use Rattle.model.specs.Call.{Lent, lent, table, scratch}
-use Rattle.sheet_index.proofs.Found.{few-layouts, firsts-found, classes-found}
-use Rattle.call_admission.proofs.Asking.{admitted-lengths, turned-away}
-use Rattle.call_order.proofs.Cleared.{few-code}
-use Rattle.call_order.proofs.Order.{demanded}
+use Rattle.sheet_index.proofs.IndexFound.{few-layouts, firsts-found, classes-found}
+use Rattle.call_admission.proofs.Admission.{admitted-lengths, turned-away}
+use Rattle.call_order.proofs.ClearedOutputs.{few-code}
+use Rattle.call_order.proofs.CallOrder.{demanded}
 use borrow.Author.Needs.{needs}
 use Rattle.verifier.proofs.analyze.Statement.{statement}
 use Rattle.verifier.proofs.analyze.Tie as tie

@@ -4,8 +4,8 @@ use mathlib.Core.Path.{_≡_}
 use Rattle.model.specs.Analyses.{chargeFlow}
 use Rattle.budget.specs.Outcome.{asSpent}
 use Rattle.budget.proofs.Spending.{first-refused, second-came}
-use Rattle.sheet.proofs.Limited.{limited}
-use Rattle.closure_edges.proofs.Charging.{flow-counted}
+use Rattle.sheet.proofs.SizeLimits.{limited}
+use Rattle.closure_edges.proofs.EdgeCharges.{flow-counted}
 use Rattle.call_admission.specs.Graph.{chargeGraph}
 use borrow.Author.Needs.{needs}
 use Rattle.call_admission.proofs.graph.charge_graph.Statement.{statement}

@@ -6,8 +6,8 @@ use Rattle.model.specs.Run.{rowAt}
 use Rattle.model.specs.Tables.{cellOf}
 use Rattle.model.specs.Analyses.{rowFact}
 use Rattle.model.specs.declared.Instruction.{Instruction}
-use Rattle.sheet.proofs.Inside.{code-inside}
-use Rattle.call_lengths.proofs.Stored.{checked-of, check-fact, other-fact}
+use Rattle.sheet.proofs.FieldBounds.{code-inside}
+use Rattle.call_lengths.proofs.LengthTables.{checked-of, check-fact, other-fact}
 use borrow.Author.Needs.{needs}
 use Rattle.call_lengths.proofs.facts.length_fact.Statement.{statement}
 use Rattle.call_lengths.proofs.facts.length_fact.Tie as tie

@@ -1,8 +1,8 @@
 -- `call_lengths::length_facts` meets its contract, by the law of its loop. Assumes nothing.
 use Prim.Native.Nat.{_-_}
 use native.Mathlib.Omega.{arith}
-use Rattle.sheet.proofs.Counted.{counted}
-use Rattle.call_lengths.proofs.Stored.{small-fact, StoredUpto, stored-none, stored-more, stored-all, lengths-read}
+use Rattle.sheet.proofs.SizeNames.{counted}
+use Rattle.call_lengths.proofs.LengthTables.{small-fact, StoredUpto, stored-none, stored-more, stored-all, lengths-read}
 use Rattle.fact_row.proofs.Facts.{value-of}
 use Rattle.call_lengths.proofs.facts.length_facts.Statement.{statement}
 use Rattle.call_lengths.proofs.facts.length_facts.Tie as tie

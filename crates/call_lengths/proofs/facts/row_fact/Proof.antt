@@ -2,7 +2,7 @@
 use mathlib.Core.Path.{sym, ap, _∙_}
 use native.Mathlib.Omega.{arith}
 use Rattle.fact_row.specs.Place.{placed}
-use Rattle.call_lengths.proofs.Tables.{table-inside, absent-fact, untracked-fact, tracked-fact}
+use Rattle.call_lengths.proofs.EndedTables.{table-inside, absent-fact, untracked-fact, tracked-fact}
 use borrow.Author.Needs.{needs}
 use Rattle.call_lengths.proofs.facts.row_fact.Statement.{statement}
 use Rattle.call_lengths.proofs.facts.row_fact.Tie as tie

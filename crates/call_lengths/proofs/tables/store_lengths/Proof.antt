@@ -7,11 +7,11 @@ use lib.Seq.{length-take-le}
 use Rattle.model.specs.Call.{table}
 use Rattle.model.specs.Sheet.{codeCount}
 use Rattle.model.specs.Analyses.{Analysed}
-use Rattle.sheet.proofs.Counted.{counted}
-use Rattle.sheet.proofs.Limited.{limited}
+use Rattle.sheet.proofs.SizeNames.{counted}
+use Rattle.sheet.proofs.SizeLimits.{limited}
 use Rattle.budget.specs.Outcome.{refusing}
 use Rattle.call_lengths.specs.Stored.{Stored}
-use Rattle.call_lengths.proofs.Storing.{stored-few, slots-fit, present-fits, kinds-fit, values-fit, stored-ended, lengthened, stored-cells-fit}
+use Rattle.call_lengths.proofs.ConstantTables.{stored-few, slots-fit, present-fits, kinds-fit, values-fit, stored-ended, lengthened, stored-cells-fit}
 use borrow.Author.Needs.{needs}
 use Rattle.call_lengths.proofs.tables.store_lengths.Statement.{statement}
 use Rattle.call_lengths.proofs.tables.store_lengths.Tie as tie

@@ -4,7 +4,7 @@ use Prim.Native.Nat.{_+_}
 use native.Mathlib.Omega.{arith}
 use borrow.Author.Needs.{needs}
 use mir.Syntax.{w16}
-use Rattle.cfg.proofs.Signed.{wide-fits, sum-fits, sum-is}
+use Rattle.cfg.proofs.SignedOffsets.{wide-fits, sum-fits, sum-is}
 use Rattle.cfg.proofs.offsets.forloop_target_i64.Statement.{statement}
 use Rattle.cfg.proofs.offsets.forloop_target_i64.Tie as tie
 

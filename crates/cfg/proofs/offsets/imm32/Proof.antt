@@ -7,7 +7,7 @@ use borrow.Author.Needs.{needs}
 use borrow.Author.Tests.{le-ltb}
 use mir.Syntax.{w32}
 use Rattle.model.specs.Successors.{signed, imm32}
-use Rattle.cfg.proofs.Signed.{signed-read, difference-fits, narrow-fits, narrow-is}
+use Rattle.cfg.proofs.SignedOffsets.{signed-read, difference-fits, narrow-fits, narrow-is}
 use Rattle.cfg.proofs.offsets.imm32.Statement.{statement}
 use Rattle.cfg.proofs.offsets.imm32.Tie as tie
 

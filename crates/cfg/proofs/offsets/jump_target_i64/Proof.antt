@@ -3,7 +3,7 @@
 use native.Mathlib.Omega.{arith}
 use borrow.Author.Needs.{needs}
 use mir.Syntax.{w32}
-use Rattle.cfg.proofs.Signed.{wide-fits, sum-fits, sum-is}
+use Rattle.cfg.proofs.SignedOffsets.{wide-fits, sum-fits, sum-is}
 use Rattle.cfg.proofs.offsets.jump_target_i64.Statement.{statement}
 use Rattle.cfg.proofs.offsets.jump_target_i64.Tie as tie
 

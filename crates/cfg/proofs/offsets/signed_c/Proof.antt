@@ -6,7 +6,7 @@ use borrow.Author.Needs.{needs}
 use borrow.Author.Tests.{le-ltb}
 use mir.Syntax.{w16}
 use Rattle.model.specs.Successors.{signed}
-use Rattle.cfg.proofs.Signed.{signed-read, difference-fits, narrow-fits, narrow-is}
+use Rattle.cfg.proofs.SignedOffsets.{signed-read, difference-fits, narrow-fits, narrow-is}
 use Rattle.cfg.proofs.offsets.signed_c.Statement.{statement}
 use Rattle.cfg.proofs.offsets.signed_c.Tie as tie
 

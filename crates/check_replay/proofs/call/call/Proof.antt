@@ -4,7 +4,7 @@ use mathlib.Core.Path.{refl}
 use lib.Dec.{lit<, lit≤}
 use denote.Ref.{now}
 use Rattle.model.specs.Call.{Lent, table, scratch, lent}
-use Rattle.check_replay.proofs.Called.{table-is, scratch-is, called-is}
+use Rattle.check_replay.proofs.CallBuffers.{table-is, scratch-is, called-is}
 use Rattle.check_replay.proofs.call.call.Statement.{statement}
 use Rattle.check_replay.proofs.call.call.Tie as tie
 

@@ -5,7 +5,7 @@ use mathlib.Core.Option.{some}
 use Prim.Native.Nat.{_-_, _≤_}
 use native.Mathlib.Omega.{arith}
 use Rattle.check_replay.specs.Calls.{called, replayed}
-use Rattle.check_replay.proofs.Replayed.{first, again}
+use Rattle.check_replay.proofs.CallsInTurn.{first, again}
 use Rattle.check_replay.proofs.calls.replay.Statement.{statement}
 use Rattle.check_replay.proofs.calls.replay.Tie as tie
 

@@ -2,10 +2,10 @@
 -- Assumes nothing.
 use borrow.Author.Needs.{needs}
 use Rattle.model.specs.Listing.{ascii, newline}
-use Rattle.text_words.proofs.Writing.{then}
+use Rattle.text_words.proofs.TextWritten.{then}
 use Rattle.check_replay.specs.Line.{calledLine}
-use Rattle.check_replay.proofs.Replayed.{shown}
-use Rattle.check_replay.proofs.Spaced.{same}
+use Rattle.check_replay.proofs.CallsInTurn.{shown}
+use Rattle.check_replay.proofs.SpacedNumbers.{same}
 use Rattle.check_replay.proofs.line.put_line.Statement.{statement}
 use Rattle.check_replay.proofs.line.put_line.Tie as tie
 

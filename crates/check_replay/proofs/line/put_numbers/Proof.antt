@@ -6,7 +6,7 @@ use lib.ListN.{length, take}
 use denote.Ref.{now}
 use Rattle.text_words.specs.Text.{Added}
 use Rattle.check_replay.specs.Line.{spaced}
-use Rattle.check_replay.proofs.Spaced.{none, more, all}
+use Rattle.check_replay.proofs.SpacedNumbers.{none, more, all}
 use Rattle.check_replay.proofs.line.put_numbers.Statement.{statement}
 use Rattle.check_replay.proofs.line.put_numbers.Tie as tie
 

@@ -5,7 +5,7 @@ use Prim.Native.Nat.{_-_, zero-le}
 use native.Mathlib.Omega.{arith}
 use lib.ListN.{length}
 use Rattle.check_replay_lent.specs.Checksum.{withNumbers}
-use Rattle.check_replay_lent.proofs.Summed.{Summed, turn, whole}
+use Rattle.check_replay_lent.proofs.ChecksumLoop.{Summed, turn, whole}
 use Rattle.check_replay_lent.proofs.buffers.with_u16.Statement.{statement}
 use Rattle.check_replay_lent.proofs.buffers.with_u16.Tie as tie
 

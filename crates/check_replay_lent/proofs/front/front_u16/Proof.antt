@@ -4,9 +4,9 @@ use mathlib.Core.Path.{sym, refl}
 use Prim.Native.Nat.{_-_, _≤_, zero-le}
 use native.Mathlib.Omega.{arith}
 use lib.Seq.{length-take-le}
-use Rattle.memory.proofs.Turned.{Turned, turned-none, turn}
+use Rattle.memory.proofs.StoreLoops.{Turned, turned-none, turn}
 use Rattle.check_replay_lent.specs.Lent.{before}
-use Rattle.check_replay_lent.proofs.Filled.{filled}
+use Rattle.check_replay_lent.proofs.PatternLoop.{filled}
 use Rattle.check_replay_lent.proofs.front.front_u16.Statement.{statement}
 use Rattle.check_replay_lent.proofs.front.front_u16.Tie as tie
 

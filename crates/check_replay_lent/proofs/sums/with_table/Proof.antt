@@ -1,7 +1,7 @@
 -- `check_replay_lent::sums::with_table` meets its contract: one buffer after the other.
 -- Assumes nothing.
 use Rattle.check_replay_lent.specs.Checksum.{withTable}
-use Rattle.check_replay_lent.proofs.Summed.{behind}
+use Rattle.check_replay_lent.proofs.ChecksumLoop.{behind}
 use Rattle.check_replay_lent.proofs.sums.with_table.Statement.{statement}
 use Rattle.check_replay_lent.proofs.sums.with_table.Tie as tie
 

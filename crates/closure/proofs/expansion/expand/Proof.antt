@@ -3,9 +3,9 @@
 use mathlib.Core.Path.{refl}
 use native.Mathlib.Omega.{arith}
 use borrow.Author.Needs.{needs}
-use Rattle.sheet.proofs.Counted.{counted}
-use Rattle.sheet.proofs.Limited.{limited}
-use Rattle.closure_edges.proofs.Chains.{graph-chained}
+use Rattle.sheet.proofs.SizeNames.{counted}
+use Rattle.sheet.proofs.SizeLimits.{limited}
+use Rattle.closure_edges.proofs.ChainEdges.{graph-chained}
 use Rattle.closure.proofs.expansion.expand.Statement.{statement}
 use Rattle.closure.proofs.expansion.expand.Tie as tie
 

@@ -9,9 +9,9 @@ use Rattle.model.specs.Closure.{seeded}
 use Rattle.model.specs.Call.{zeros}
 use Rattle.finality.proofs.Marks.{free}
 use Rattle.finality.proofs.Lengths.{zeros-length, zeros-same}
-use Rattle.budget.proofs.Left.{covered-leaves, stopped-leaves}
-use Rattle.closure_marks.proofs.Marking.{some-lain, goes-long}
-use Rattle.closure.proofs.Expanding.{Expanding, zero-lies, lies-room, expanding-begun, expanding-standing, expanding-less, expanding-on, expanding-refused, expanding-done, expanding-empty}
+use Rattle.budget.proofs.Outcomes.{covered-leaves, stopped-leaves}
+use Rattle.closure_marks.proofs.Marks.{some-lain, goes-long}
+use Rattle.closure.proofs.ExpandLoop.{Expanding, zero-lies, lies-room, expanding-begun, expanding-standing, expanding-less, expanding-on, expanding-refused, expanding-done, expanding-empty}
 use Rattle.closure.proofs.expansion.expand_along.Statement.{statement}
 use Rattle.closure.proofs.expansion.expand_along.Tie as tie
 

@@ -4,8 +4,8 @@ use mathlib.Core.Path.{refl}
 use native.Mathlib.Omega.{arith}
 use borrow.Author.Needs.{needs}
 use Rattle.finality.proofs.Memory.{zeros-read}
-use Rattle.sheet.proofs.Counted.{counted}
-use Rattle.closure_edges.proofs.Chains.{unlinked}
+use Rattle.sheet.proofs.SizeNames.{counted}
+use Rattle.closure_edges.proofs.ChainEdges.{unlinked}
 use Rattle.closure.proofs.expansion.expand_short.Statement.{statement}
 use Rattle.closure.proofs.expansion.expand_short.Tie as tie
 

@@ -4,9 +4,9 @@ use mathlib.Core.Path.{_∙_}
 use native.Mathlib.Nat.{lt-of-lt-of-le}
 use native.Mathlib.Omega.{arith}
 use lib.ListN.{length-set}
-use Rattle.sheet.proofs.Counted.{counted}
-use Rattle.closure_marks.proofs.Marking.{goes-long}
-use Rattle.closure.proofs.Expanding.{standing-below, slot-below, popped-lain, takes}
+use Rattle.sheet.proofs.SizeNames.{counted}
+use Rattle.closure_marks.proofs.Marks.{goes-long}
+use Rattle.closure.proofs.ExpandLoop.{standing-below, slot-below, popped-lain, takes}
 use borrow.Author.Needs.{needs}
 use Rattle.closure.proofs.expansion.take_slot.Statement.{statement}
 use Rattle.closure.proofs.expansion.take_slot.Tie as tie

@@ -6,10 +6,10 @@ use native.Mathlib.Omega.{arith}
 use Rattle.model.specs.Closure.{stageNumber}
 use Rattle.budget.specs.Outcome.{asSpent}
 use Rattle.finality.proofs.Lengths.{zeros-same}
-use Rattle.sheet.proofs.Counted.{counted}
-use Rattle.sheet.proofs.Limited.{limited}
+use Rattle.sheet.proofs.SizeNames.{counted}
+use Rattle.sheet.proofs.SizeLimits.{limited}
 use Rattle.closure.specs.Closed.{scratchCharges}
-use Rattle.closure.proofs.Tracking.{scratch-refused, refused-closed, done-closed}
+use Rattle.closure.proofs.TrackedSlots.{scratch-refused, refused-closed, done-closed}
 use borrow.Author.Needs.{needs}
 use Rattle.closure.proofs.slots.track.Statement.{statement}
 use Rattle.closure.proofs.slots.track.Tie as tie

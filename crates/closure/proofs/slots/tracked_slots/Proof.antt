@@ -2,8 +2,8 @@
 -- Assumes nothing.
 use mathlib.Core.Path.{sym}
 use lib.Seq.{length-take-le}
-use Rattle.sheet.proofs.Counted.{counted}
-use Rattle.closure.proofs.Tracking.{blank, marks-clear}
+use Rattle.sheet.proofs.SizeNames.{counted}
+use Rattle.closure.proofs.TrackedSlots.{blank, marks-clear}
 use borrow.Author.Needs.{needs}
 use Rattle.closure.proofs.slots.tracked_slots.Statement.{statement}
 use Rattle.closure.proofs.slots.tracked_slots.Tie as tie

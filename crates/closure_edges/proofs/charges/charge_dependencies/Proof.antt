@@ -6,11 +6,11 @@ use native.Mathlib.Omega.{arith}
 use borrow.Author.Needs.{needs}
 use Rattle.model.specs.Dependencies.{chargeDependencies}
 use Rattle.budget.specs.Outcome.{asSpent}
-use Rattle.budget.proofs.Left.{spent-stopped}
+use Rattle.budget.proofs.Outcomes.{spent-stopped}
 use Rattle.budget.proofs.Spending.{Charged, charged-none, charged-more, charged-all, charged-refused, covered}
-use Rattle.sheet.proofs.Counted.{counted}
-use Rattle.sheet.proofs.Inside.{code-inside}
-use Rattle.closure_edges.proofs.Charging.{charges, same-charge}
+use Rattle.sheet.proofs.SizeNames.{counted}
+use Rattle.sheet.proofs.FieldBounds.{code-inside}
+use Rattle.closure_edges.proofs.EdgeCharges.{charges, same-charge}
 use Rattle.closure_edges.proofs.charges.charge_dependencies.Statement.{statement}
 use Rattle.closure_edges.proofs.charges.charge_dependencies.Tie as tie
 

@@ -3,7 +3,7 @@
 use mathlib.Core.Path.{sym}
 use Rattle.model.specs.Opcode.{select}
 use Rattle.model.specs.Dependencies.{copyWork, depends}
-use Rattle.closure_edges.proofs.Rows.{no-copy-work}
+use Rattle.closure_edges.proofs.EdgeRows.{no-copy-work}
 use borrow.Author.Needs.{needs}
 use Rattle.closure_edges.proofs.edges.copy_work.Statement.{statement}
 use Rattle.closure_edges.proofs.edges.copy_work.Tie as tie

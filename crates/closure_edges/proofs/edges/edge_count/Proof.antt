@@ -1,6 +1,6 @@
 -- `closure_edges::edges::edge_count` meets its contract: the rows' lengths.
 -- Assumes nothing.
-use Rattle.closure_edges.proofs.Rows.{edge-rows-are, counted-one, counted-fold}
+use Rattle.closure_edges.proofs.EdgeRows.{edge-rows-are, counted-one, counted-fold}
 use borrow.Author.Needs.{needs}
 use Rattle.closure_edges.proofs.edges.edge_count.Statement.{statement}
 use Rattle.closure_edges.proofs.edges.edge_count.Tie as tie

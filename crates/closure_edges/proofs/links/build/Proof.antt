@@ -3,11 +3,11 @@
 use mathlib.Core.Path.{_∙_}
 use native.Mathlib.Omega.{arith}
 use borrow.Author.Needs.{needs}
-use Rattle.sheet.proofs.Counted.{counted}
-use Rattle.sheet.proofs.Limited.{limited}
-use Rattle.sheet.proofs.Inside.{code-inside}
-use Rattle.closure_edges.proofs.Ordering.{buckets-at}
-use Rattle.closure_edges.proofs.Linking.{Building, building-none, building-more, building-full, building-done}
+use Rattle.sheet.proofs.SizeNames.{counted}
+use Rattle.sheet.proofs.SizeLimits.{limited}
+use Rattle.sheet.proofs.FieldBounds.{code-inside}
+use Rattle.closure_edges.proofs.Buckets.{buckets-at}
+use Rattle.closure_edges.proofs.ChainLoops.{Building, building-none, building-more, building-full, building-done}
 use Rattle.closure_edges.proofs.links.build.Statement.{statement}
 use Rattle.closure_edges.proofs.links.build.Tie as tie
 

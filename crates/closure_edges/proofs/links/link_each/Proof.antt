@@ -2,7 +2,7 @@
 -- Assumes nothing.
 use Prim.Native.Nat.{_-_}
 use native.Mathlib.Omega.{arith}
-use Rattle.closure_edges.proofs.Linking.{Linking, linking-none, linking-more, linking-done}
+use Rattle.closure_edges.proofs.ChainLoops.{Linking, linking-none, linking-more, linking-done}
 use Rattle.closure_edges.proofs.links.link_each.Statement.{statement}
 use Rattle.closure_edges.proofs.links.link_each.Tie as tie
 

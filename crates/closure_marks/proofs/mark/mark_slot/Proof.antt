@@ -1,7 +1,7 @@
 -- `closure_marks::mark::mark_slot` meets its contract.
 -- Assumes nothing.
 use native.Mathlib.Omega.{arith}
-use Rattle.closure_marks.proofs.Marking.{push-room, mark-new, mark-old, mark-past}
+use Rattle.closure_marks.proofs.Marks.{push-room, mark-new, mark-old, mark-past}
 use borrow.Author.Needs.{needs}
 use Rattle.closure_marks.proofs.mark.mark_slot.Statement.{statement}
 use Rattle.closure_marks.proofs.mark.mark_slot.Tie as tie

@@ -1,6 +1,6 @@
 -- `closure_marks::mark::mark_slots` meets its contract: one slot after the other.
 -- Assumes nothing.
-use Rattle.closure_marks.proofs.Marking.{none-marked, one-marked, both-marked, lain-on}
+use Rattle.closure_marks.proofs.Marks.{none-marked, one-marked, both-marked, lain-on}
 use borrow.Author.Needs.{needs}
 use Rattle.closure_marks.proofs.mark.mark_slots.Statement.{statement}
 use Rattle.closure_marks.proofs.mark.mark_slots.Tie as tie

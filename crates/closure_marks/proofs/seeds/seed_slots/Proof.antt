@@ -4,11 +4,11 @@ use Prim.Native.Nat.{_-_, _≤_}
 use native.Mathlib.Omega.{arith}
 use borrow.Author.Needs.{needs}
 use Rattle.model.specs.Closure.{markSeeds}
-use Rattle.sheet.proofs.Counted.{counted}
-use Rattle.sheet.proofs.Inside.{code-inside}
+use Rattle.sheet.proofs.SizeNames.{counted}
+use Rattle.sheet.proofs.FieldBounds.{code-inside}
 use Rattle.closure_marks.specs.Marks.{Goes}
-use Rattle.closure_marks.proofs.Marking.{lain-on, goes-wide, goes-long}
-use Rattle.closure_marks.proofs.Seeding.{seeds-none, seeds-more, seeds-all}
+use Rattle.closure_marks.proofs.Marks.{lain-on, goes-wide, goes-long}
+use Rattle.closure_marks.proofs.Seeds.{seeds-none, seeds-more, seeds-all}
 use Rattle.closure_marks.proofs.seeds.seed_slots.Statement.{statement}
 use Rattle.closure_marks.proofs.seeds.seed_slots.Tie as tie
 

@@ -4,7 +4,7 @@ use Prim.Native.Nat.{_-_}
 use native.Mathlib.Omega.{arith}
 use borrow.Author.Needs.{needs}
 use lib.ListN.{length}
-use Rattle.closure_marks.proofs.Listing.{Counting, counting-none, counting-more, counting-all}
+use Rattle.closure_marks.proofs.MarkedSlots.{Counting, counting-none, counting-more, counting-all}
 use Rattle.closure_marks.proofs.slots.count_marks.Statement.{statement}
 use Rattle.closure_marks.proofs.slots.count_marks.Tie as tie
 

@@ -2,7 +2,7 @@
 -- Assumes nothing.
 use mathlib.Core.Path.{_∙_}
 use native.Mathlib.Omega.{arith}
-use Rattle.closure_marks.proofs.Listing.{marks-fit, fits-not}
+use Rattle.closure_marks.proofs.MarkedSlots.{marks-fit, fits-not}
 use borrow.Author.Needs.{needs}
 use Rattle.closure_marks.proofs.slots.list_slots.Statement.{statement}
 use Rattle.closure_marks.proofs.slots.list_slots.Tie as tie

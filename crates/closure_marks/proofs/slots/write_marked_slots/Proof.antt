@@ -3,7 +3,7 @@
 use Prim.Native.Nat.{_-_}
 use native.Mathlib.Omega.{arith}
 use lib.ListN.{length}
-use Rattle.closure_marks.proofs.Listing.{MarksListed, marks-listed-none, writing-inside, writing-within, writing-room, marks-listed-more, writing-all}
+use Rattle.closure_marks.proofs.MarkedSlots.{MarksListed, marks-listed-none, writing-inside, writing-within, writing-room, marks-listed-more, writing-all}
 use Rattle.closure_marks.proofs.slots.write_marked_slots.Statement.{statement}
 use Rattle.closure_marks.proofs.slots.write_marked_slots.Tie as tie
 

@@ -1,9 +1,9 @@
 -- `lowest_layout` meets its contract: each way out is one of the questions'.
 -- Assumes nothing.
-use Rattle.export_loader.proofs.Telling.{no-entry, sheet-refused, searched}
+use Rattle.export_loader.proofs.RoomAnswers.{no-entry, sheet-refused, searched}
 use mathlib.Core.Path.{sym, _∙_}
 use borrow.Author.Needs.{needs}
-use Rattle.sheet_questions.proofs.Refused.{accepted}
+use Rattle.sheet_questions.proofs.FirstRefusal.{accepted}
 use Rattle.export_loader.proofs.lowest.lowest_layout.Statement.{statement}
 use Rattle.export_loader.proofs.lowest.lowest_layout.Tie as tie
 

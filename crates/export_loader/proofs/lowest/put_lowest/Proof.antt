@@ -1,11 +1,11 @@
 -- `put_lowest` meets its contract.
 -- Assumes nothing.
 use native.Mathlib.Omega.{arith}
-use Rattle.sheet.proofs.Asked.{measured}
-use Rattle.sheet.proofs.Counted.{counted}
-use Rattle.sheet.proofs.Limited.{limited}
-use Rattle.sheet_index.proofs.Tabled.{layout-starts-hold}
-use Rattle.export_loader.proofs.Telling.{no-layout, put-one}
+use Rattle.sheet.proofs.AcceptedSheet.{measured}
+use Rattle.sheet.proofs.SizeNames.{counted}
+use Rattle.sheet.proofs.SizeLimits.{limited}
+use Rattle.sheet_index.proofs.OffsetTables.{layout-starts-hold}
+use Rattle.export_loader.proofs.RoomAnswers.{no-layout, put-one}
 use borrow.Author.Needs.{needs}
 use Rattle.export_loader.proofs.lowest.put_lowest.Statement.{statement}
 use Rattle.export_loader.proofs.lowest.put_lowest.Tie as tie

@@ -1,7 +1,7 @@
 -- `count_tracked` meets its contract.
 -- Assumes nothing.
 use mathlib.Core.Path.{sym, _∙_}
-use Rattle.export_loader.proofs.Telling.{counted-slots}
+use Rattle.export_loader.proofs.RoomAnswers.{counted-slots}
 use native.Mathlib.Omega.{arith}
 use borrow.Author.Needs.{needs}
 use Rattle.export_loader.proofs.room.count_tracked.Statement.{statement}

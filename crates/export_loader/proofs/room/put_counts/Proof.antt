@@ -1,8 +1,8 @@
 -- `put_counts` meets its contract: each closure leaves marks and stack as they were.
 -- Assumes nothing.
 use mathlib.Core.Path.{_∙_}
-use Rattle.sheet.proofs.Counted.{counted}
-use Rattle.export_loader.proofs.Telling.{still-zero, still-long, four-told}
+use Rattle.sheet.proofs.SizeNames.{counted}
+use Rattle.export_loader.proofs.RoomAnswers.{still-zero, still-long, four-told}
 use borrow.Author.Needs.{needs}
 use Rattle.export_loader.proofs.room.put_counts.Statement.{statement}
 use Rattle.export_loader.proofs.room.put_counts.Tie as tie

@@ -1,7 +1,7 @@
 -- `put_room` meets its contract.
 -- Assumes nothing.
 use mathlib.Core.Path.{_∙_}
-use Rattle.export_loader.proofs.Telling.{cleared-zero, cleared-long}
+use Rattle.export_loader.proofs.RoomAnswers.{cleared-zero, cleared-long}
 use borrow.Author.Needs.{needs}
 use Rattle.export_loader.proofs.room.put_room.Statement.{statement}
 use Rattle.export_loader.proofs.room.put_room.Tie as tie

@@ -1,10 +1,10 @@
 -- `room_of` meets its contract: each way out is one of the questions'.
 -- Assumes nothing.
 use native.Mathlib.Omega.{arith}
-use Rattle.sheet.proofs.Asked.{measured}
-use Rattle.sheet.proofs.Counted.{counted}
-use Rattle.call_admission.proofs.Asking.{admitted-lengths}
-use Rattle.export_loader.proofs.Telling.{out-too-short, room-refused, room-told}
+use Rattle.sheet.proofs.AcceptedSheet.{measured}
+use Rattle.sheet.proofs.SizeNames.{counted}
+use Rattle.call_admission.proofs.Admission.{admitted-lengths}
+use Rattle.export_loader.proofs.RoomAnswers.{out-too-short, room-refused, room-told}
 use borrow.Author.Needs.{needs}
 use Rattle.export_loader.proofs.room.room_of.Statement.{statement}
 use Rattle.export_loader.proofs.room.room_of.Tie as tie

@@ -6,7 +6,7 @@ use lib.ListN.{length}
 use Rattle.model.specs.Lookup.{place}
 use Rattle.fact_row.specs.Place.{placed}
 use Rattle.fact_row.proofs.Places.{place-inside}
-use Rattle.fact_row.proofs.Setting.{set-none, set-some}
+use Rattle.fact_row.proofs.FactSet.{set-none, set-some}
 use native.Mathlib.Omega.{arith}
 use borrow.Author.Needs.{needs}
 use Rattle.fact_row.proofs.bound.set_fact.Statement.{statement}

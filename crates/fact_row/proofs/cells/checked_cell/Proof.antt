@@ -3,7 +3,7 @@ use mathlib.Core.Path.{ap, _∙_}
 use borrow.Author.Needs.{needs}
 use Rattle.model.specs.Fact.{kind, value}
 use Rattle.model.specs.Tables.{cellOf, factIn}
-use Rattle.fact_row.proofs.Checks.{checked-unknown, checked-other, checked-over, checked-in}
+use Rattle.fact_row.proofs.CheckedLengths.{checked-unknown, checked-other, checked-over, checked-in}
 use Rattle.fact_row.proofs.cells.checked_cell.Statement.{statement}
 use Rattle.fact_row.proofs.cells.checked_cell.Tie as tie
 

@@ -1,7 +1,7 @@
 -- `fact_row::notes::instruction_fact` meets its contract: by opcode and note. Assumes nothing.
 use mathlib.Core.Logic.{⊎-elim}
 use borrow.Author.Needs.{needs}
-use Rattle.fact_row.proofs.Noted.{first-fails, second-fails, map-noted, queue-noted, not-noted}
+use Rattle.fact_row.proofs.NoteFacts.{first-fails, second-fails, map-noted, queue-noted, not-noted}
 use Rattle.fact_row.proofs.notes.instruction_fact.Statement.{statement}
 use Rattle.fact_row.proofs.notes.instruction_fact.Tie as tie
 

@@ -1,6 +1,6 @@
 -- `finish` meets its contract.
 -- Assumes nothing.
-use Rattle.fixpoint.proofs.Finishing.{cleared-where, kept-where}
+use Rattle.fixpoint.proofs.RunEnds.{cleared-where, kept-where}
 use borrow.Author.Needs.{needs}
 use Rattle.fixpoint.proofs.clearing.finish.Statement.{statement}
 use Rattle.fixpoint.proofs.clearing.finish.Tie as tie

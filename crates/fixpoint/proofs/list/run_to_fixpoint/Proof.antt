@@ -12,9 +12,9 @@ use Rattle.model.specs.Tables.{factsOf}
 use Rattle.finality.proofs.Lengths.{zeros-length, zeros-same}
 use Rattle.fixpoint.specs.Memory.{RunMemory, runMemory}
 use Rattle.fixpoint.specs.Turn.{Turn}
-use Rattle.fixpoint.proofs.Beginning.{turn-lengths, start-joins, start-enters, start-turn}
-use Rattle.fixpoint.proofs.Loop.{turn-little, turn-ends, turn-refused, stepping, enter-first, enter-second, stepped}
-use Rattle.fixpoint.proofs.Finishing.{RunTold, told-cleared}
+use Rattle.fixpoint.proofs.FirstTurn.{turn-lengths, start-joins, start-enters, start-turn}
+use Rattle.fixpoint.proofs.LoopTurns.{turn-little, turn-ends, turn-refused, stepping, enter-first, enter-second, stepped}
+use Rattle.fixpoint.proofs.RunEnds.{RunTold, told-cleared}
 use Rattle.fixpoint.proofs.list.run_to_fixpoint.Statement.{statement}
 use Rattle.fixpoint.proofs.list.run_to_fixpoint.Tie as tie
 

@@ -1,6 +1,6 @@
 -- `join_next` meets its contract.
 -- Assumes nothing.
-use Rattle.fixpoint_visit.proofs.Visits.{next-joined, next-none}
+use Rattle.fixpoint_visit.proofs.TwoSuccessors.{next-joined, next-none}
 use borrow.Author.Needs.{needs}
 use Rattle.fixpoint_visit.proofs.successors.join_next.Statement.{statement}
 use Rattle.fixpoint_visit.proofs.successors.join_next.Tie as tie

@@ -2,7 +2,7 @@
 -- Assumes nothing.
 use mathlib.Core.Path.{_≡_}
 use Rattle.model.specs.Successors.{sheetSuccessors, asRecord}
-use Rattle.fixpoint_visit.proofs.Visits.{next-is, following-inside, following-code, first-next, second-next, followed}
+use Rattle.fixpoint_visit.proofs.TwoSuccessors.{next-is, following-inside, following-code, first-next, second-next, followed}
 use borrow.Author.Needs.{needs}
 use Rattle.fixpoint_visit.proofs.successors.visit_successors.Statement.{statement}
 use Rattle.fixpoint_visit.proofs.successors.visit_successors.Tie as tie

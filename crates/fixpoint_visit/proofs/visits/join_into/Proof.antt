@@ -2,7 +2,7 @@
 -- Assumes nothing.
 use native.Mathlib.Omega.{arith}
 use borrow.Author.Needs.{needs}
-use Rattle.fixpoint_visit.proofs.Laying.{visiting-end, visiting-row, visiting-lengths, visit-absent, visit-present}
+use Rattle.fixpoint_visit.proofs.VisitedTables.{visiting-end, visiting-row, visiting-lengths, visit-absent, visit-present}
 use Rattle.fixpoint_visit.proofs.visits.join_into.Statement.{statement}
 use Rattle.fixpoint_visit.proofs.visits.join_into.Tie as tie
 

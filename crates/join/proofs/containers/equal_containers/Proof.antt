@@ -2,7 +2,7 @@
 -- Assumes nothing.
 use denote.Ref.{now}
 use borrow.Author.Needs.{needs}
-use Rattle.join.proofs.Classes.{other-kinds, same-values, other-first, by-second}
+use Rattle.join.proofs.ContainerEquality.{other-kinds, same-values, other-first, by-second}
 use Rattle.join.proofs.containers.equal_containers.Statement.{statement}
 use Rattle.join.proofs.containers.equal_containers.Tie as tie
 

@@ -4,7 +4,7 @@ use mathlib.Core.Path.{_∙_}
 use denote.Ref.{now}
 use borrow.Author.Needs.{needs}
 use Rattle.sheet_layouts.specs.Classes.{equalContainersBy}
-use Rattle.join.proofs.Cells.{merged-by, containers-shift}
+use Rattle.join.proofs.CellJoins.{merged-by, containers-shift}
 use Rattle.join.proofs.containers.merge_container_fact.Statement.{statement}
 use Rattle.join.proofs.containers.merge_container_fact.Tie as tie
 

@@ -3,7 +3,7 @@
 use mathlib.Core.Path.{_∙_}
 use borrow.Author.Needs.{needs}
 use Rattle.model.specs.Fact.{equalNumbers}
-use Rattle.join.proofs.Cells.{merged-by, numbers-shift}
+use Rattle.join.proofs.CellJoins.{merged-by, numbers-shift}
 use Rattle.join.proofs.facts.merge_constant_fact.Statement.{statement}
 use Rattle.join.proofs.facts.merge_constant_fact.Tie as tie
 

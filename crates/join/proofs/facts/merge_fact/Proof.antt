@@ -1,7 +1,7 @@
 -- `join::facts::merge_fact` meets its contract: a law for each way out.
 -- Assumes nothing.
 use Rattle.model.specs.Tables.{factIn}
-use Rattle.join.proofs.Cells.{old-conflict, new-conflict, old-unknown, new-unknown, equal-stays, different-conflict}
+use Rattle.join.proofs.CellJoins.{old-conflict, new-conflict, old-unknown, new-unknown, equal-stays, different-conflict}
 use Rattle.join.proofs.facts.merge_fact.Statement.{statement}
 use Rattle.join.proofs.facts.merge_fact.Tie as tie
 

@@ -6,7 +6,7 @@ use native.Mathlib.Omega.{arith}
 use borrow.Author.Needs.{needs}
 use lib.ListN.{length}
 use Rattle.sheet_layouts.specs.Classes.{equalBy}
-use Rattle.join.proofs.Joining.{Partly, carried, partly-start, partly-changed, partly-kept, partly-end}
+use Rattle.join.proofs.JoinLoop.{Partly, carried, partly-start, partly-changed, partly-kept, partly-end}
 use Rattle.join.proofs.rows.join_row.Statement.{statement}
 use Rattle.join.proofs.rows.join_row.Tie as tie
 

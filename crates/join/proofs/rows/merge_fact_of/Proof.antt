@@ -3,7 +3,7 @@
 use denote.Ref.{now}
 use borrow.Author.Needs.{needs}
 use Rattle.model.specs.Tables.{factIn}
-use Rattle.join.proofs.Classes.{joins-constants, joins-checks, joins-containers}
+use Rattle.join.proofs.ContainerEquality.{joins-constants, joins-checks, joins-containers}
 use Rattle.join.proofs.rows.merge_fact_of.Statement.{statement}
 use Rattle.join.proofs.rows.merge_fact_of.Tie as tie
 

@@ -1,7 +1,7 @@
 -- `lookup::shown::fixed_at` meets its contract. Assumes nothing.
 use Rattle.model.specs.Lookup.{fixedFact}
 use Rattle.lookup_tables.proofs.Rows.{inside-at}
-use Rattle.lookup.proofs.Answers.{fixed-untracked, fixed-tracked}
+use Rattle.lookup.proofs.LookupAnswers.{fixed-untracked, fixed-tracked}
 use borrow.Author.Needs.{needs}
 use denote.Ref.{now}
 use Rattle.lookup.proofs.shown.fixed_at.Statement.{statement}

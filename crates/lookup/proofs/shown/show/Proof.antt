@@ -1,5 +1,5 @@
 -- `lookup::shown::show` meets its contract. Assumes nothing.
-use Rattle.lookup.proofs.Show.{not-known, first-shown, shows-other-kind, other-value, same-shown, still-mixed}
+use Rattle.lookup.proofs.FixedSlots.{not-known, first-shown, shows-other-kind, other-value, same-shown, still-mixed}
 use borrow.Author.Needs.{needs}
 use Rattle.lookup.proofs.shown.show.Statement.{statement}
 use Rattle.lookup.proofs.shown.show.Tie as tie

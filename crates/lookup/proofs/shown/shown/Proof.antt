@@ -4,7 +4,7 @@ use Prim.Native.Nat.{_+_, _*_, _-_, _≤_}
 use lib.ListN.{length}
 use Rattle.model.specs.Lookup.{shown}
 use Rattle.lookup.specs.Shown.{shownBy}
-use Rattle.lookup.proofs.Show.{next-cell, shown-more}
+use Rattle.lookup.proofs.FixedSlots.{next-cell, shown-more}
 use native.Mathlib.Omega.{arith}
 use denote.Ref.{now}
 use Rattle.lookup.proofs.shown.shown.Statement.{statement}

@@ -2,7 +2,7 @@
 use Prim.Native.Nat.{_-_}
 use lib.ListN.{length}
 use mathlib.Core.Path.{refl}
-use Rattle.memory.proofs.Turned.{Turned, turned-none, turn, turned-clear}
+use Rattle.memory.proofs.StoreLoops.{Turned, turned-none, turn, turned-clear}
 use native.Mathlib.Omega.{arith}
 use Rattle.memory.proofs.width_8.clear_u8.Statement.{statement}
 use Rattle.memory.proofs.width_8.clear_u8.Tie as tie

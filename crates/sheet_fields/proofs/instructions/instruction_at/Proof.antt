@@ -1,5 +1,5 @@
 -- `sheet_fields::instruction_at` meets its contract. Assumes nothing.
-use Rattle.sheet.proofs.Inside.{instruction-is}
+use Rattle.sheet.proofs.FieldBounds.{instruction-is}
 use borrow.Author.Needs.{needs}
 use Rattle.sheet_fields.proofs.instructions.instruction_at.Statement.{statement}
 use Rattle.sheet_fields.proofs.instructions.instruction_at.Tie as tie

@@ -3,7 +3,7 @@ use native.Mathlib.Omega.{arith}
 use borrow.Author.Tests.{lt-ltb}
 use Rattle.model.specs.Sheet.{layoutLength}
 use Rattle.sheet.specs.Sizes.{placesOf, sizesOf}
-use Rattle.sheet.proofs.Inside.{arrays-inside, layout-length-past}
+use Rattle.sheet.proofs.FieldBounds.{arrays-inside, layout-length-past}
 use Rattle.sheet_fields.proofs.pools.layout_length_at.Statement.{statement}
 use Rattle.sheet_fields.proofs.pools.layout_length_at.Tie as tie
 

@@ -2,7 +2,7 @@
 use native.Mathlib.Omega.{arith}
 use Rattle.model.specs.Sheet.{paramKind}
 use Rattle.sheet.specs.Sizes.{placesOf, sizesOf}
-use Rattle.sheet.proofs.Inside.{arrays-inside}
+use Rattle.sheet.proofs.FieldBounds.{arrays-inside}
 use Rattle.sheet_fields.proofs.pools.param_kind_at.Statement.{statement}
 use Rattle.sheet_fields.proofs.pools.param_kind_at.Tie as tie
 

@@ -1,7 +1,7 @@
 -- `sheet_fields::pools::slot_kind_at` meets its contract. Assumes nothing.
 use native.Mathlib.Omega.{arith}
 use Rattle.sheet.specs.Sizes.{placesOf, sizesOf}
-use Rattle.sheet.proofs.Inside.{arrays-inside}
+use Rattle.sheet.proofs.FieldBounds.{arrays-inside}
 use Rattle.sheet_fields.proofs.pools.slot_kind_at.Statement.{statement}
 use Rattle.sheet_fields.proofs.pools.slot_kind_at.Tie as tie
 

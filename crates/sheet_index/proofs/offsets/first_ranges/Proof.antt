@@ -2,10 +2,10 @@
 use Prim.Native.Nat.{_-_}
 use Rattle.model.specs.Sheet.{rangesOf, firstRange}
 use Rattle.sheet_index.specs.Tables.{firstRanges}
-use Rattle.sheet.proofs.Counted.{counted}
-use Rattle.sheet.proofs.Limited.{limited}
-use Rattle.sheet.proofs.Asked.{measured, ranges-fit}
-use Rattle.sheet_index.proofs.Summed.{Summed, summed-none, summed-more, summed-all}
+use Rattle.sheet.proofs.SizeNames.{counted}
+use Rattle.sheet.proofs.SizeLimits.{limited}
+use Rattle.sheet.proofs.AcceptedSheet.{measured, ranges-fit}
+use Rattle.sheet_index.proofs.PrefixSums.{Summed, summed-none, summed-more, summed-all}
 use native.Mathlib.Omega.{arith}
 use Rattle.sheet_index.proofs.offsets.first_ranges.Statement.{statement}
 use Rattle.sheet_index.proofs.offsets.first_ranges.Tie as tie

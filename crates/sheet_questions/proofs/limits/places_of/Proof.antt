@@ -1,5 +1,5 @@
 -- `sheet_questions::limits::places_of` meets its contract. Assumes nothing.
-use Rattle.sheet_questions.proofs.Placed.{placed-is}
+use Rattle.sheet_questions.proofs.ArrayPlaces.{placed-is}
 use borrow.Author.Needs.{needs}
 use Rattle.sheet_questions.proofs.limits.places_of.Statement.{statement}
 use Rattle.sheet_questions.proofs.limits.places_of.Tie as tie

@@ -3,7 +3,7 @@ use Prim.Native.Nat.{_-_, _≤_}
 use mathlib.Core.Path.{_≡_, refl, sym}
 use lib.ListN.{drop}
 use Rattle.model.specs.Sheet.{limits, withinLimits}
-use Rattle.sheet_questions.proofs.Within.{within-passed, within-failed, within-all}
+use Rattle.sheet_questions.proofs.LimitLoop.{within-passed, within-failed, within-all}
 use native.Mathlib.Omega.{arith}
 use Rattle.sheet_questions.proofs.limits.within_limits.Statement.{statement}
 use Rattle.sheet_questions.proofs.limits.within_limits.Tie as tie

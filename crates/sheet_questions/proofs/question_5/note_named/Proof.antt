@@ -1,6 +1,6 @@
 -- `sheet_questions::note_named` meets its contract. Assumes nothing.
 use Rattle.model.specs.Sheet.{noteNamed}
-use Rattle.sheet.proofs.Counted.{counted}
+use Rattle.sheet.proofs.SizeNames.{counted}
 use borrow.Author.Needs.{needs}
 use Rattle.sheet_questions.proofs.question_5.note_named.Statement.{statement}
 use Rattle.sheet_questions.proofs.question_5.note_named.Tie as tie

@@ -3,8 +3,8 @@ use Prim.Native.Nat.{_-_, _≤_}
 use mathlib.Core.Path.{_≡_}
 use Rattle.model.specs.Count.{every}
 use Rattle.model.specs.Sheet.{paramNamed}
-use Rattle.sheet.proofs.Counted.{counted}
-use Rattle.sheet_questions.proofs.Every.{every-none, every-more, every-all}
+use Rattle.sheet.proofs.SizeNames.{counted}
+use Rattle.sheet_questions.proofs.AllLoop.{every-none, every-more, every-all}
 use native.Mathlib.Omega.{arith}
 use Rattle.sheet_questions.proofs.question_5.params_named.Statement.{statement}
 use Rattle.sheet_questions.proofs.question_5.params_named.Tie as tie

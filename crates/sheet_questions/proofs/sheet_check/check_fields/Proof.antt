@@ -1,7 +1,7 @@
 -- `sheet_questions::whole::check_fields` meets its contract. Assumes nothing.
 use mathlib.Core.Path.{sym, ap, _∙_}
 use mathlib.Core.Bool.{not}
-use Rattle.sheet_questions.proofs.Refused.{refused-4, refused-5, unrefused}
+use Rattle.sheet_questions.proofs.FirstRefusal.{refused-4, refused-5, unrefused}
 use borrow.Author.Needs.{needs}
 use Rattle.sheet_questions.proofs.sheet_check.check_fields.Statement.{statement}
 use Rattle.sheet_questions.proofs.sheet_check.check_fields.Tie as tie

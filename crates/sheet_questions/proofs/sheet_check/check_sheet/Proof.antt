@@ -1,9 +1,9 @@
 -- `sheet_questions::whole::check_sheet` meets its contract. Assumes nothing.
 use mathlib.Core.Path.{sym, _∙_}
 use borrow.Author.Tests.{not-true, not-false}
-use Rattle.sheet_questions.proofs.Refused.{refused-1, refused-2, refused-3}
-use Rattle.sheet.proofs.Limited.{limited-by}
-use Rattle.sheet.proofs.Laid.{laid-by, short}
+use Rattle.sheet_questions.proofs.FirstRefusal.{refused-1, refused-2, refused-3}
+use Rattle.sheet.proofs.SizeLimits.{limited-by}
+use Rattle.sheet.proofs.SheetLength.{laid-by, short}
 use native.Mathlib.Omega.{arith}
 use borrow.Author.Needs.{needs}
 use Rattle.sheet_questions.proofs.sheet_check.check_sheet.Statement.{statement}

@@ -1,9 +1,9 @@
 -- `sheet_questions::sums::ranges_taken` meets its contract. Assumes nothing.
 use Prim.Native.Nat.{_-_}
 use Rattle.model.specs.Sheet.{rangesOf, firstRange}
-use Rattle.sheet.proofs.Limited.{limited}
-use Rattle.sheet.proofs.Counted.{counted}
-use Rattle.sheet.proofs.Adding.{SumUpto, added-none, added-more, added-all}
+use Rattle.sheet.proofs.SizeLimits.{limited}
+use Rattle.sheet.proofs.SizeNames.{counted}
+use Rattle.sheet.proofs.Sums.{SumUpto, added-none, added-more, added-all}
 use native.Mathlib.Omega.{arith}
 use Rattle.sheet_questions.proofs.sums.ranges_taken.Statement.{statement}
 use Rattle.sheet_questions.proofs.sums.ranges_taken.Tie as tie

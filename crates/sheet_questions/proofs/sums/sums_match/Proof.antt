@@ -1,6 +1,6 @@
 -- `sheet_questions::sums::sums_match` meets its contract. Assumes nothing.
 use Rattle.model.specs.Sheet.{sumsMatch}
-use Rattle.sheet.proofs.Counted.{counted}
+use Rattle.sheet.proofs.SizeNames.{counted}
 use borrow.Author.Tests.{eq-eqb, ne-eqb}
 use Rattle.sheet_questions.proofs.sums.sums_match.Statement.{statement}
 use Rattle.sheet_questions.proofs.sums.sums_match.Tie as tie

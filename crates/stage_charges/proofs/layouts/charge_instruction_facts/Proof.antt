@@ -5,11 +5,11 @@ use Rattle.model.specs.Transfer.{instructionFact}
 use Rattle.model.specs.Parameters.{chargeFact, chargeInstructionFacts}
 use Rattle.model.specs.declared.Instruction.{Instruction}
 use Rattle.budget.specs.Outcome.{asSpent}
-use Rattle.budget.proofs.Left.{spent-stopped}
+use Rattle.budget.proofs.Outcomes.{spent-stopped}
 use Rattle.budget.proofs.Spending.{Charged, charged-none, charged-more, charged-all, charged-refused, covered}
-use Rattle.sheet.proofs.Counted.{counted}
-use Rattle.sheet.proofs.Inside.{code-inside}
-use Rattle.stage_charges.proofs.Charged.{fact-charged}
+use Rattle.sheet.proofs.SizeNames.{counted}
+use Rattle.sheet.proofs.FieldBounds.{code-inside}
+use Rattle.stage_charges.proofs.LayoutCharges.{fact-charged}
 use native.Mathlib.Omega.{arith}
 use borrow.Author.Needs.{needs}
 use Rattle.stage_charges.proofs.layouts.charge_instruction_facts.Statement.{statement}

@@ -5,7 +5,7 @@ use Rattle.model.specs.Tables.{factIn}
 use Rattle.model.specs.Parameters.{chargeLayout}
 use Rattle.budget.specs.Outcome.{asSpent}
 use Rattle.budget.proofs.Spending.{first-refused, second-came}
-use Rattle.stage_charges.proofs.Charged.{no-layouts, two-layouts, one-layout}
+use Rattle.stage_charges.proofs.LayoutCharges.{no-layouts, two-layouts, one-layout}
 use borrow.Author.Needs.{needs}
 use Rattle.stage_charges.proofs.layouts.charge_layouts.Statement.{statement}
 use Rattle.stage_charges.proofs.layouts.charge_layouts.Tie as tie

@@ -5,7 +5,7 @@ use mathlib.Core.Option.{Option}
 use Rattle.model.specs.Fact.{Fact}
 use Rattle.model.specs.Tables.{cellOf}
 use Rattle.model.specs.Transfer.{orUnknown, mapFact, queueFact}
-use Rattle.stage_entry.proofs.Brought.{map-param, queue-param, plain-param}
+use Rattle.stage_entry.proofs.ParamFacts.{map-param, queue-param, plain-param}
 use borrow.Author.Needs.{needs}
 use Rattle.stage_entry.proofs.params.param_fact.Statement.{statement}
 use Rattle.stage_entry.proofs.params.param_fact.Tie as tie

@@ -1,8 +1,8 @@
 -- `stage_entry::params::param_start` meets its contract: each way out is one case of the definition's tests. Assumes nothing.
 use mathlib.Core.Path.{refl}
-use Rattle.sheet.proofs.Limited.{limited}
-use Rattle.sheet.proofs.Counted.{counted}
-use Rattle.stage_entry.proofs.Starts.{no-params, too-wide, too-many, behind-all, no-receiver, behind-closure, nowhere}
+use Rattle.sheet.proofs.SizeLimits.{limited}
+use Rattle.sheet.proofs.SizeNames.{counted}
+use Rattle.stage_entry.proofs.ParamStarts.{no-params, too-wide, too-many, behind-all, no-receiver, behind-closure, nowhere}
 use native.Mathlib.Omega.{arith}
 use borrow.Author.Needs.{needs}
 use Rattle.stage_entry.proofs.params.param_start.Statement.{statement}

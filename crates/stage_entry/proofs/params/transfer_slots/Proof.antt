@@ -2,9 +2,9 @@
 use Prim.Native.Nat.{_-_}
 use Rattle.model.specs.Sheet.{paramWidth}
 use Rattle.model.specs.Parameters.{transferSlots}
-use Rattle.sheet.proofs.Limited.{limited}
-use Rattle.sheet.proofs.Counted.{counted}
-use Rattle.sheet.proofs.Adding.{SumUpto, added-none, added-more, added-all}
+use Rattle.sheet.proofs.SizeLimits.{limited}
+use Rattle.sheet.proofs.SizeNames.{counted}
+use Rattle.sheet.proofs.Sums.{SumUpto, added-none, added-more, added-all}
 use native.Mathlib.Omega.{arith}
 use borrow.Author.Needs.{needs}
 use Rattle.stage_entry.proofs.params.transfer_slots.Statement.{statement}

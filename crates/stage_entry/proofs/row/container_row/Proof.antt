@@ -1,8 +1,8 @@
 -- `stage_entry::container_row` meets its contract. Assumes nothing.
 use native.Mathlib.Omega.{arith}
 use lib.ListN.{length}
-use Rattle.stage_entry.proofs.Made.{blank-rowed, blanked}
-use Rattle.stage_entry.proofs.Entered.{params-refused, notes-refused, notes-covered}
+use Rattle.stage_entry.proofs.RowsMade.{blank-rowed, blanked}
+use Rattle.stage_entry.proofs.FirstRows.{params-refused, notes-refused, notes-covered}
 use borrow.Author.Needs.{needs}
 use Rattle.stage_entry.proofs.row.container_row.Statement.{statement}
 use Rattle.stage_entry.proofs.row.container_row.Tie as tie

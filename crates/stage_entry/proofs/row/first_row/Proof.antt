@@ -1,6 +1,6 @@
 -- `stage_entry::first_row` meets its contract. Assumes nothing.
-use Rattle.sheet.proofs.Counted.{counted}
-use Rattle.stage_entry.proofs.Entered.{constant-row, index-row, container-row}
+use Rattle.sheet.proofs.SizeNames.{counted}
+use Rattle.stage_entry.proofs.FirstRows.{constant-row, index-row, container-row}
 use native.Mathlib.Omega.{arith}
 use borrow.Author.Needs.{needs}
 use Rattle.stage_entry.proofs.row.first_row.Statement.{statement}

@@ -5,8 +5,8 @@ use Rattle.model.specs.Analyses.{unknownRow}
 use Rattle.budget.specs.Outcome.{leavesOf}
 use Rattle.stage_entry.specs.First.{rowLaid, rowBlank}
 use Rattle.stage_entry.specs.Start.{paramStartOf}
-use Rattle.stage_entry.proofs.Made.{blank-lies, blank-rowed}
-use Rattle.stage_entry.proofs.Entered.{param-none, param-some}
+use Rattle.stage_entry.proofs.RowsMade.{blank-lies, blank-rowed}
+use Rattle.stage_entry.proofs.FirstRows.{param-none, param-some}
 use borrow.Author.Needs.{needs}
 use Rattle.stage_entry.proofs.seeds.param_row.Statement.{statement}
 use Rattle.stage_entry.proofs.seeds.param_row.Tie as tie

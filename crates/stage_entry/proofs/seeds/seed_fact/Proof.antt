@@ -1,6 +1,6 @@
 -- `stage_entry::seeds::seed_fact` meets its contract. Assumes nothing.
-use Rattle.stage_entry.proofs.Made.{blanked}
-use Rattle.stage_entry.proofs.Seeded.{seed-covered, seed-refused}
+use Rattle.stage_entry.proofs.RowsMade.{blanked}
+use Rattle.stage_entry.proofs.ParamSeeds.{seed-covered, seed-refused}
 use borrow.Author.Needs.{needs}
 use Rattle.stage_entry.proofs.seeds.seed_fact.Statement.{statement}
 use Rattle.stage_entry.proofs.seeds.seed_fact.Tie as tie

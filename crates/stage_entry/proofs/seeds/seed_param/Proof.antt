@@ -6,8 +6,8 @@ use Rattle.model.specs.Fact.{Fact}
 use Rattle.model.specs.Parameters.{paramFact, seedParam}
 use Rattle.budget.specs.Outcome.{leavesOf}
 use Rattle.stage_entry.specs.First.{rowLaid, rowBlank}
-use Rattle.stage_entry.proofs.Brought.{brings-none, brings}
-use Rattle.stage_entry.proofs.Seeded.{seed-none}
+use Rattle.stage_entry.proofs.ParamFacts.{brings-none, brings}
+use Rattle.stage_entry.proofs.ParamSeeds.{seed-none}
 use borrow.Author.Needs.{needs}
 use Rattle.stage_entry.proofs.seeds.seed_param.Statement.{statement}
 use Rattle.stage_entry.proofs.seeds.seed_param.Tie as tie

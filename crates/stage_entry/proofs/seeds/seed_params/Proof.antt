@@ -6,10 +6,10 @@ use lib.ListN.{length}
 use Rattle.model.specs.Sheet.{paramCount}
 use Rattle.model.specs.Parameters.{seedParams}
 use Rattle.budget.specs.Outcome.{leavesOf}
-use Rattle.sheet.proofs.Limited.{limited}
-use Rattle.sheet.proofs.Counted.{counted}
+use Rattle.sheet.proofs.SizeLimits.{limited}
+use Rattle.sheet.proofs.SizeNames.{counted}
 use Rattle.stage_entry.specs.First.{rowLaid, rowBlank}
-use Rattle.stage_entry.proofs.Seeded.{Seeded, seeded-none, seeded-more, seeded-refused, seeded-all}
+use Rattle.stage_entry.proofs.ParamSeeds.{Seeded, seeded-none, seeded-more, seeded-refused, seeded-all}
 use native.Mathlib.Omega.{arith}
 use borrow.Author.Needs.{needs}
 use Rattle.stage_entry.proofs.seeds.seed_params.Statement.{statement}

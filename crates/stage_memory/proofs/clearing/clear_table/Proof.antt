@@ -1,7 +1,7 @@
 -- `clear_table` meets its contract.
 -- Assumes nothing.
 use Rattle.model.specs.Call.{zeroTable}
-use Rattle.stage_memory.proofs.Paths.{table-path}
+use Rattle.stage_memory.proofs.RecordEqualities.{table-path}
 use borrow.Author.Needs.{needs}
 use Rattle.stage_memory.proofs.clearing.clear_table.Statement.{statement}
 use Rattle.stage_memory.proofs.clearing.clear_table.Tie as tie

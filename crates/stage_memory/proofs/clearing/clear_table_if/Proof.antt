@@ -1,6 +1,6 @@
 -- `clear_table_if` meets its contract.
 -- Assumes nothing.
-use Rattle.stage_memory.proofs.Paths.{cleared-if, kept-if}
+use Rattle.stage_memory.proofs.RecordEqualities.{cleared-if, kept-if}
 use borrow.Author.Needs.{needs}
 use Rattle.stage_memory.proofs.clearing.clear_table_if.Statement.{statement}
 use Rattle.stage_memory.proofs.clearing.clear_table_if.Tie as tie

@@ -2,10 +2,10 @@
 -- Assumes nothing.
 use mathlib.Core.Path.{ap, _∙_}
 use Prim.Native.Nat.{ℕ}
-use Rattle.sheet.proofs.Asked.{measured}
-use Rattle.sheet.proofs.Counted.{counted}
+use Rattle.sheet.proofs.AcceptedSheet.{measured}
+use Rattle.sheet.proofs.SizeNames.{counted}
 use Rattle.stage_prepare.specs.Prepare.{something}
-use Rattle.stage_prepare.proofs.Closing.{begin-stopped, few-tracked, tracked-ascend, begin-refused, begin-covered}
+use Rattle.stage_prepare.proofs.ClosureSlots.{begin-stopped, few-tracked, tracked-ascend, begin-refused, begin-covered}
 use borrow.Author.Needs.{needs}
 use Rattle.stage_prepare.proofs.begin.begin_stage.Statement.{statement}
 use Rattle.stage_prepare.proofs.begin.begin_stage.Tie as tie

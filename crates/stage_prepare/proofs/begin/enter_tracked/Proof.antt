@@ -6,11 +6,11 @@ use mathlib.Core.Path.{_≡_, refl, sym, _∙_}
 use lib.ListN.{length}
 use lib.Seq.{length-take-le}
 use borrow.Author.Tests.{not-true, not-false}
-use Rattle.sheet.proofs.Asked.{measured}
-use Rattle.sheet.proofs.Counted.{counted}
-use Rattle.sheet.proofs.Limited.{limited}
+use Rattle.sheet.proofs.AcceptedSheet.{measured}
+use Rattle.sheet.proofs.SizeNames.{counted}
+use Rattle.sheet.proofs.SizeLimits.{limited}
 use Rattle.stage_room.specs.Room.{roomBy}
-use Rattle.stage_prepare.proofs.Tracked.{room-parts, refused-room, ended-at-once, entry-asks, entered-row}
+use Rattle.stage_prepare.proofs.RoomAndRow.{room-parts, refused-room, ended-at-once, entry-asks, entered-row}
 use borrow.Author.Needs.{needs}
 use Rattle.stage_prepare.proofs.begin.enter_tracked.Statement.{statement}
 use Rattle.stage_prepare.proofs.begin.enter_tracked.Tie as tie

@@ -1,7 +1,7 @@
 -- `entry_row` meets its contract: the matrix charge is refused, or the first row follows it.
 -- Assumes nothing.
-use Rattle.sheet.proofs.Limited.{limited}
-use Rattle.stage_prepare.proofs.Entering.{enter-refused, enter-covered}
+use Rattle.sheet.proofs.SizeLimits.{limited}
+use Rattle.stage_prepare.proofs.EntryRow.{enter-refused, enter-covered}
 use borrow.Author.Needs.{needs}
 use Rattle.stage_prepare.proofs.entry.entry_row.Statement.{statement}
 use Rattle.stage_prepare.proofs.entry.entry_row.Tie as tie

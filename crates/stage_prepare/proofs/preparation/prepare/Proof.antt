@@ -1,7 +1,7 @@
 -- `prepare` meets its contract: what was begun, or nothing after a refusal.
 -- Assumes nothing.
-use Rattle.stage_prepare.proofs.Zeros.{cleared-zero}
-use Rattle.stage_prepare.proofs.Ready.{prepared-none, prepared-begun}
+use Rattle.stage_prepare.proofs.ZeroFronts.{cleared-zero}
+use Rattle.stage_prepare.proofs.PreparedOutcome.{prepared-none, prepared-begun}
 use borrow.Author.Needs.{needs}
 use Rattle.stage_prepare.proofs.preparation.prepare.Statement.{statement}
 use Rattle.stage_prepare.proofs.preparation.prepare.Tie as tie

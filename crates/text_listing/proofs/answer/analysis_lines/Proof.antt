@@ -2,7 +2,7 @@
 use native.Mathlib.Omega.{arith}
 use denote.Ref.{now}
 use Rattle.text_facts.specs.Text.{factTextBy}
-use Rattle.text_listing.proofs.Walk.{rows-short, analysis-written}
+use Rattle.text_listing.proofs.RowLines.{rows-short, analysis-written}
 use borrow.Author.Needs.{needs}
 use Rattle.text_listing.proofs.answer.analysis_lines.Statement.{statement}
 use Rattle.text_listing.proofs.answer.analysis_lines.Tie as tie

@@ -2,7 +2,7 @@
 use Prim.Native.Nat.{_-_, _≤_}
 use lib.ListN.{length}
 use Rattle.text_facts.specs.Text.{factTextBy}
-use Rattle.text_listing.proofs.Cells.{Listed, listed-none, listed-more, listed-all, listed-nothing}
+use Rattle.text_listing.proofs.CellLines.{Listed, listed-none, listed-more, listed-all, listed-nothing}
 use native.Mathlib.Omega.{arith}
 use denote.Ref.{now}
 use Rattle.text_listing.proofs.rows.row_lines.Statement.{statement}

@@ -9,7 +9,7 @@ use lib.ListN.{length, take, drop, length-take, length-drop}
 use lib.Seq.{length-take-le}
 use denote.Ref.{now}
 use Rattle.text_facts.specs.Text.{factTextBy}
-use Rattle.text_listing.proofs.Walk.{Walked, row-fits, walked-none, walked-more}
+use Rattle.text_listing.proofs.RowLines.{Walked, row-fits, walked-none, walked-more}
 use Rattle.text_listing.proofs.rows.rows_lines.Statement.{statement}
 use Rattle.text_listing.proofs.rows.rows_lines.Tie as tie
 

@@ -1,6 +1,6 @@
 -- `transfer::row::set_checked` meets its contract: IndexCheck puts its fact, any other leaves the row. Assumes nothing.
 use borrow.Author.Needs.{needs}
-use Rattle.transfer.proofs.Through.{index-checked, not-checked}
+use Rattle.transfer.proofs.RowTransfers.{index-checked, not-checked}
 use Rattle.transfer.proofs.row.set_checked.Statement.{statement}
 use Rattle.transfer.proofs.row.set_checked.Tie as tie
 

@@ -4,13 +4,13 @@ use lib.ListN.{length}
 use native.Mathlib.Omega.{arith}
 use borrow.Author.Needs.{needs}
 use Rattle.model.specs.Tables.{factsOf}
-use Rattle.sheet.proofs.Asked.{measured}
-use Rattle.sheet.proofs.Inside.{code-inside}
+use Rattle.sheet.proofs.AcceptedSheet.{measured}
+use Rattle.sheet.proofs.FieldBounds.{code-inside}
 use Rattle.transfer_written.specs.Ranges.{SlotsAre}
 use Rattle.transfer_written.specs.declared.Written.{Written}
 use Rattle.transfer_written.specs.Spans.{slotWritten}
-use Rattle.transfer_written.proofs.Exact.{written-are}
-use Rattle.transfer.proofs.Through.{transferred}
+use Rattle.transfer_written.proofs.WrittenSlots.{written-are}
+use Rattle.transfer.proofs.RowTransfers.{transferred}
 use Rattle.transfer.proofs.row.transfer_row.Statement.{statement}
 use Rattle.transfer.proofs.row.transfer_row.Tie as tie
 

@@ -3,7 +3,7 @@ use Prim.Native.Nat.{_+_, _*_}
 use native.Mathlib.Omega.{arith}
 use borrow.Author.Needs.{needs}
 use Rattle.model.specs.Successors.{imm32}
-use Rattle.transfer_facts.proofs.Numbers.{lower-half, upper-half}
+use Rattle.transfer_facts.proofs.ConstantFacts.{lower-half, upper-half}
 use Rattle.transfer_facts.proofs.constants.imm32_bits.Statement.{statement}
 use Rattle.transfer_facts.proofs.constants.imm32_bits.Tie as tie
 

@@ -1,6 +1,6 @@
 -- `transfer_facts::integer_cell` meets its contract: by the sign. Assumes nothing.
 use native.Mathlib.Omega.{arith}
-use Rattle.transfer_facts.proofs.Numbers.{from-zero, negative}
+use Rattle.transfer_facts.proofs.ConstantFacts.{from-zero, negative}
 use Rattle.transfer_facts.proofs.constants.integer_cell.Statement.{statement}
 use Rattle.transfer_facts.proofs.constants.integer_cell.Tie as tie
 

@@ -2,7 +2,7 @@
 use mathlib.Core.Path.{ap, _∙_}
 use borrow.Author.Needs.{needs}
 use Rattle.model.specs.Tables.{cellOf}
-use Rattle.transfer_facts.proofs.Numbers.{const-past, const-other, const-loaded}
+use Rattle.transfer_facts.proofs.ConstantFacts.{const-past, const-other, const-loaded}
 use Rattle.transfer_facts.proofs.constants.load_const_cell.Statement.{statement}
 use Rattle.transfer_facts.proofs.constants.load_const_cell.Tie as tie
 

@@ -4,7 +4,7 @@ use borrow.Author.Needs.{needs}
 use Rattle.model.specs.Fact.{kind, value}
 use Rattle.model.specs.Tables.{cellOf}
 use Rattle.model.specs.Transfer.{shl}
-use Rattle.transfer_facts.proofs.Numbers.{first-other, second-other, folded, shifted-out, shifted-in}
+use Rattle.transfer_facts.proofs.ConstantFacts.{first-other, second-other, folded, shifted-out, shifted-in}
 use Rattle.transfer_facts.proofs.constants.shl_cell.Statement.{statement}
 use Rattle.transfer_facts.proofs.constants.shl_cell.Tie as tie
 

@@ -3,7 +3,7 @@ use mathlib.Core.Path.{ap, _∙_}
 use borrow.Author.Needs.{needs}
 use Rattle.model.specs.Fact.{kind, value}
 use Rattle.model.specs.Tables.{cellOf, factIn}
-use Rattle.transfer_facts.proofs.Iterators.{init-map, init-other}
+use Rattle.transfer_facts.proofs.IteratorFacts.{init-map, init-other}
 use Rattle.transfer_facts.proofs.containers.iter_init_cell.Statement.{statement}
 use Rattle.transfer_facts.proofs.containers.iter_init_cell.Tie as tie
 

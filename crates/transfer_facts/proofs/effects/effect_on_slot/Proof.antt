@@ -1,7 +1,7 @@
 -- `transfer_facts::effects::effect_on_slot` meets its contract: by where the slot lies from the effect's range. Assumes nothing.
 use borrow.Author.Needs.{needs}
 use Rattle.model.specs.Tables.{factsOf}
-use Rattle.transfer_facts.proofs.Targets.{filled-outside, filled-past, filled-inside, copied-outside, copied-past, copied-inside}
+use Rattle.transfer_facts.proofs.SlotEffects.{filled-outside, filled-past, filled-inside, copied-outside, copied-past, copied-inside}
 use Rattle.transfer_facts.proofs.effects.effect_on_slot.Statement.{statement}
 use Rattle.transfer_facts.proofs.effects.effect_on_slot.Tie as tie
 

@@ -2,7 +2,7 @@
 -- Assumes nothing.
 use denote.Ref.{now}
 use borrow.Author.Needs.{needs}
-use Rattle.transfer_written.proofs.Notes.{note-elements, flag-elements}
+use Rattle.transfer_written.proofs.NoteElements.{note-elements, flag-elements}
 use Rattle.transfer_written.proofs.elements.elem_slots.Statement.{statement}
 use Rattle.transfer_written.proofs.elements.elem_slots.Tie as tie
 

@@ -2,7 +2,7 @@
 -- Assumes nothing.
 use denote.Ref.{now}
 use borrow.Author.Needs.{needs}
-use Rattle.transfer_written.proofs.Notes.{elements, no-elements}
+use Rattle.transfer_written.proofs.NoteElements.{elements, no-elements}
 use Rattle.transfer_written.proofs.elements.has_elements.Statement.{statement}
 use Rattle.transfer_written.proofs.elements.has_elements.Tie as tie
 

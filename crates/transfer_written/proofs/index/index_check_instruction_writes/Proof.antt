@@ -2,7 +2,7 @@
 use mathlib.Core.Logic.{⊎-elim}
 use borrow.Author.Needs.{needs}
 use Rattle.model.specs.Tables.{factIn}
-use Rattle.sheet.proofs.Asked.{measured}
+use Rattle.sheet.proofs.AcceptedSheet.{measured}
 use Rattle.transfer_written.proofs.Spans.{unchecked-spans, checked-spans, checked-n-spans, as-other-spans}
 use Rattle.transfer_written.proofs.index.index_check_instruction_writes.Statement.{statement}
 use Rattle.transfer_written.proofs.index.index_check_instruction_writes.Tie as tie

@@ -3,8 +3,8 @@ use mathlib.Core.Path.{_∙_}
 use native.Mathlib.Omega.{arith}
 use borrow.Author.Needs.{needs}
 use Rattle.model.specs.Tables.{factIn}
-use Rattle.sheet.proofs.Asked.{measured}
-use Rattle.transfer_written.proofs.Exact.{index-spans-are}
+use Rattle.sheet.proofs.AcceptedSheet.{measured}
+use Rattle.transfer_written.proofs.WrittenSlots.{index-spans-are}
 use Rattle.transfer_written.proofs.index.index_check_instruction_writes_slot.Statement.{statement}
 use Rattle.transfer_written.proofs.index.index_check_instruction_writes_slot.Tie as tie
 

@@ -2,7 +2,7 @@
 use Prim.Native.Nat.{_-_}
 use native.Mathlib.Omega.{arith}
 use borrow.Author.Needs.{needs}
-use Rattle.transfer_written.proofs.InRanges.{NoneHolds, none-yet, none-more, none-of-all, one-holds}
+use Rattle.transfer_written.proofs.RangeLoop.{NoneHolds, none-yet, none-more, none-of-all, one-holds}
 use Rattle.transfer_written.proofs.ranges.holds.Statement.{statement}
 use Rattle.transfer_written.proofs.ranges.holds.Tie as tie
 

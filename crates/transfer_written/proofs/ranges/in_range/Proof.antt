@@ -1,7 +1,7 @@
 -- `transfer_written::ranges::in_range` meets its contract: a slot before the start, and one from it on.
 -- Assumes nothing.
 use borrow.Author.Needs.{needs}
-use Rattle.transfer_written.proofs.InRange.{before, from-start}
+use Rattle.transfer_written.proofs.RangeTests.{before, from-start}
 use Rattle.transfer_written.proofs.ranges.in_range.Statement.{statement}
 use Rattle.transfer_written.proofs.ranges.in_range.Tie as tie
 

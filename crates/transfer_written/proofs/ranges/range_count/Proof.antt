@@ -1,6 +1,6 @@
 -- `transfer_written::ranges::range_count` meets its contract. Assumes nothing.
 use borrow.Author.Needs.{needs}
-use Rattle.transfer_written.proofs.InRanges.{span-count, ranges-count}
+use Rattle.transfer_written.proofs.RangeLoop.{span-count, ranges-count}
 use Rattle.transfer_written.proofs.ranges.range_count.Statement.{statement}
 use Rattle.transfer_written.proofs.ranges.range_count.Tie as tie
 

@@ -1,8 +1,8 @@
 -- `transfer_written::ranges::range_of` meets its contract. Assumes nothing.
 use native.Mathlib.Omega.{arith}
 use borrow.Author.Needs.{needs}
-use Rattle.sheet.proofs.Limited.{limited}
-use Rattle.transfer_written.proofs.InRanges.{span-range, range-inside, sheet-range}
+use Rattle.sheet.proofs.SizeLimits.{limited}
+use Rattle.transfer_written.proofs.RangeLoop.{span-range, range-inside, sheet-range}
 use Rattle.transfer_written.proofs.ranges.range_of.Statement.{statement}
 use Rattle.transfer_written.proofs.ranges.range_of.Tie as tie
 

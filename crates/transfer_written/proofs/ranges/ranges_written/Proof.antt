@@ -2,7 +2,7 @@
 use mathlib.Core.Path.{_∙_}
 use native.Mathlib.Omega.{arith}
 use borrow.Author.Needs.{needs}
-use Rattle.sheet.proofs.Asked.{measured}
+use Rattle.sheet.proofs.AcceptedSheet.{measured}
 use Rattle.transfer_written.proofs.Spans.{in-code, in-firsts, all-spans, own-spans}
 use Rattle.transfer_written.proofs.ranges.ranges_written.Statement.{statement}
 use Rattle.transfer_written.proofs.ranges.ranges_written.Tie as tie

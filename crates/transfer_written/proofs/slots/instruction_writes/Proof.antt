@@ -1,6 +1,6 @@
 -- `transfer_written::slots::instruction_writes` meets its contract: by the opcode, and for SlotSetN by its note. Assumes nothing.
 use borrow.Author.Needs.{needs}
-use Rattle.sheet.proofs.Asked.{measured}
+use Rattle.sheet.proofs.AcceptedSheet.{measured}
 use Rattle.transfer_written.proofs.Spans.{set-spans, element-spans, no-spans, other-spans}
 use Rattle.transfer_written.proofs.slots.instruction_writes.Statement.{statement}
 use Rattle.transfer_written.proofs.slots.instruction_writes.Tie as tie

@@ -2,8 +2,8 @@
 use mathlib.Core.Path.{_∙_}
 use native.Mathlib.Omega.{arith}
 use borrow.Author.Needs.{needs}
-use Rattle.sheet.proofs.Asked.{measured}
-use Rattle.transfer_written.proofs.Exact.{spans-are}
+use Rattle.sheet.proofs.AcceptedSheet.{measured}
+use Rattle.transfer_written.proofs.WrittenSlots.{spans-are}
 use Rattle.transfer_written.proofs.slots.instruction_writes_slot.Statement.{statement}
 use Rattle.transfer_written.proofs.slots.instruction_writes_slot.Tie as tie
 

@@ -1,0 +1,40 @@
+-- Numbers written one behind the other, each behind a space.
+-- Assumes nothing.
+use mathlib.Core.Path.{_≡_, sym, ap, _∙_}
+use mathlib.Core.List.{List, [], _∷_, _++_, append-assoc, append-nil}
+use Prim.Native.Nat.{ℕ, _+_, _*_, _≤_, _<_}
+use native.Mathlib.Numerals.{add-one}
+use native.Mathlib.Omega.{arith}
+use lib.ListN.{length, getD, take}
+use lib.Seq.{take-suc, take-all}
+use Rattle.model.specs.Listing.{decimal, space}
+use Rattle.text_words.specs.Text.{Added}
+use Rattle.text_words.proofs.TextWritten.{then, reword, no-text}
+use Rattle.check_replay.specs.Line.{spaced}
+
+spaced-last : (xs : List ℕ) (x : ℕ) → spaced (xs ++ (x ∷ [])) ≡ spaced xs ++ (space ++ decimal x)
+unfolding spaced
+spaced-last [] x = append-nil (space ++ decimal x)
+spaced-last (y ∷ ys) x =
+    ap (λ (t : List ℕ). (space ++ decimal y) ++ t) (spaced-last ys x) ∙ sym (append-assoc (space ++ decimal y) (spaced ys) (space ++ decimal x))
+
+module _ (xs : List ℕ) where
+  pub none : (old : List ℕ) (at : ℕ) → at ≤ length old → Added (21 * 0) (spaced (take 0 xs)) at old at old
+  unfolding spaced
+  none old at h = no-text old at h
+
+  -- one more
+  pub more : {old mid new : List ℕ} {at a next i : ℕ} → i < length xs → Added (21 * i) (spaced (take i xs)) at old a mid
+      → Added 21 (space ++ decimal (getD xs i 0)) a mid next new → Added (21 * (i + 1)) (spaced (take (i + 1) xs)) at old next new
+  more {i} h w v =
+      let e : spaced (take i xs) ++ (space ++ decimal (getD xs i 0)) ≡ spaced (take (i + 1) xs) = rw (add-one, take-suc xs i 0 h) (sym (spaced-last (take i xs) (getD xs i 0))) in
+      reword (omega arith) e (then w v)
+
+  -- all of them
+  pub all : {old new : List ℕ} {at next i : ℕ} → i ≤ length xs → length xs ≤ i → Added (21 * i) (spaced (take i xs)) at old next new
+      → Added (21 * length xs) (spaced xs) at old next new
+  all {i} h k w = reword (omega arith) (ap spaced (take-all i xs k)) w
+
+-- an equal number
+pub same : {x y at next : ℕ} {old new : List ℕ} → x ≡ y → Added 21 (space ++ decimal x) at old next new → Added 21 (space ++ decimal y) at old next new
+same e w = reword (omega arith) (ap (λ (z : ℕ). space ++ decimal z) e) w
