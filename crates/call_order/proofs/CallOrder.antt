@@ -22,7 +22,7 @@ use Rattle.budget.specs.declared.Outcome.{Outcome}
 use Rattle.stage_memory.specs.Stage.{zeroScratch, tableIf}
 use Rattle.call_admission.specs.Graph.{chargeGraph}
 use Rattle.stage.specs.Staged.{noCounts, staged, stagedBy}
-use Rattle.call_lengths.specs.Stored.{Stored, Lengthened}
+use Rattle.call_order.specs.Stored.{Stored, Lengthened}
 use Rattle.call_order.specs.Values.{ValueFacts, valueFacts, values, valued, valuedBy, noValues, ValuesLeft}
 use Rattle.call_order.specs.Answer.{countsUnless, answerOf}
 use Rattle.call_order.proofs.PartAfterPart.{continue-twice, then-left, left-same}

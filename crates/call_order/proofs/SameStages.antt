@@ -18,7 +18,7 @@ use Rattle.model.specs.declared.AnalysisKind.{AnalysisKind}
 use Rattle.model.specs.declared.AnalysisKind.the-variants.{Constant, IndexCheck, Container}
 use Rattle.finality.proofs.Lengths.{zeros-length}
 use Rattle.stage_memory.specs.Stage.{zeroScratch}
-use Rattle.call_lengths.proofs.IndexRuns.{same-run, other-run}
+use Rattle.call_order.proofs.IndexRuns.{same-run, other-run}
 
 -- question 8 with a scratch that was cleared
 pub room-cleared : (n : ℕ) (t : Table) (W : Scratch) {w : Scratch} → w ≡ zeroScratch W

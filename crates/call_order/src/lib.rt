@@ -1,45 +1,14 @@
+// "for index, the ended constant run": what each IndexCheck makes of its fact of b, found once, before the index run.
+// What the index analysis reads of the constants.
 // "Order: flow graph, dependencies, constants, index, containers.": the three analyses one after the other, as laws, and their answer.
-ghost use mathlib.Core.Path.{_≡_};
-ghost use Rattle.call_order.specs.Answer.{countsUnless, answerOf};
-use budget::Outcome;
-use model::Answer;
-use model::Counts;
+mod facts;
+mod order;
+mod tables;
 
-// The counts of an analysis: none where a later one was refused.
-pub fn counts_unless(refused: bool, counts: Counts) -> Counts
-    ensures { λ r. ⌜ r ≡ countsUnless refused counts ⌝ }
-{
-    if refused {
-        return Counts {
-            tracked: 0,
-            pops: 0,
-        };
-    }
-    counts
-}
+pub use facts::length_facts;
+pub use order::answer_of;
+pub use order::counts_unless;
+pub use tables::store_lengths;
 
-// "answers s and the pop count of each analysis and the budget"; 7; 8
-pub fn answer_of(outcome: Outcome, constant: Counts, index: Counts, container: Counts) -> Answer
-    ensures { λ r. ⌜ r ≡ answerOf outcome constant index container ⌝ }
-{
-    match outcome {
-        Outcome::Covered { left } => Answer::Analyzed {
-            constant,
-            index,
-            container,
-            left,
-        },
-        Outcome::Refused {
-            stage,
-            requested,
-            remaining,
-            left,
-        } => Answer::OverBudget {
-            stage,
-            requested,
-            remaining,
-            left,
-        },
-        Outcome::NoRoom { left } => Answer::NoRoom { left },
-    }
-}
+// "Opcodes (decimal)"
+const INDEX_CHECK: u8 = 121;

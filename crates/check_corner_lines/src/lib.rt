@@ -1,13 +1,13 @@
 // The lines that are printed, each at the front of a lent buffer. The answer is its length.
 ghost use Prim.Native.Nat.{_+_, _≤_};
 ghost use lib.ListN.{length};
-ghost use Rattle.text_words.specs.Text.{Added};
+ghost use Rattle.text_lines.specs.Text.{Added};
 ghost use Rattle.check_corner_lines.specs.Lines.{five, refusedCornerLine, acceptedLine, successorsLine, yesOrNo, writesLine, indexWritesLine};
 use model::FactCell;
 use model::InstructionSuccessors;
 use sheet::Sizes;
-use text_words::put;
-use text_words::put_spaced;
+use text_lines::put;
+use text_lines::put_spaced;
 
 // The number of the question that refuses a sheet.
 pub fn refused_corner_line(question: u8, out: &mut [u8]) -> usize

@@ -13,11 +13,11 @@ use Rattle.model.specs.Written.{written, indexWritten}
 use Rattle.model.specs.Tables.{factIn}
 use Rattle.model.specs.declared.Instruction.{Instruction}
 use Rattle.model.specs.declared.InstructionSuccessors.{InstructionSuccessors}
-use Rattle.text_words.specs.Text.{Added}
-use Rattle.text_words.proofs.TextWritten.{reword}
+use Rattle.text_lines.specs.Text.{Added}
+use Rattle.text_lines.proofs.TextWritten.{reword}
 use Rattle.check_corner_lines.specs.Lines.{successorsLine, writesLine, indexWritesLine}
 use Rattle.check_corner_text.specs.Answers.{answerLine}
-use Rattle.check_corner_cases.specs.declared.Question.{Question}
+use Rattle.check_corner_text.specs.declared.Question.{Question}
 
 module _ (sheet : List ℕ) (q : Question) {old new : List ℕ} {count : ℕ} where
   pub successors-answered : (n : ℕ) (inst : Instruction) {s : InstructionSuccessors} → q .asks ≡ 1 → n ≡ codeCount sheet → inst ≡ instruction sheet (q .pc) → s ≡ asRecord (successors n (q .pc) inst)

@@ -1,16 +1,28 @@
+// What a case is made of.
 // The line that answers a question about a sheet.
-ghost use Prim.Native.Nat.{_<_, _≤_};
-ghost use lib.ListN.{length};
-ghost use Rattle.model.specs.Sheet.{codeCount, firstRange};
-ghost use Rattle.memory.specs.Front.{Holds};
-ghost use Rattle.sheet.specs.Measured.{Accepted};
-ghost use Rattle.text_words.specs.Text.{Added};
-ghost use Rattle.check_corner_text.specs.Answers.{answerLine};
-use check_corner_cases::Question;
-use check_corner_lines::index_writes_line;
-use check_corner_lines::successors_line;
-use check_corner_lines::writes_line;
-use sheet::Sizes;
+mod cases;
+mod text;
+
+pub use cases::head_of;
+pub use cases::question_of;
+use model::FactCell;
+pub use text::answer_line;
+
+// What comes first in a case, in 8 bytes: the length of its name (8-bit), 0, how many questions it asks (16-bit), the length of its sheet (32-bit).
+pub struct Head {
+    pub name: usize,
+    pub questions: u16,
+    pub sheet: usize,
+}
+
+// A question about a sheet, in 16 bytes: what is asked, the kind of the fact (8-bit each), the instruction, the slot, 0 (16-bit each), the value of
+// the fact (64-bit).
+pub struct Question {
+    pub asks: u8,
+    pub pc: usize,
+    pub slot: u16,
+    pub before: FactCell,
+}
 
 // What a question asks.
 const SUCCESSORS: u8 = 1;
@@ -18,48 +30,3 @@ const SUCCESSORS: u8 = 1;
 const WRITES: u8 = 2;
 
 const INDEX_WRITES: u8 = 3;
-
-// The line, at the front of the buffer, and its length: 0 where nothing of these is asked.
-pub fn answer_line(
-    sheet: &[u8],
-    sizes: Sizes,
-    firsts: &[u16],
-    question: Question,
-    out: &mut [u8],
-) -> usize
-    requires { ⌜ Accepted (now sheet) sizes × Holds (firstRange (now sheet)) (codeCount (now sheet)) (now firsts) × (question .pc < sizes .«code_count») × (102 ≤ length (now out)) ⌝ }
-    ensures { λ r. ⌜ Added 102 (answerLine (now (sheet .entry)) question) 0 (now (out .entry)) r (now (out .exit)) ⌝ }
-{
-    let pc = question.pc;
-    let slot = question.slot;
-    let before = question.before;
-    let inst = sheet_fields::instruction_at(sheet, pc);
-    if question.asks == SUCCESSORS {
-        let successors = cfg::instruction_successors(sizes.code_count, pc, inst);
-        return successors_line(pc, successors, out);
-    }
-    if question.asks == WRITES {
-        let is_written = transfer_written::instruction_writes_slot(
-            sheet,
-            sizes,
-            firsts,
-            pc,
-            inst,
-            slot,
-        );
-        return writes_line(pc, slot, is_written, out);
-    }
-    if question.asks == INDEX_WRITES {
-        let is_written = transfer_written::index_check_instruction_writes_slot(
-            sheet,
-            sizes,
-            firsts,
-            pc,
-            inst,
-            before,
-            slot,
-        );
-        return index_writes_line(pc, before, slot, is_written, out);
-    }
-    0
-}

@@ -11,7 +11,7 @@ use lib.Seq.{length-take-le, take-at, drop-at, drop-drop, drop-append-le}
 use lib.Signed.{ltZ}
 use borrow.Author.Tests.{ltb-true}
 use Rattle.io.specs.Counts.{Counts}
-use Rattle.text_words.specs.Text.{Added}
+use Rattle.text_lines.specs.Text.{Added}
 use Rattle.check_input.specs.Answered.{answeredOf}
 use Rattle.check_input.specs.declared.Input.{Input}
 

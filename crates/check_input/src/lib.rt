@@ -9,10 +9,10 @@ ghost use lib.ListN.{length, take, drop};
 ghost use Rattle.io.specs.Counts.{Counts};
 ghost use Rattle.check_input.specs.Answered.{answeredOf};
 use libc::STDIN_FILENO;
-pub use sheet_bytes::u16_of;
-pub use sheet_bytes::u32_of;
-pub use sheet_bytes::u64_of;
-use text_words::put;
+pub use sheet::u16_of;
+pub use sheet::u32_of;
+pub use sheet::u64_of;
+use text_lines::put;
 
 // What came: count bytes, and then the input's end or a failed read, unless there was no room for more.
 pub struct Input {

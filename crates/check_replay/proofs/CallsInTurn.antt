@@ -11,8 +11,8 @@ use Rattle.check_replay.specs.Calls.{called, calledIn, withFirst, called
 use Rattle.check_replay.specs.Line.{calledLine, lineOf, replayLine}
 use Rattle.check_replay_lent.specs.declared.Checksum.{Checksum}
 use Rattle.check_replay.specs.declared.call.Called.{Called}
-use Rattle.text_words.specs.Text.{Added, ShowsText}
-use Rattle.text_words.proofs.TextWritten.{shows}
+use Rattle.text_lines.specs.Text.{Added, ShowsText}
+use Rattle.text_lines.proofs.TextWritten.{shows}
 
 module _ (head sheet : List ℕ) where
   pub first : (call : Called) → some call ≡ calledIn head sheet 0 start → some (called (call .answer) (call .checksum)) ≡ replayed head sheet 0

@@ -8,8 +8,8 @@ use native.Mathlib.Omega.{arith}
 use lib.ListN.{length, getD, take}
 use lib.Seq.{take-suc, take-all}
 use Rattle.model.specs.Listing.{decimal, space}
-use Rattle.text_words.specs.Text.{Added}
-use Rattle.text_words.proofs.TextWritten.{then, reword, no-text}
+use Rattle.text_lines.specs.Text.{Added}
+use Rattle.text_lines.proofs.TextWritten.{then, reword, no-text}
 use Rattle.check_replay.specs.Line.{spaced}
 
 spaced-last : (xs : List ℕ) (x : ℕ) → spaced (xs ++ (x ∷ [])) ≡ spaced xs ++ (space ++ decimal x)

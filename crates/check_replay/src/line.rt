@@ -1,7 +1,7 @@
 // The line of a recorded sheet.
 ghost use Prim.Native.Nat.{_+_, _*_, _≤_};
 ghost use lib.ListN.{length};
-ghost use Rattle.text_words.specs.Text.{Added, ShowsText};
+ghost use Rattle.text_lines.specs.Text.{Added, ShowsText};
 ghost use Rattle.model.specs.Call.{answerNumbered};
 ghost use Rattle.model.specs.Interface.{twelve};
 ghost use Rattle.check_replay.specs.Line.{spaced, replayLine};
@@ -9,8 +9,8 @@ use crate::calls::replay;
 use check_input::u64_of;
 use export_numbers::put_answer;
 use model::Answer;
-use text_words::put;
-use text_words::put_spaced;
+use text_lines::put;
+use text_lines::put_spaced;
 
 // Numbers, each behind a space.
 fn put_numbers(numbers: &[u64], at: usize, out: &mut [u8]) -> usize

@@ -5,7 +5,7 @@ use check_input::read_front;
 use libc::STDIN_FILENO;
 use libc::STDOUT_FILENO;
 use line::put_line;
-use sheet_bytes::u32_at;
+use sheet::u32_at;
 
 mod call;
 mod calls;

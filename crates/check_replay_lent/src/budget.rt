@@ -2,7 +2,7 @@
 ghost use mathlib.Core.Path.{_≡_};
 ghost use Rattle.check_replay_lent.specs.Lent.{given};
 use model::VerifierResources;
-use sheet_bytes::u64_at;
+use sheet::u64_at;
 
 pub fn budget_of(head: &[u8; 88]) -> VerifierResources
     ensures { λ r. ⌜ r ≡ given (now (head .entry)) ⌝ }

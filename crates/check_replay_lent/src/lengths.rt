@@ -4,7 +4,7 @@ ghost use mathlib.Core.Path.{_≡_};
 ghost use Prim.Native.Nat.{_+_, _<_, _≤_};
 ghost use lib.Dec.{eqb};
 ghost use Rattle.check_replay_lent.specs.Lengths.{changed, lentLength};
-use sheet_bytes::u32_in;
+use sheet::u32_in;
 
 // Call 0 lends what is needed. Call 1 lends longer buffers. Call 2 + which has that one short by one, or longer by one where nothing is needed.
 fn changed_length(call: usize, which: usize, count: usize) -> usize

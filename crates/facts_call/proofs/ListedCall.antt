@@ -16,8 +16,8 @@ use Rattle.model.specs.declared.AnalysisKind.the-variants.{Constant, IndexCheck
 use Rattle.model.specs.declared.Answer.{Answer}
 use Rattle.model.specs.declared.Answer.the-variants.{Analyzed}
 use Rattle.sheet_layouts.specs.Classes.{Classes}
-use Rattle.text_words.specs.Text.{Added, ShowsText}
-use Rattle.text_words.proofs.TextWritten.{then, shows}
+use Rattle.text_lines.specs.Text.{Added, ShowsText}
+use Rattle.text_lines.proofs.TextWritten.{then, shows}
 use Rattle.text_facts.specs.Text.{factTextBy}
 use Rattle.text_facts.proofs.FactTexts.{text-by}
 use Rattle.text_listing.specs.Answer.{Listable, choose, answerPart, sheetPart, lastLine, answerText}

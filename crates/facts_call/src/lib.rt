@@ -8,7 +8,7 @@ ghost use Rattle.model.specs.Sheet.{codeCount, firstRange};
 ghost use Rattle.memory.specs.Front.{Holds};
 ghost use Rattle.sheet.specs.Measured.{Accepted};
 ghost use Rattle.sheet_layouts.specs.Classes.{Classes};
-ghost use Rattle.text_words.specs.Text.{ShowsText};
+ghost use Rattle.text_lines.specs.Text.{ShowsText};
 use call_indexed::analyze_indexed;
 use model::AnalysisKind;
 use model::VerifierResources;

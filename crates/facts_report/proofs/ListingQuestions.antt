@@ -15,7 +15,7 @@ use Rattle.model.specs.Listing.{tooLarge, refusedLine, callLines, listingLent, 
 use Rattle.sheet.specs.Sizes.{sizesOf}
 use Rattle.sheet_questions.specs.Check.{checkOf, sheetCheck}
 use Rattle.sheet_questions.specs.declared.Admission.the-variants.{Refused}
-use Rattle.text_words.specs.Text.{ShowsText}
+use Rattle.text_lines.specs.Text.{ShowsText}
 
 -- the same text under another name
 pub shown-as : {text other : Option (List ℕ)} {old new : List ℕ} {count : ℕ} → other ≡ text → ShowsText text old count new → ShowsText other old count new

@@ -5,7 +5,7 @@ ghost use Prim.Native.Nat.{_≤_};
 ghost use lib.ListN.{length, take, drop};
 ghost use Rattle.model.specs.Listing.{asked, listing};
 ghost use Rattle.sheet.specs.Measured.{Accepted};
-ghost use Rattle.text_words.specs.Text.{ShowsText};
+ghost use Rattle.text_lines.specs.Text.{ShowsText};
 use facts_call::list_facts;
 use sheet::Sizes;
 use sheet_index::index_sheet;

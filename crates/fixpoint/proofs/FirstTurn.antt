@@ -22,8 +22,8 @@ use Rattle.sheet_layouts.specs.Classes.{equalBy}
 use Rattle.sheet_layouts.proofs.Classes.{equal-by}
 use Rattle.fixpoint_list.specs.Listed.{Listed}
 use Rattle.fixpoint_list.proofs.Listed.{empty-listed, listed-enter}
-use Rattle.fixpoint_visit.specs.News.{rowsVisited}
-use Rattle.fixpoint_visit.specs.Visits.{JoinRequires, JoinEnsures}
+use Rattle.fixpoint_step.specs.News.{rowsVisited}
+use Rattle.fixpoint_step.specs.Visits.{JoinRequires, JoinEnsures}
 use Rattle.fixpoint_step.specs.Stepped.{SheetIndex, TrackedSlots}
 use Rattle.fixpoint.specs.Memory.{RunMemory, runMemory}
 use Rattle.fixpoint.specs.Turn.{ranAnalysis, Turn, RunRequires}

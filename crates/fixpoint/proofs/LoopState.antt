@@ -20,8 +20,8 @@ use Rattle.finality.proofs.Final.{visited-good}
 use Rattle.finality.proofs.Fuel.{run-is}
 use Rattle.fixpoint_list.specs.Listed.{Listed, entered}
 use Rattle.fixpoint_list.proofs.Listed.{listed-empty, listed-take}
-use Rattle.fixpoint_visit.specs.News.{rowsVisited, rowsAfter, newsOf}
-use Rattle.fixpoint_visit.proofs.TwoSuccessors.{visits-parts}
+use Rattle.fixpoint_step.specs.News.{rowsVisited, rowsAfter, newsOf}
+use Rattle.fixpoint_step.proofs.TwoSuccessors.{visits-parts}
 use Rattle.fixpoint.specs.Turn.{StateLies, Running}
 use Rattle.model.proofs.Facts.{row-below}
 

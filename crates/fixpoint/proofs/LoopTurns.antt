@@ -23,7 +23,7 @@ use Rattle.model.specs.declared.InstructionSuccessors.{InstructionSuccessors}
 use Rattle.finality.proofs.Lawful.{lawful, successors-below}
 use Rattle.sheet.specs.declared.Sizes.{Sizes}
 use Rattle.fixpoint_list.specs.Listed.{entered}
-use Rattle.fixpoint_visit.proofs.TwoSuccessors.{news-among, news-length, list-length}
+use Rattle.fixpoint_step.proofs.TwoSuccessors.{news-among, news-length, list-length}
 use Rattle.fixpoint_step.specs.Stepped.{SheetIndex, TrackedSlots, StepRequires, StepEnsures}
 use Rattle.fixpoint.specs.declared.Ran.{Ran}
 use Rattle.fixpoint.specs.Memory.{RunMemory, runMemory, runTables, runRow}

@@ -23,9 +23,9 @@ use Rattle.sheet.proofs.SizeNames.{counted}
 use Rattle.fact_row.specs.Rows.{ReadableRow}
 use Rattle.sheet_layouts.specs.Classes.{equalBy}
 use Rattle.sheet_layouts.proofs.Classes.{equal-by}
-use Rattle.fixpoint_visit.specs.Visits.{SuccessorsRequires, SuccessorsEnsures}
+use Rattle.fixpoint_step.specs.Visits.{SuccessorsRequires, SuccessorsEnsures}
 use Rattle.fixpoint_step.specs.Stepped.{SheetIndex, TrackedSlots, StepRequires, StepEnsures, CopyEnsures}
-use Rattle.fixpoint_visit.proofs.VisitedTables.{row-end, rowPart, part-lies}
+use Rattle.fixpoint_step.proofs.VisitedTables.{row-end, rowPart, part-lies}
 use Rattle.model.proofs.Facts.{read-back, lies-back, lies-kinds, lies-values}
 
 -- the length's fact of one instruction is all that its transfer reads

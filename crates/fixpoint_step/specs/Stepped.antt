@@ -19,7 +19,7 @@ use Rattle.memory.specs.Front.{Holds}
 use Rattle.sheet.specs.Measured.{Accepted}
 use Rattle.sheet.specs.declared.Sizes.{Sizes}
 use Rattle.sheet_layouts.specs.Classes.{Classes}
-use Rattle.fixpoint_visit.specs.News.{rowsAfter, newsOf}
+use Rattle.fixpoint_step.specs.News.{rowsAfter, newsOf}
 
 -- What is found once a call: the first range of each instruction, the class of each layout, and room for the length facts.
 pub record SheetIndex (sheet : List ℕ) (sizes : Sizes) (firsts classes lengthKinds lengthValues : List ℕ) : Type 0 where

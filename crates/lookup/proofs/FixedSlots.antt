@@ -10,7 +10,7 @@ use lib.ListN.{getD}
 use borrow.Author.Tests.{le-leb, lt-leb, eq-eqb, ne-eqb}
 use Rattle.model.specs.Lookup.{Shown, oneShown, mixedShown, show, showIf, shown, cellAt}
 use Rattle.lookup.specs.Shown.{shownBy}
-use Rattle.lookup_tables.proofs.Rows.{in-table}
+use Rattle.lookup.proofs.Rows.{in-table}
 use Rattle.lookup.specs.declared.shown.Seen.{Seen}
 use Rattle.lookup.specs.declared.shown.Seen.the-variants.{Nothing, One, Mixed}
 

@@ -1,3 +1,8 @@
+-- What the tests of slots and lengths show. Agreement is for other crates to cite.
+pub mod Ascending
+pub mod Agreement
+-- What the tests of a row and its cell show
+pub mod Rows
 -- What the tests of a lookup show
 pub mod FixedSlots
 pub mod LookupAnswers

@@ -14,11 +14,11 @@ use Rattle.model.specs.declared.SlotFact.{SlotFact}
 use Rattle.model.specs.declared.SlotFact.the-variants.{Absent, Damaged}
 use Rattle.fact_row.specs.Place.{placed}
 use Rattle.lookup.specs.Shown.{shownBy}
-use Rattle.lookup_tables.specs.Inside.{Inside, rowsNamed}
+use Rattle.lookup.specs.Inside.{Inside, rowsNamed}
 use Rattle.fact_row.specs.declared.Place.{Place}
 use Rattle.fact_row.specs.declared.Place.the-variants.{At, Untracked}
 use Rattle.lookup.specs.declared.shown.Seen.{Seen}
-use Rattle.lookup_tables.proofs.Agreement.{agreed}
+use Rattle.lookup.proofs.Agreement.{agreed}
 
 -- a place lies among the slots
 pub place-within : (i : ℕ) (slots : List ℕ) (slot j : ℕ) → placeFrom i slots slot ≡ some j → (i ≤ j) × (j < i + length slots)

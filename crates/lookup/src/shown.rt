@@ -5,7 +5,7 @@ ghost use lib.ListN.{length};
 ghost use lib.Dec.{eqb, leb};
 ghost use Rattle.model.specs.Lookup.{show, showIf, shown, fixedAt};
 ghost use Rattle.fact_row.specs.Place.{placed};
-ghost use Rattle.lookup_tables.specs.Inside.{Inside};
+ghost use Rattle.lookup.specs.Inside.{Inside};
 ghost use Rattle.lookup.specs.Shown.{shownBy};
 use fact_row::Place;
 use model::SlotFact;

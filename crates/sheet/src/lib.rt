@@ -1,9 +1,20 @@
+// Little-endian numbers in a slice of bytes. Each compiles to one load.
 // The sheet: its sizes, and where its arrays begin.
-ghost use mathlib.Core.Path.{_≡_};
-ghost use Prim.Native.Nat.{_<_, _≤_};
-ghost use lib.ListN.{length};
-ghost use Rattle.model.specs.Sheet.{size};
-use sheet_bytes::u32_in;
+mod bytes;
+mod sizes;
+
+pub use bytes::byte_at;
+pub use bytes::byte_in;
+pub use bytes::u16_at;
+pub use bytes::u16_in;
+pub use bytes::u16_of;
+pub use bytes::u32_at;
+pub use bytes::u32_in;
+pub use bytes::u32_of;
+pub use bytes::u64_at;
+pub use bytes::u64_in;
+pub use bytes::u64_of;
+pub use sizes::size_at;
 
 // Where each array of a sheet begins; the code begins at 40.
 pub struct Places {
@@ -36,12 +47,4 @@ pub struct Sizes {
     pub recv_slots: usize,
     pub is_closure: usize,
     pub places: Places,
-}
-
-// The size j, which may be any 32 bits until its limit has been asked.
-pub fn size_at(sheet: &[u8], j: usize) -> usize
-    requires { ⌜ (40 ≤ length (now sheet)) × (j < 10) ⌝ }
-    ensures { λ r. ⌜ (r ≡ size (now (sheet .entry)) j) × (r < 4294967296) ⌝ }
-{
-    u32_in(sheet, 0, j) as usize
 }

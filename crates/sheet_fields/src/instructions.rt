@@ -6,11 +6,11 @@ ghost use Rattle.model.specs.Sheet.{instruction, noteKind, noteA, noteB, writeC
 ghost use Rattle.sheet.specs.Measured.{Measured};
 use model::Instruction;
 use sheet::Sizes;
-use sheet_bytes::byte_at;
-use sheet_bytes::byte_in;
-use sheet_bytes::u16_at;
-use sheet_bytes::u16_in;
-use sheet_bytes::u32_in;
+use sheet::byte_at;
+use sheet::byte_in;
+use sheet::u16_at;
+use sheet::u16_in;
+use sheet::u32_in;
 
 // The instruction at pc: op, flags, a, b, c.
 pub fn instruction_at(sheet: &[u8], pc: usize) -> Instruction

@@ -5,9 +5,9 @@ ghost use Rattle.model.specs.Bytes.{byte};
 ghost use Rattle.model.specs.Sheet.{constantKind, constantBits, paramWidth, paramKind, paramA, paramB, layoutLength, slotKindsAt};
 ghost use Rattle.sheet.specs.Measured.{Measured};
 use sheet::Sizes;
-use sheet_bytes::byte_in;
-use sheet_bytes::u16_in;
-use sheet_bytes::u64_in;
+use sheet::byte_in;
+use sheet::u16_in;
+use sheet::u64_in;
 
 // The kind of constant i.
 pub fn constant_kind_at(sheet: &[u8], sizes: Sizes, i: usize) -> u8

@@ -22,7 +22,7 @@ use Rattle.budget.specs.Outcome.{asSpent, leaves, leavesOf}
 use Rattle.budget.specs.declared.Outcome.{Outcome}
 use Rattle.budget.specs.declared.Outcome.the-variants.{Covered}
 use Rattle.budget.proofs.Outcomes.{Left, covered, stopped, left-by}
-use Rattle.stage_room.specs.Room.{roomBy}
+use Rattle.stage_memory.specs.Room.{roomBy}
 use Rattle.stage_prepare.specs.declared.Prepared.{Prepared}
 use Rattle.stage_prepare.specs.Begin.{entering, enterIf, Begun, begin}
 use Rattle.stage_prepare.specs.Prepare.{something, PrepareEnd, prepared, preparedBy, unprepared}

@@ -36,7 +36,7 @@ use Rattle.fixpoint.specs.Memory.{RunMemory, runMemory, zeroRun}
 use Rattle.fixpoint.specs.Turn.{RunRequires}
 use Rattle.fixpoint.specs.Result.{RunLeft, ran, ranTables}
 use Rattle.fixpoint.proofs.RunEnds.{RunLengths}
-use Rattle.stage_room.proofs.RoomTests.{some-room, cells-fit}
+use Rattle.stage_memory.proofs.RoomTests.{some-room, cells-fit}
 use Rattle.stage_memory.specs.Stage.{zeroScratch, countsIf}
 use Rattle.stage_memory.proofs.RecordEqualities.{table-path, scratch-path}
 use Rattle.stage_prepare.specs.declared.Prepared.{Prepared}

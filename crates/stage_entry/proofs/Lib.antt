@@ -1,4 +1,6 @@
 -- The laws of this crate.
+pub mod LayoutCharges
+-- The laws of this crate.
 pub mod ParamFacts
 pub mod ParamStarts
 pub mod RowsMade

@@ -9,6 +9,7 @@ ghost use Rattle.model.specs.Analyses.{containerRow, firstRow};
 ghost use Rattle.budget.specs.Outcome.{leaves, leavesOf};
 ghost use Rattle.sheet.specs.Measured.{Measured};
 ghost use Rattle.stage_entry.specs.First.{Blank, rowLaid, rowBlank};
+use crate::layouts::charge_instruction_facts;
 use crate::seeds::param_row;
 use budget::Outcome;
 use memory::clear_u8;
@@ -16,7 +17,6 @@ use memory::clear_u64;
 use model::AnalysisKind;
 use model::VerifierResources;
 use sheet::Sizes;
-use stage_charges::charge_instruction_facts;
 
 // "for containers with the Parameters facts in it": the parameters' charges, then those of the notes' facts.
 fn container_row(

@@ -12,6 +12,7 @@ ghost use Rattle.budget.specs.Outcome.{leaves, leavesOf};
 ghost use Rattle.sheet.specs.Measured.{Measured};
 ghost use Rattle.fact_row.specs.Rows.{WritableRow};
 ghost use Rattle.stage_entry.specs.First.{Blank, rowLaid, rowBlank};
+use crate::layouts::charge_layouts;
 use crate::params::ParamStart;
 use crate::params::param_fact;
 use crate::params::param_start;
@@ -24,7 +25,6 @@ use model::FactCell;
 use model::VerifierResources;
 use sheet::Sizes;
 use sheet_fields::param_width_at;
-use stage_charges::charge_layouts;
 
 // "layout bytes are charged even for an untracked slot, and of two at one slot the later stays"
 fn seed_fact(

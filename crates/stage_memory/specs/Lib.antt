@@ -1,2 +1,4 @@
+-- Question 8
+pub mod Room
 -- What is cleared
 pub mod Stage

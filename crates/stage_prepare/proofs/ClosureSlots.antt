@@ -33,7 +33,7 @@ use Rattle.sheet.proofs.SizeNames.{counted}
 use Rattle.sheet.proofs.SizeLimits.{limited}
 use Rattle.model.proofs.Tests.{both-left, both-right}
 use Rattle.closure_marks.specs.Slots.{fittedIf, fitted}
-use Rattle.stage_room.specs.Room.{roomBy}
+use Rattle.stage_memory.specs.Room.{roomBy}
 use Rattle.closure.specs.Closed.{Closed, closed, closedBy}
 use Rattle.stage_prepare.specs.Begin.{enterIf, Begun, begin, enough, rowFilled, rowZero}
 use Rattle.stage_prepare.specs.Prepare.{something, PrepareEnd, prepared, preparedBy, unprepared}

@@ -18,7 +18,7 @@ use Rattle.budget.specs.declared.Outcome.the-variants.{Covered}
 use Rattle.budget.proofs.Outcomes.{NotCovered, stopped-then, stopped-leaves, spent-stopped}
 use Rattle.budget.proofs.Spending.{covered}
 use Rattle.finality.proofs.Lengths.{zeros-length}
-use Rattle.stage_room.specs.Room.{roomBy}
+use Rattle.stage_memory.specs.Room.{roomBy}
 use Rattle.stage_prepare.specs.declared.Room.{Room}
 use Rattle.stage_prepare.specs.Begin.{Begun, begin, enough}
 use Rattle.stage_prepare.specs.Prepare.{something, PrepareEnd, prepared, preparedBy, unprepared}

@@ -26,7 +26,7 @@ use Rattle.budget.proofs.Outcomes.{Left, covered, stopped, left-by, covered-lea
 use Rattle.sheet.specs.Measured.{Accepted, Measured}
 use Rattle.sheet.specs.declared.Sizes.{Sizes}
 use Rattle.sheet.proofs.AcceptedSheet.{measured}
-use Rattle.stage_room.specs.Room.{roomBy}
+use Rattle.stage_memory.specs.Room.{roomBy}
 use Rattle.stage_entry.specs.First.{Blank, rowLaid, rowBlank}
 use Rattle.stage_entry.proofs.RowsMade.{lies-of}
 use Rattle.stage_prepare.specs.Begin.{entering, enterIf, enough, rowFilled, rowZero}

@@ -13,7 +13,7 @@ use Rattle.model.specs.Sheet.{codeCount, localSlots}
 use Rattle.model.specs.Analyses.{askRoom, chargeMatrix, firstRow}
 use Rattle.model.specs.Call.{zeros, filled}
 use Rattle.model.specs.declared.AnalysisKind.{AnalysisKind}
-use Rattle.stage_room.specs.Room.{roomBy}
+use Rattle.stage_memory.specs.Room.{roomBy}
 use Rattle.stage_prepare.specs.declared.Room.{Room}
 
 -- ---- definitions

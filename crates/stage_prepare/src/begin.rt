@@ -21,7 +21,7 @@ use memory::clear_u16;
 use model::AnalysisKind;
 use model::VerifierResources;
 use sheet::Sizes;
-use stage_room::room_for;
+use stage_memory::room_for;
 
 // "With s or n zero it ends at once"
 fn is_something(n: usize, s: usize) -> bool

@@ -12,7 +12,7 @@ use budget::Outcome;
 use model::AnalysisKind;
 use model::VerifierResources;
 use sheet::Sizes;
-use stage_charges::charge_matrix;
+use stage_entry::charge_matrix;
 use stage_entry::first_row;
 
 // "its matrix charge", then the first row with its charges, in a row that is zero; a refusal leaves it zero.

@@ -4,13 +4,13 @@ ghost use Prim.Native.Nat.{ℕ, _+_, _≤_};
 ghost use lib.ListN.{length};
 ghost use Rattle.model.specs.Listing.{ascii, decimal, constantText};
 ghost use Rattle.model.specs.Tables.{factOf};
-ghost use Rattle.text_words.specs.Text.{Added};
+ghost use Rattle.text_lines.specs.Text.{Added};
 ghost use Rattle.text_facts.specs.Text.{containerTextBy, factTextBy};
 use model::AnalysisKind;
 use sheet_layouts::class_of;
-use text_words::put;
-use text_words::put_decimal;
-use text_words::put_spaced;
+use text_lines::put;
+use text_lines::put_decimal;
+use text_lines::put_spaced;
 
 // "A known constant prints in signed decimal.": kind 3 is value − 2^64
 fn put_constant(kind: u8, value: u64, at: usize, out: &mut [u8]) -> usize

@@ -13,9 +13,9 @@ use Rattle.model.specs.Fact.{Fact, unknown, Row}
 use Rattle.model.specs.Tables.{factOf, factsOf}
 use Rattle.model.specs.Listing.{decimal, space, newline, rowLines, presentLines}
 use Rattle.model.proofs.Facts.{length-facts}
-use Rattle.text_words.specs.Text.{Added}
+use Rattle.text_lines.specs.Text.{Added}
 use Rattle.text_listing.specs.Rows.{cellLine, presentRow, tableRowOf}
-use Rattle.text_words.proofs.TextWritten.{then, reword, no-text}
+use Rattle.text_lines.proofs.TextWritten.{then, reword, no-text}
 
 -- ---- the facts of a row's kinds and values
 

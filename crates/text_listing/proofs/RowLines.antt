@@ -13,8 +13,8 @@ use Rattle.model.specs.Count.{collect}
 use Rattle.model.specs.Listing.{presentLines, headLine}
 use Rattle.model.specs.declared.Counts.{Counts}
 use Rattle.model.specs.declared.AnalysisKind.{AnalysisKind}
-use Rattle.text_words.specs.Text.{Added}
-use Rattle.text_words.proofs.TextWritten.{then, reword, no-text}
+use Rattle.text_lines.specs.Text.{Added}
+use Rattle.text_lines.proofs.TextWritten.{then, reword, no-text}
 use Rattle.text_listing.specs.Rows.{tableRowOf, rowOf, printedAnalysis}
 use Rattle.model.specs.Call.{table}
 

@@ -3,7 +3,7 @@ ghost use mathlib.Core.Path.{_≡_};
 ghost use Prim.Native.Nat.{_+_, _≤_};
 ghost use lib.ListN.{length};
 ghost use Rattle.model.specs.Call.{table};
-ghost use Rattle.text_words.specs.Text.{Added};
+ghost use Rattle.text_lines.specs.Text.{Added};
 ghost use Rattle.text_facts.specs.Text.{factTextBy};
 ghost use Rattle.text_listing.specs.Rows.{printedAnalysis};
 ghost use Rattle.text_listing.specs.Answer.{Listable, AnswerListable, choose, answerPart, lastLine};

@@ -5,14 +5,14 @@ ghost use lib.ListN.{length, take};
 ghost use Rattle.model.specs.Count.{collect};
 ghost use Rattle.model.specs.Listing.{presentLines};
 ghost use Rattle.model.specs.Tables.{factOf};
-ghost use Rattle.text_words.specs.Text.{Added};
+ghost use Rattle.text_lines.specs.Text.{Added};
 ghost use Rattle.text_facts.specs.Text.{factTextBy};
 ghost use Rattle.text_listing.specs.Rows.{cellLine, tableRowOf, rowOf};
 use model::AnalysisKind;
 use text_facts::put_fact;
-use text_words::put;
-use text_words::put_decimal;
-use text_words::put_spaced;
+use text_lines::put;
+use text_lines::put_decimal;
+use text_lines::put_spaced;
 
 // The line of one cell.
 fn cell_line(

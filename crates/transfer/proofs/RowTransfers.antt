@@ -24,8 +24,8 @@ use Rattle.transfer_facts.proofs.EffectRules.{effect-cells}
 use Rattle.transfer_written.specs.Ranges.{holdsSlot, SlotsAre}
 use Rattle.transfer_written.specs.Spans.{slotWritten}
 use Rattle.transfer_written.specs.declared.Written.{Written}
-use Rattle.transfer_rows.specs.Wrote.{Wrote}
-use Rattle.transfer_rows.proofs.SlotWrites.{wrote-row}
+use Rattle.transfer.specs.Wrote.{Wrote}
+use Rattle.transfer.proofs.SlotWrites.{wrote-row}
 use Rattle.transfer.specs.Analysis.{checksIndex}
 
 -- ---- IndexCheck

@@ -11,6 +11,7 @@ ghost use Rattle.memory.specs.Front.{Holds};
 ghost use Rattle.sheet.specs.Measured.{Accepted};
 ghost use Rattle.fact_row.specs.Rows.{ReadableRow, WritableRow};
 ghost use Rattle.transfer.specs.Analysis.{checksIndex};
+use crate::rows::write_slots;
 use fact_row::checked_cell;
 use fact_row::set_fact;
 use fact_row::wide;
@@ -19,7 +20,6 @@ use model::FactCell;
 use model::Instruction;
 use sheet::Sizes;
 use transfer_facts::effect_of;
-use transfer_rows::write_slots;
 use transfer_written::slots_written;
 
 // "Opcodes (decimal)"

@@ -1,7 +1,7 @@
 -- `check_corner_lines::accepted_line` meets its contract: the words, then five numbers twice.
 -- Assumes nothing.
 use Rattle.model.specs.Listing.{ascii, newline}
-use Rattle.text_words.proofs.TextWritten.{then}
+use Rattle.text_lines.proofs.TextWritten.{then}
 use Rattle.check_corner_lines.specs.Lines.{acceptedLine}
 use borrow.Author.Needs.{needs}
 use Rattle.check_corner_lines.proofs.accepted_line.Statement.{statement}

@@ -1,6 +1,6 @@
 -- `check_corner_lines::put_five` meets its contract: one number behind the other.
 -- Assumes nothing.
-use Rattle.text_words.proofs.TextWritten.{then}
+use Rattle.text_lines.proofs.TextWritten.{then}
 use Rattle.check_corner_lines.specs.Lines.{five}
 use borrow.Author.Needs.{needs}
 use Rattle.check_corner_lines.proofs.put_five.Statement.{statement}

@@ -3,7 +3,7 @@
 use mathlib.Core.Path.{refl}
 use native.Mathlib.Omega.{arith}
 use Rattle.model.specs.Listing.{ascii}
-use Rattle.text_words.proofs.TextWritten.{reword}
+use Rattle.text_lines.proofs.TextWritten.{reword}
 use Rattle.check_corner_lines.specs.Lines.{yesOrNo}
 use borrow.Author.Needs.{needs}
 use Rattle.check_corner_lines.proofs.put_yes_or_no.Statement.{statement}

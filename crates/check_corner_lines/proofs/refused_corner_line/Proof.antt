@@ -1,7 +1,7 @@
 -- `check_corner_lines::refused_corner_line` meets its contract: number of the question behind its words.
 -- Assumes nothing.
 use Rattle.model.specs.Listing.{ascii, newline}
-use Rattle.text_words.proofs.TextWritten.{then}
+use Rattle.text_lines.proofs.TextWritten.{then}
 use Rattle.check_corner_lines.specs.Lines.{refusedCornerLine}
 use borrow.Author.Needs.{needs}
 use Rattle.check_corner_lines.proofs.refused_corner_line.Statement.{statement}

@@ -1,7 +1,7 @@
 -- `check_corner_lines::writes_line` meets its contract: one part behind the other.
 -- Assumes nothing.
 use Rattle.model.specs.Listing.{ascii}
-use Rattle.text_words.proofs.TextWritten.{then}
+use Rattle.text_lines.proofs.TextWritten.{then}
 use Rattle.check_corner_lines.specs.Lines.{writesLine}
 use borrow.Author.Needs.{needs}
 use Rattle.check_corner_lines.proofs.writes_line.Statement.{statement}

@@ -7,7 +7,7 @@ use denote.Ref.{now}
 use borrow.Author.Tests.{le-leb, lt-leb}
 use Rattle.model.specs.Listing.{asked}
 use Rattle.sheet_questions.proofs.FirstRefusal.{accepted}
-use Rattle.text_words.proofs.TextWritten.{shows}
+use Rattle.text_lines.proofs.TextWritten.{shows}
 use Rattle.facts_report.proofs.ListingQuestions.{shown-as, listing-long, listing-asked, asked-refused, check-refused}
 use borrow.Author.Needs.{needs}
 use Rattle.facts_report.proofs.list.Statement.{statement}

@@ -6,7 +6,7 @@ use denote.Ref.{now}
 use borrow.Author.Tests.{le-leb, lt-leb}
 use Rattle.sheet.proofs.SizeNames.{counted}
 use Rattle.sheet_index.proofs.IndexFound.{few-layouts, firsts-found, classes-found}
-use Rattle.text_words.proofs.TextWritten.{shows}
+use Rattle.text_lines.proofs.TextWritten.{shows}
 use Rattle.facts_report.proofs.ListingQuestions.{shown-as, many-instructions, many-locals, asked-call}
 use borrow.Author.Needs.{needs}
 use Rattle.facts_report.proofs.list_accepted.Statement.{statement}

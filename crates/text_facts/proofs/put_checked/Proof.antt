@@ -1,6 +1,6 @@
 -- `text_facts::put_checked` meets its contract. Assumes nothing.
 use Rattle.model.specs.Listing.{ascii}
-use Rattle.text_words.proofs.TextWritten.{then}
+use Rattle.text_lines.proofs.TextWritten.{then}
 use borrow.Author.Needs.{needs}
 use Rattle.text_facts.proofs.put_checked.Statement.{statement}
 use Rattle.text_facts.proofs.put_checked.Tie as tie

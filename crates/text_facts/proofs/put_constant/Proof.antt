@@ -1,6 +1,6 @@
 -- `text_facts::put_constant` meets its contract. Assumes nothing.
 use Rattle.model.specs.Listing.{ascii}
-use Rattle.text_words.proofs.TextWritten.{reword, then}
+use Rattle.text_lines.proofs.TextWritten.{reword, then}
 use Rattle.text_facts.proofs.FactTexts.{constant-from-zero, constant-least, constant-below-zero}
 use borrow.Author.Needs.{needs}
 use native.Mathlib.Omega.{arith}

@@ -1,7 +1,7 @@
 -- `text_facts::put_fact` meets its contract. Assumes nothing.
 use mathlib.Core.List.{[]}
 use Rattle.model.specs.Listing.{ascii}
-use Rattle.text_words.proofs.TextWritten.{reword}
+use Rattle.text_lines.proofs.TextWritten.{reword}
 use Rattle.text_facts.proofs.FactTexts.{unknown-text, conflict-text, constant-text, checked-text, container-text}
 use borrow.Author.Needs.{needs}
 use native.Mathlib.Omega.{arith}

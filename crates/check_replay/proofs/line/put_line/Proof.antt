@@ -2,7 +2,7 @@
 -- Assumes nothing.
 use borrow.Author.Needs.{needs}
 use Rattle.model.specs.Listing.{ascii, newline}
-use Rattle.text_words.proofs.TextWritten.{then}
+use Rattle.text_lines.proofs.TextWritten.{then}
 use Rattle.check_replay.specs.Line.{calledLine}
 use Rattle.check_replay.proofs.CallsInTurn.{shown}
 use Rattle.check_replay.proofs.SpacedNumbers.{same}

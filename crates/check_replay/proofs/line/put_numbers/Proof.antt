@@ -4,7 +4,7 @@ use Prim.Native.Nat.{_-_, _*_, _≤_}
 use native.Mathlib.Omega.{arith}
 use lib.ListN.{length, take}
 use denote.Ref.{now}
-use Rattle.text_words.specs.Text.{Added}
+use Rattle.text_lines.specs.Text.{Added}
 use Rattle.check_replay.specs.Line.{spaced}
 use Rattle.check_replay.proofs.SpacedNumbers.{none, more, all}
 use Rattle.check_replay.proofs.line.put_numbers.Statement.{statement}

@@ -4,7 +4,7 @@ use mathlib.Core.Path.{ap, _∙_}
 use mathlib.Core.List.{append-nil}
 use borrow.Author.Needs.{needs}
 use native.Mathlib.Omega.{arith}
-use Rattle.text_words.proofs.TextWritten.{reword}
+use Rattle.text_lines.proofs.TextWritten.{reword}
 use Rattle.check_replay.specs.Line.{spaced}
 use Rattle.check_replay.proofs.line.put_twelve.Statement.{statement}
 use Rattle.check_replay.proofs.line.put_twelve.Tie as tie

@@ -1,6 +1,6 @@
 -- `lookup::shown::fixed_at` meets its contract. Assumes nothing.
 use Rattle.model.specs.Lookup.{fixedFact}
-use Rattle.lookup_tables.proofs.Rows.{inside-at}
+use Rattle.lookup.proofs.Rows.{inside-at}
 use Rattle.lookup.proofs.LookupAnswers.{fixed-untracked, fixed-tracked}
 use borrow.Author.Needs.{needs}
 use denote.Ref.{now}

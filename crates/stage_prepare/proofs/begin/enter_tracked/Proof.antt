@@ -9,7 +9,7 @@ use borrow.Author.Tests.{not-true, not-false}
 use Rattle.sheet.proofs.AcceptedSheet.{measured}
 use Rattle.sheet.proofs.SizeNames.{counted}
 use Rattle.sheet.proofs.SizeLimits.{limited}
-use Rattle.stage_room.specs.Room.{roomBy}
+use Rattle.stage_memory.specs.Room.{roomBy}
 use Rattle.stage_prepare.proofs.RoomAndRow.{room-parts, refused-room, ended-at-once, entry-asks, entered-row}
 use borrow.Author.Needs.{needs}
 use Rattle.stage_prepare.proofs.begin.enter_tracked.Statement.{statement}

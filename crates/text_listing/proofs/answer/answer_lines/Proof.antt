@@ -10,7 +10,7 @@ use Rattle.text_listing.specs.Rows.{printedAnalysis}
 use Rattle.model.specs.Call.{Table, table}
 use Rattle.text_listing.specs.Answer.{Listable, answerPart}
 use Rattle.text_facts.specs.Text.{factTextBy}
-use Rattle.text_words.proofs.TextWritten.{reword, no-text}
+use Rattle.text_lines.proofs.TextWritten.{reword, no-text}
 use borrow.Author.Needs.{needs}
 use Rattle.text_listing.proofs.answer.answer_lines.Statement.{statement}
 use Rattle.text_listing.proofs.answer.answer_lines.Tie as tie

@@ -2,7 +2,7 @@
 use mathlib.Core.Path.{sym, ap}
 use native.Mathlib.Omega.{arith}
 use Rattle.text_listing.specs.Answer.{lastLine}
-use Rattle.text_words.proofs.TextWritten.{reword}
+use Rattle.text_lines.proofs.TextWritten.{reword}
 use borrow.Author.Needs.{needs}
 use Rattle.text_listing.proofs.answer.last_line.Statement.{statement}
 use Rattle.text_listing.proofs.answer.last_line.Tie as tie

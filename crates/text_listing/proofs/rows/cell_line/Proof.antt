@@ -1,7 +1,7 @@
 -- `text_listing::rows::cell_line` meets its contract. Assumes nothing.
 use Rattle.model.specs.Listing.{ascii, decimal, space, newline}
 use Rattle.text_listing.specs.Rows.{cellLine}
-use Rattle.text_words.proofs.TextWritten.{then, then-two}
+use Rattle.text_lines.proofs.TextWritten.{then, then-two}
 use borrow.Author.Needs.{needs}
 use Rattle.text_listing.proofs.rows.cell_line.Statement.{statement}
 use Rattle.text_listing.proofs.rows.cell_line.Tie as tie

@@ -1,4 +1,0 @@
--- What the functions of this crate ask and answer, by the definitions of `model`.
-pub mod Lengths
--- The output of the constant analysis, and the length facts found from it
-pub mod Stored

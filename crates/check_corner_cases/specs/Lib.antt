@@ -1,2 +1,0 @@
--- What a case is made of.
-pub mod Heads

@@ -1,3 +1,0 @@
--- The laws of this crate, in order: one visit, then those of the successors.
-pub mod VisitedTables
-pub mod TwoSuccessors

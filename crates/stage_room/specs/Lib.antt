@@ -1,2 +1,0 @@
--- Question 8
-pub mod Room

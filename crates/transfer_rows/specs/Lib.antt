@@ -1,2 +1,0 @@
--- What the functions of this crate ask and answer, by the definitions of `model`.
-pub mod Wrote
