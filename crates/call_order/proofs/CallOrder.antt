@@ -28,7 +28,7 @@ use Rattle.call_order.specs.Answer.{countsUnless, answerOf}
 use Rattle.call_order.proofs.PartAfterPart.{continue-twice, then-left, left-same}
 use Rattle.call_order.proofs.SameStages.{room-cleared, constants-same, index-same, containers-same}
 use Rattle.call_order.proofs.ClearedOutputs.{zero-same, roomIn, StageEnds, staged-same, still-clear}
-use Rattle.call_order.proofs.ConstantOutput.{stored}
+use Rattle.call_order.proofs.ConstantOutput.{output-stored}
 use lib.ListN.{length}
 use borrow.Author.Tests.{le-leb}
 use Rattle.model.specs.CallDemand.{LentDemand}
@@ -79,7 +79,7 @@ module _ (sheet : List ℕ) {sizes : Sizes} (accepted : Accepted sheet sizes) (b
       rw (q, r, p, ← values-twice) (then-left valueFacts (stagedBy C w) _ (stagedBy I w₁) _ (valuedBy C I W) (noValues C I W) _
       (λ x. stage IndexCheck sheet (roomIn sheet I W) (lengthFacts sheet x)) _ e₁ e₂
       (λ x left h o m. ap (λ (s : _). s left) (index-same sheet (room-cleared (codeCount sheet) I W c-zero) (lengthTable lk′ lv′) (lengthFacts sheet x)
-      (lengths (ap refusing o) x (stored sheet accepted C w (lengthTable lk lv) begun x left h m) .read))) both-ended one-refused)
+      (lengths (ap refusing o) x (output-stored sheet accepted C w (lengthTable lk lv) begun x left h m) .read))) both-ended one-refused)
 
 -- ---- what the first two left
 

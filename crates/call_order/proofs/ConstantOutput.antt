@@ -77,10 +77,10 @@ module _ (sheet : List ℕ) {sizes : Sizes} (accepted : Accepted sheet sizes) (o
 
   module _ (before : Outcome) {given : Counts} {output : Table} {w′ : Scratch} where
     -- after whatever was covered before
-    pub stored : (x : Analysed) (after : VerifierResources) → continue (λ _. stage Constant sheet enough f) (asSpent before) ≡ ok x after
+    pub output-stored : (x : Analysed) (after : VerifierResources) → continue (λ _. stage Constant sheet enough f) (asSpent before) ≡ ok x after
         → staged given output w′ ≡ stagedBy old w x → StoredIn x given output
     unfolding stagedBy _>>=_
-    stored x after e m =
+    output-stored x after e m =
         let parts = bound-parts {part = λ _. asSpent before} {next = λ _. stage Constant sheet enough f} {budget = after} e in
         let same = staged-same m in
         subst (λ (t : Table). StoredIn x given t) (sym (same .1))
@@ -92,5 +92,5 @@ module _ (sheet : List ℕ) {sizes : Sizes} (accepted : Accepted sheet sizes) (o
       where
         go : Left (stagedBy old w) (staged noCounts (zeroTable old) (zeroScratch w)) (continue (λ _. stage Constant sheet enough f) (asSpent before)) o (staged given output w′)
             → (x : Analysed) × StoredIn x given output
-        go (covered x left h is m) = (x, stored x left h m)
+        go (covered x left h is m) = (x, output-stored x left h m)
         go (stopped refusal left h is m) = absurd (false≢true (sym goes ∙ ap refusing is ∙ refusing-refused refusal left))

@@ -9,7 +9,7 @@ use Rattle.model.specs.Interface.{twelve}
 use Rattle.model.specs.declared.VerifierResources.{VerifierResources}
 use Rattle.model.specs.declared.Answer.{Answer}
 use Rattle.check_replay_lent.specs.Checksum.{withBuffer, withTable, withScratch, withLent}
-use Rattle.check_replay_lent.specs.Lent.{given, bytesIn, pairsIn, wordsIn, tableIn, scratchIn, lentIn}
+use Rattle.check_replay_lent.specs.Lent.{budgetGiven, bytesIn, pairsIn, wordsIn, tableIn, scratchIn, lentIn}
 use Rattle.check_replay.specs.Calls.{called, afterCall, calledIn}
 use Rattle.check_replay_lent.specs.declared.Checksum.{Checksum}
 
@@ -32,7 +32,7 @@ module _ (head : List ℕ) (call : ℕ) where
 
   -- a call on this memory, and the checksum behind it
   pub called-is : (sheet : List ℕ) (begun : Checksum) (answer : Answer) (after : Lent) (budget : VerifierResources) (x y z : Table) (w : Scratch) {a b c d e : Checksum}
-      → x ≡ tableIn head call 0 → y ≡ tableIn head call 4 → z ≡ tableIn head call 8 → w ≡ scratchIn head call → budget ≡ given head
+      → x ≡ tableIn head call 0 → y ≡ tableIn head call 4 → z ≡ tableIn head call 8 → w ≡ scratchIn head call → budget ≡ budgetGiven head
       → some (result answer after) ≡ analyzed sheet budget (lent x y z w)
       → a ≡ withBuffer begun (twelve (answerNumbered answer))
       → b ≡ withTable a (after .constants) → c ≡ withTable b (after .index) → d ≡ withTable c (after .containers)

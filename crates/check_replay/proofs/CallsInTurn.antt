@@ -6,7 +6,7 @@ use mathlib.Core.Option.{some}
 use Prim.Native.Nat.{ℕ, suc, _+_}
 use native.Mathlib.Numerals.{add-one}
 use Rattle.model.specs.declared.Answer.{Answer}
-use Rattle.check_replay_lent.specs.Checksum.{start}
+use Rattle.check_replay_lent.specs.Checksum.{checksumStart}
 use Rattle.check_replay.specs.Calls.{called, calledIn, withFirst, calledAgain, replayed}
 use Rattle.check_replay.specs.Line.{calledLine, lineOf, replayLine}
 use Rattle.check_replay_lent.specs.declared.Checksum.{Checksum}
@@ -15,7 +15,7 @@ use Rattle.text_lines.specs.Text.{Added, ShowsText}
 use Rattle.text_lines.proofs.TextWritten.{shows}
 
 module _ (head sheet : List ℕ) where
-  pub first : (call : Called) → some call ≡ calledIn head sheet 0 start → some (called (call .answer) (call .checksum)) ≡ replayed head sheet 0
+  pub first : (call : Called) → some call ≡ calledIn head sheet 0 checksumStart → some (called (call .answer) (call .checksum)) ≡ replayed head sheet 0
   unfolding replayed
   first call e = e
 
@@ -25,7 +25,7 @@ module _ (head sheet : List ℕ) where
   again i answer {done} next e k = rw (add-one i) (ap (withFirst (called answer done)) (rw (add-one i) at k) ∙ ap (calledAgain head sheet (suc i)) e)
 
   -- the text that is written is the sheet's line
-  pub shown : (all : Called) {most next : ℕ} {old new : List ℕ} → some all ≡ replayed head sheet 18 → Added most (calledLine all) 0 old next new
+  pub call-shown : (all : Called) {most next : ℕ} {old new : List ℕ} → some all ≡ replayed head sheet 18 → Added most (calledLine all) 0 old next new
       → ShowsText (replayLine head sheet) old next new
   unfolding replayLine lineOf
-  shown all e w = let s = shows w in record { within = s .within; front = ap lineOf (sym e) ∙ s .front; rest = s .rest }
+  call-shown all e w = let s = shows w in record { within = s .within; front = ap lineOf (sym e) ∙ s .front; rest = s .rest }

@@ -6,8 +6,8 @@ use Prim.Native.Nat.{ℕ, zero, suc}
 use Rattle.model.specs.Call.{Result, analyzed}
 use Rattle.model.specs.Interface.{twelve}
 use Rattle.model.specs.declared.Answer.{Answer}
-use Rattle.check_replay_lent.specs.Lent.{given, lentIn}
-use Rattle.check_replay_lent.specs.Checksum.{start, withBuffer, withLent}
+use Rattle.check_replay_lent.specs.Lent.{budgetGiven, lentIn}
+use Rattle.check_replay_lent.specs.Checksum.{checksumStart, withBuffer, withLent}
 use Rattle.check_replay_lent.specs.declared.Checksum.{Checksum}
 use Rattle.check_replay.specs.declared.call.Called.{Called}
 
@@ -22,7 +22,7 @@ afterCall c (some r) = some (called (r .answered) (withLent (withBuffer c (twelv
 
 -- one call
 unfoldable pub calledIn : List ℕ → List ℕ → ℕ → Checksum → Option Called
-calledIn head sheet call c = afterCall c (analyzed sheet (given head) (lentIn head call))
+calledIn head sheet call c = afterCall c (analyzed sheet (budgetGiven head) (lentIn head call))
 
 -- the answer of the first call beside the checksum behind a later one
 unfoldable pub withFirst : Called → Option Called → Option Called
@@ -36,5 +36,5 @@ calledAgain head sheet call (some done) = withFirst done (calledIn head sheet ca
 
 -- the first call, and so many more
 unfoldable pub replayed : List ℕ → List ℕ → ℕ → Option Called
-replayed head sheet zero = calledIn head sheet 0 start
+replayed head sheet zero = calledIn head sheet 0 checksumStart
 replayed head sheet (suc more) = calledAgain head sheet (suc more) (replayed head sheet more)

@@ -11,20 +11,20 @@ use Rattle.check_replay_lent.specs.Checksum.{withNumber, withNumbers, wi
 use Rattle.check_replay_lent.specs.declared.Checksum.{Checksum}
 
 -- after i turns: with the rest put in it is the goal
-pub record Summed (goal : Checksum) (xs : List ℕ) (sum : Checksum) (i : ℕ) : Type 0 where
+pub record ChecksumSoFar (goal : Checksum) (xs : List ℕ) (sum : Checksum) (i : ℕ) : Type 0 where
   pub within : i ≤ length xs
   pub rest : withNumbers sum (drop i xs) ≡ goal
 
-pub turn : {goal sum next : Checksum} {xs : List ℕ} {i x : ℕ} → Summed goal xs sum i → i < length xs → x ≡ getD xs i 0 → next ≡ withNumber sum x
-    → Summed goal xs next (i + 1)
+pub checksum-turn : {goal sum next : Checksum} {xs : List ℕ} {i x : ℕ} → ChecksumSoFar goal xs sum i → i < length xs → x ≡ getD xs i 0 → next ≡ withNumber sum x
+    → ChecksumSoFar goal xs next (i + 1)
 unfolding withNumbers
-turn {xs} {i} s h p q = record {
+checksum-turn {xs} {i} s h p q = record {
   within = omega arith;
   rest = rw (add-one, q, p) (rw (drop-cons xs i 0 h) at (s .rest));
 }
 
 -- all of a buffer, behind its length
-pub whole : (begun : Checksum) {first sum : Checksum} {xs : List ℕ} {i : ℕ} → Summed (withNumbers first xs) xs sum i → length xs ≤ i
+pub whole : (begun : Checksum) {first sum : Checksum} {xs : List ℕ} {i : ℕ} → ChecksumSoFar (withNumbers first xs) xs sum i → length xs ≤ i
     → first ≡ withNumber begun (length xs) → sum ≡ withBuffer begun xs
 unfolding withNumbers withBuffer
 whole begun {xs} {i} s h p =

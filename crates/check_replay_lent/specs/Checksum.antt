@@ -7,8 +7,8 @@ use Rattle.model.specs.Call.{Table, Scratch, Lent, scratch}
 use Rattle.check_replay_lent.specs.declared.Checksum.{Checksum}
 
 -- before the first number
-abbrev pub start : Checksum
-start = record { low = 1; high = 1 }
+abbrev pub checksumStart : Checksum
+checksumStart = record { low = 1; high = 1 }
 
 -- With a number more: two polynomials over all numbers so far, each modulo a prime below 2^32.
 abbrev pub withNumber : Checksum → ℕ → Checksum

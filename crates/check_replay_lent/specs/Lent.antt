@@ -10,18 +10,18 @@ use Rattle.model.specs.declared.VerifierResources.{VerifierResources}
 use Rattle.check_replay_lent.specs.Lengths.{lentLength}
 
 -- the budget
-abbrev pub given : List ℕ → VerifierResources
-given head = record { bytes = u64 head 4; work = u64 head 12 }
+abbrev pub budgetGiven : List ℕ → VerifierResources
+budgetGiven head = record { bytes = u64 head 4; work = u64 head 12 }
 
 -- ---- the pattern: no byte is zero, and neighbouring elements differ
 
 -- a byte from 1 to 128, by the place, as often as the factor says: 1, 257 or 72340172838076673, for elements of one, two or eight bytes
-abbrev pub before : ℕ → ℕ → ℕ
-before factor i = (i % 128 + 1) * factor
+abbrev pub patternAt : ℕ → ℕ → ℕ
+patternAt factor i = (i % 128 + 1) * factor
 
 -- so many elements
 unfoldable pub pattern : ℕ → ℕ → List ℕ
-pattern factor count = front (before factor) count (replicate count 0)
+pattern factor count = front (patternAt factor) count (replicate count 0)
 
 -- ---- the buffers
 

@@ -66,8 +66,8 @@ module _ {old new : List ℕ} (e : new ≡ old) where
 
 -- marks or a stack that were cleared
 module _ (old : List ℕ) {new : List ℕ} (e : new ≡ zeros old) where
-  pub cleared-zero : new ≡ zeros new
-  cleared-zero = e ∙ zeros-same old new (sym (ap length e ∙ zeros-length old))
+  pub closure-cleared : new ≡ zeros new
+  closure-cleared = e ∙ zeros-same old new (sym (ap length e ∙ zeros-length old))
 
   pub cleared-long : {l : ℕ} → l ≤ length old → l ≤ length new
   cleared-long h = omega (arith, ap length e, zeros-length old)

@@ -11,8 +11,8 @@ use Rattle.model.specs.Tables.{factOf, factIn, cellOf}
 use Rattle.model.specs.declared.FactCell.{FactCell}
 use Rattle.sheet_layouts.specs.Classes.{equalContainersBy}
 
-abbrev pub cell : ℕ → ℕ → FactCell
-cell k v = record { kind = k; value = v }
+abbrev pub cell-joined : ℕ → ℕ → FactCell
+cell-joined k v = record { kind = k; value = v }
 
 -- ---- the ways out of `merge_fact`, from a cell (ok, ov) and a cell (nk, nv)
 
@@ -20,29 +20,29 @@ module _ (equal : Bool) (ov nv : ℕ) where
   abbrev merged : ℕ → ℕ → FactCell
   merged ok nk = cellOf (join (λ k v l w. equal) (factOf ok ov) (factOf nk nv))
 
-  pub old-conflict : (ok nk : ℕ) → ok ≡ 1 → cell 1 0 ≡ merged ok nk
+  pub old-conflict : (ok nk : ℕ) → ok ≡ 1 → cell-joined 1 0 ≡ merged ok nk
   unfolding factOf join cellOf kind value
   old-conflict ok nk e = rw e
 
-  pub new-conflict : (ok nk : ℕ) → nk ≡ 1 → cell 1 0 ≡ merged ok nk
+  pub new-conflict : (ok nk : ℕ) → nk ≡ 1 → cell-joined 1 0 ≡ merged ok nk
   unfolding factOf join cellOf kind value
   new-conflict zero nk e = rw e
   new-conflict (suc zero) nk e = refl
   new-conflict (suc (suc k)) nk e = rw e
 
-  pub old-unknown : (ok nk : ℕ) → nk ≢ 1 → ok ≡ 0 → cell 0 0 ≡ merged ok nk
+  pub old-unknown : (ok nk : ℕ) → nk ≢ 1 → ok ≡ 0 → cell-joined 0 0 ≡ merged ok nk
   unfolding factOf join cellOf kind value
   old-unknown ok zero h e = rw e
   old-unknown ok (suc zero) h e = absurd (h refl)
   old-unknown ok (suc (suc l)) h e = rw e
 
-  pub new-unknown : (ok nk : ℕ) → ok ≢ 1 → nk ≡ 0 → cell 0 0 ≡ merged ok nk
+  pub new-unknown : (ok nk : ℕ) → ok ≢ 1 → nk ≡ 0 → cell-joined 0 0 ≡ merged ok nk
   unfolding factOf join cellOf kind value
   new-unknown zero nk h e = rw e
   new-unknown (suc zero) nk h e = absurd (h refl)
   new-unknown (suc (suc k)) nk h e = rw e
 
-  both-known : (ok nk : ℕ) → ok ≢ 1 → nk ≢ 1 → ok ≢ 0 → nk ≢ 0 → cond equal (cell ok ov) (cell 1 0) ≡ merged ok nk
+  both-known : (ok nk : ℕ) → ok ≢ 1 → nk ≢ 1 → ok ≢ 0 → nk ≢ 0 → cond equal (cell-joined ok ov) (cell-joined 1 0) ≡ merged ok nk
   unfolding factOf join cellOf kind value
   both-known zero nk a b c d = absurd (c refl)
   both-known (suc zero) nk a b c d = absurd (a refl)
@@ -50,15 +50,15 @@ module _ (equal : Bool) (ov nv : ℕ) where
   both-known (suc (suc k)) (suc zero) a b c d = absurd (b refl)
   both-known (suc (suc k)) (suc (suc l)) a b c d = by equal
     where
-      by : (t : Bool) → cond t (cell (suc (suc k)) ov) (cell 1 0) ≡ cellOf (cond t (known k ov) conflict)
+      by : (t : Bool) → cond t (cell-joined (suc (suc k)) ov) (cell-joined 1 0) ≡ cellOf (cond t (known k ov) conflict)
       by true = refl
       by false = refl
 
-  pub equal-stays : (ok nk : ℕ) → ok ≢ 1 → nk ≢ 1 → ok ≢ 0 → nk ≢ 0 → equal ≡ true → cell ok ov ≡ merged ok nk
-  equal-stays ok nk a b c d e = ap (λ (t : Bool). cond t (cell ok ov) (cell 1 0)) (sym e) ∙ both-known ok nk a b c d
+  pub equal-stays : (ok nk : ℕ) → ok ≢ 1 → nk ≢ 1 → ok ≢ 0 → nk ≢ 0 → equal ≡ true → cell-joined ok ov ≡ merged ok nk
+  equal-stays ok nk a b c d e = ap (λ (t : Bool). cond t (cell-joined ok ov) (cell-joined 1 0)) (sym e) ∙ both-known ok nk a b c d
 
-  pub different-conflict : (ok nk : ℕ) → ok ≢ 1 → nk ≢ 1 → ok ≢ 0 → nk ≢ 0 → equal ≡ false → cell 1 0 ≡ merged ok nk
-  different-conflict ok nk a b c d e = ap (λ (t : Bool). cond t (cell ok ov) (cell 1 0)) (sym e) ∙ both-known ok nk a b c d
+  pub different-conflict : (ok nk : ℕ) → ok ≢ 1 → nk ≢ 1 → ok ≢ 0 → nk ≢ 0 → equal ≡ false → cell-joined 1 0 ≡ merged ok nk
+  different-conflict ok nk a b c d e = ap (λ (t : Bool). cond t (cell-joined ok ov) (cell-joined 1 0)) (sym e) ∙ both-known ok nk a b c d
 
 -- ---- from the answer to the rule
 

@@ -13,7 +13,7 @@ use Rattle.model.specs.Fact.{Fact, kind, value, differs, rowDiffers, join}
 use Rattle.model.specs.Tables.{rowSlices, RowLies, factOf, factsOf, factIn, cellOf}
 use Rattle.model.specs.declared.FactCell.{FactCell}
 use Rattle.join.specs.Rows.{JoinedRow}
-use Rattle.join.proofs.CellJoins.{cell}
+use Rattle.join.proofs.CellJoins.{cell-joined}
 use Rattle.join.proofs.Prefixes.{fill-get, fill-set, fill-done}
 use Rattle.join.proofs.CellChanges.{kept, same-kind, other-kind}
 use Rattle.model.proofs.Facts.{length-facts, lies-kinds, lies-values}
@@ -104,7 +104,7 @@ module _ {same : ℕ → ℕ → ℕ → ℕ → Bool} {ok ov nk nv : List ℕ} 
       }
 
       -- the cell at i, joined by the code
-      module _ (c : FactCell) (made : c ≡ cellOf (join same (factIn (cell (getD kinds i 0) (getD values i 0))) (factIn (cell (getD nk i 0) (getD nv i 0))))) where
+      module _ (c : FactCell) (made : c ≡ cellOf (join same (factIn (cell-joined (getD kinds i 0) (getD values i 0))) (factIn (cell-joined (getD nk i 0) (getD nv i 0))))) where
         is : c ≡ cellOf here
         unfolding here factIn
         is = rw (at-kind, at-value) at made

@@ -123,8 +123,8 @@ printed (some text) = text
 
 -- ---- the table
 
-pub table : List (List ℕ × List ℕ)
-table =
+pub caseTable : List (List ℕ × List ℕ)
+caseTable =
     -- "Unknown and 7 join to Unknown; 7 and 9 to Conflict; 7, 9, Unknown in turn give Conflict; 7, Unknown, 9 give Unknown"
     (cell (joins unknown (number 7 ∷ [])), 0 ∷ 0 ∷ [])
     ∷ (cell (joins (number 7) (number 9 ∷ [])), 1 ∷ 0 ∷ [])
@@ -155,6 +155,6 @@ table =
     ∷ []
 
 -- Row by row they are the same.
-pub cases : map (λ row. row .0) table ≡ map (λ row. row .1) table
-unfolding bytes2 bytes4 op silent writing each script cell number minusOne joins cells folded indexChecked among slotSet worked printed table listingCompute
+pub cases : map (λ row. row .0) caseTable ≡ map (λ row. row .1) caseTable
+unfolding bytes2 bytes4 op silent writing each script cell number minusOne joins cells folded indexChecked among slotSet worked printed caseTable listingCompute
 cases = refl

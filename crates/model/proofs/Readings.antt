@@ -135,20 +135,20 @@ iter-next-ends sheet pc slots row i h =
 -- ---- charges
 
 -- what a part left, whatever it gave
-unfoldable pub leaves : {A : Type 0} → Spent A → Spent (Unit {0})
-leaves (ok a left) = ok tt left
-leaves (stop refusal left) = stop refusal left
-leaves unfinished = unfinished
+unfoldable pub budgetOf : {A : Type 0} → Spent A → Spent (Unit {0})
+budgetOf (ok a left) = ok tt left
+budgetOf (stop refusal left) = stop refusal left
+budgetOf unfinished = unfinished
 
 module _ (sheet slots slots′ : List ℕ) where
   -- parts that leave the same, followed by parts that do
   bound-leaves : (part part′ : Metered Row) (more : Row → Metered Row) (more′ : Row → Metered Row) (budget : VerifierResources)
-      → leaves (part budget) ≡ leaves (part′ budget) → ((r r′ : Row) (left : VerifierResources) → leaves (more r left) ≡ leaves (more′ r′ left))
-      → leaves ((part >>= more) budget) ≡ leaves ((part′ >>= more′) budget)
-  unfolding _>>=_ continue leaves
+      → budgetOf (part budget) ≡ budgetOf (part′ budget) → ((r r′ : Row) (left : VerifierResources) → budgetOf (more r left) ≡ budgetOf (more′ r′ left))
+      → budgetOf ((part >>= more) budget) ≡ budgetOf ((part′ >>= more′) budget)
+  unfolding _>>=_ continue budgetOf
   bound-leaves part part′ more more′ budget e h = go (part budget) (part′ budget) e
     where
-      go : (x y : Spent Row) → leaves x ≡ leaves y → leaves (continue more x) ≡ leaves (continue more′ y)
+      go : (x y : Spent Row) → budgetOf x ≡ budgetOf y → budgetOf (continue more x) ≡ budgetOf (continue more′ y)
       go (ok r left) (ok r′ left′) k = let w : left ≡ left′ = cc in rw w (h r r′ left′)
       go (ok r left) (stop refusal left′) k = cc
       go (ok r left) unfinished k = cc
@@ -159,37 +159,37 @@ module _ (sheet slots slots′ : List ℕ) where
       go unfinished (stop refusal′ left′) k = k
       go unfinished unfinished k = refl
 
-  then-leaves : (part : Metered (Unit {0})) (r r′ : Row) (budget : VerifierResources) → leaves ((part >> give r) budget) ≡ leaves ((part >> give r′) budget)
-  unfolding _>>_ continue give leaves
+  then-leaves : (part : Metered (Unit {0})) (r r′ : Row) (budget : VerifierResources) → budgetOf ((part >> give r) budget) ≡ budgetOf ((part >> give r′) budget)
+  unfolding _>>_ continue give budgetOf
   then-leaves part r r′ budget = go (part budget)
     where
-      go : (x : Spent (Unit {0})) → leaves (continue (λ _. give r) x) ≡ leaves (continue (λ _. give r′) x)
+      go : (x : Spent (Unit {0})) → budgetOf (continue (λ _. give r) x) ≡ budgetOf (continue (λ _. give r′) x)
       go (ok u left) = refl
       go (stop refusal left) = refl
       go unfinished = refl
 
   param-leaves : (slot : ℕ) (f : Option Fact) (row row′ : Row) (budget : VerifierResources)
-      → leaves (seedParam sheet slots slot f row budget) ≡ leaves (seedParam sheet slots′ slot f row′ budget)
-  unfolding seedParam give leaves
+      → budgetOf (seedParam sheet slots slot f row budget) ≡ budgetOf (seedParam sheet slots′ slot f row′ budget)
+  unfolding seedParam give budgetOf
   param-leaves slot none row row′ budget = refl
   param-leaves slot (some fact) row row′ budget = then-leaves (chargeLayouts sheet fact) (put slots row slot fact) (put slots′ row′ slot fact) budget
 
   params-leave : (start i : ℕ) (row row′ : Row) (budget : VerifierResources)
-      → leaves (seedParams sheet slots start i row budget) ≡ leaves (seedParams sheet slots′ start i row′ budget)
-  unfolding seedParams give leaves
+      → budgetOf (seedParams sheet slots start i row budget) ≡ budgetOf (seedParams sheet slots′ start i row′ budget)
+  unfolding seedParams give budgetOf
   params-leave start zero row row′ budget = refl
   params-leave start (suc i) row row′ budget =
       bound-leaves (seedParams sheet slots start i row) (seedParams sheet slots′ start i row′) _ _ budget (params-leave start i row row′ budget)
       (λ r r′ left. param-leaves (start + sum (λ j. paramWidth sheet j) i) (paramFact sheet i) r r′ left)
 
   row-leaves : (start : Option ℕ) (row row′ : Row) (budget : VerifierResources)
-      → leaves (paramRow sheet slots start row budget) ≡ leaves (paramRow sheet slots′ start row′ budget)
-  unfolding paramRow give leaves
+      → budgetOf (paramRow sheet slots start row budget) ≡ budgetOf (paramRow sheet slots′ start row′ budget)
+  unfolding paramRow give budgetOf
   row-leaves none row row′ budget = refl
   row-leaves (some start) row row′ budget = params-leave start (paramCount sheet) row row′ budget
 
   -- "charged even for an untracked slot": what parameters and notes cost does not depend on the slots that are tracked.
-  pub charged-untracked : (budget : VerifierResources) → leaves (containerRow false sheet slots budget) ≡ leaves (containerRow false sheet slots′ budget)
+  pub charged-untracked : (budget : VerifierResources) → budgetOf (containerRow false sheet slots budget) ≡ budgetOf (containerRow false sheet slots′ budget)
   unfolding containerRow
   charged-untracked budget =
       bound-leaves (paramRow sheet slots (paramStart sheet) (unknownRow slots)) (paramRow sheet slots′ (paramStart sheet) (unknownRow slots′)) _ _ budget

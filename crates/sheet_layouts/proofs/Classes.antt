@@ -29,8 +29,8 @@ use Rattle.sheet_layouts.proofs.LowestSearch.{past}
 -- ---- the table is filled
 
 -- one number in every place
-pub filled : {v : ℕ} {old out : List ℕ} {i : ℕ} → Turned (λ j. v) old out i → length out ≤ i → out ≡ replicate (length old) v
-filled {v} {old} {out} {i} t h =
+pub classes-filled : {v : ℕ} {old out : List ℕ} {i : ℕ} → Turned (λ j. v) old out i → length out ≤ i → out ≡ replicate (length old) v
+classes-filled {v} {old} {out} {i} t h =
     t .is
     ∙ front-whole (λ j. v) i 0 old (replicate (length old) v) (omega (arith, t .long, t .within)) (length-replicate (length old) v)
     (λ j l. getD-replicate (length old) j v 0 (omega (arith, length-replicate (length old) v)))

@@ -62,13 +62,13 @@ begins which sheet enough budget b left e =
 -- ---- what was prepared
 
 -- question 8, as `prepare` asks it
-abbrev pub asked : List ℕ → Table → Scratch → ℕ → Bool
-asked sheet t w s =
+abbrev pub room-asked : List ℕ → Table → Scratch → ℕ → Bool
+room-asked sheet t w s =
     roomBy (codeCount sheet) s (length (t .slots)) (length (t .present)) (length (t .kinds)) (length (t .values)) (length (w .rowKinds)) (length (w .rowValues)) (length (w .workList))
 
 -- what is begun after an outcome
 abbrev pub begunAfter : Outcome → AnalysisKind → List ℕ → Table → Scratch → Spent Begun
-begunAfter before which sheet t w = continue (λ _. begin which sheet (asked sheet t w)) (asSpent before)
+begunAfter before which sheet t w = continue (λ _. begin which sheet (room-asked sheet t w)) (asSpent before)
 
 -- the analysis after an outcome
 abbrev pub stageAfter : Outcome → AnalysisKind → List ℕ → Table → Scratch → (ℕ → Fact) → Spent Analysed
@@ -81,8 +81,8 @@ unfolding roomFor roomBy continue
 stage-after before which sheet t w lengthFact = go (asSpent before)
   where
     go : (spent : Spent (Unit {0})) → continue (λ _. stage which sheet (roomFor (codeCount sheet) t (w .rowKinds) (w .rowValues) (w .workList)) lengthFact) spent
-        ≡ goOn which sheet lengthFact (continue (λ _. begin which sheet (asked sheet t w)) spent)
-    go (ok u left) = stage-begins which sheet (asked sheet t w) lengthFact left
+        ≡ goOn which sheet lengthFact (continue (λ _. begin which sheet (room-asked sheet t w)) spent)
+    go (ok u left) = stage-begins which sheet (room-asked sheet t w) lengthFact left
     go (stop refusal left) = refl
     go unfinished = refl
 
@@ -105,7 +105,7 @@ pub record Ready (before : Outcome) (which : AnalysisKind) (sheet : List ℕ) (t
   pub b : Begun
   pub rest : VerifierResources
   pub came : begunAfter before which sheet t w ≡ ok b rest
-  pub begun : Begins which sheet (asked sheet t w) b rest
+  pub begun : Begins which sheet (room-asked sheet t w) b rest
   pub outcome-is : r .outcome ≡ Covered rest
   pub runs-is : r .runs ≡ something (codeCount sheet) (length (b .slots))
   pub s-is : r .s ≡ length (b .slots)
@@ -121,7 +121,7 @@ module _ (before : Outcome) (which : AnalysisKind) (sheet : List ℕ) (t : Table
     b = b;
     rest = rest;
     came = came;
-    begun = let from = begun-from (asSpent before) came in begins which sheet (asked sheet t w) (from .0) b rest (from .1);
+    begun = let from = begun-from (asSpent before) came in begins which sheet (room-asked sheet t w) (from .0) b rest (from .1);
     outcome-is = o;
     runs-is = ap (λ (x : PrepareEnd). x .runs) m;
     s-is = ap (λ (x : PrepareEnd). x .s) m;
@@ -130,7 +130,7 @@ module _ (before : Outcome) (which : AnalysisKind) (sheet : List ℕ) (t : Table
     row-values-are = ap (λ (x : PrepareEnd). x .rowValues) m;
   }
     where
-      begun-from : (spent : Spent (Unit {0})) → continue (λ _. begin which sheet (asked sheet t w)) spent ≡ ok b rest → (budget : VerifierResources) × (begin which sheet (asked sheet t w) budget ≡ ok b rest)
+      begun-from : (spent : Spent (Unit {0})) → continue (λ _. begin which sheet (room-asked sheet t w)) spent ≡ ok b rest → (budget : VerifierResources) × (begin which sheet (room-asked sheet t w) budget ≡ ok b rest)
       begun-from (ok u budget) e = unfold continue in (budget, e)
       begun-from (stop refusal left) e = unfold continue in (let z : _≡_ {A = ℕ} 0 1 = cc in absurd (omega arith))
       begun-from unfinished e = unfold continue in (let z : _≡_ {A = ℕ} 0 1 = cc in absurd (omega arith))

@@ -23,7 +23,7 @@ use Rattle.budget.specs.declared.Outcome.the-variants.{Covered}
 use Rattle.budget.proofs.Outcomes.{NotCovered, covered-leaves, stopped-then, stopped-leaves, spent-stopped, left-covered, left-stopped}
 use Rattle.budget.proofs.Spending.{covered, then-covered}
 use Rattle.stage_entry.specs.First.{Blank, rowLaid, rowBlank}
-use Rattle.stage_entry.proofs.RowsMade.{blank-lies, laid}
+use Rattle.stage_entry.proofs.RowsMade.{blank-lies, row-laid}
 
 -- ---- parameters
 
@@ -31,7 +31,7 @@ module _ (sheet slots : List ℕ) (budget : VerifierResources) (row : Row) {o : 
   pub param-none : o ≡ none → {kinds values : List ℕ} → RowLies row (rowSlices kinds values)
       → some (leaves (Covered budget) (rowSlices kinds values)) ≡ leavesOf rowLaid (rowBlank (length slots)) (paramRow sheet slots (paramStart sheet) row budget)
   unfolding paramRow give
-  param-none e l = rw (← is, e) (covered-leaves _ _ refl refl (laid l))
+  param-none e l = rw (← is, e) (covered-leaves _ _ refl refl (row-laid l))
 
   pub param-some : {start : ℕ} → o ≡ some start → seedParams sheet slots start (paramCount sheet) row budget ≡ paramRow sheet slots (paramStart sheet) row budget
   unfolding paramRow
@@ -78,11 +78,11 @@ module _ (which : AnalysisKind) (sheet slots : List ℕ) (budget : VerifierResou
 
   pub constant-row : {kinds values : List ℕ} → which ≡ Constant → Blank slots kinds values → First (Covered budget) (rowSlices kinds values)
   unfolding firstRow give
-  constant-row e b = rw e (covered-leaves _ _ refl refl (laid (blank-lies b)))
+  constant-row e b = rw e (covered-leaves _ _ refl refl (row-laid (blank-lies b)))
 
   pub index-row : {kinds values : List ℕ} → which ≡ IndexCheck → Blank slots kinds values → First (Covered budget) (rowSlices kinds values)
   unfolding firstRow give
-  index-row e b = rw e (covered-leaves _ _ refl refl (laid (blank-lies b)))
+  index-row e b = rw e (covered-leaves _ _ refl refl (row-laid (blank-lies b)))
 
   pub container-row : {outcome : Outcome} {memory : RowSlices} → which ≡ Container → 0 < codeCount sheet → 0 < length slots → Entered sheet slots budget outcome memory → First outcome memory
   unfolding firstRow

@@ -30,7 +30,7 @@ use Rattle.fact_row.specs.Rows.{WritableRow}
 use Rattle.fact_row.proofs.Facts.{read}
 use Rattle.fact_row.proofs.FactSet.{put-lies}
 use Rattle.stage_entry.specs.First.{rowLaid, rowBlank}
-use Rattle.stage_entry.proofs.RowsMade.{laid, lies-of}
+use Rattle.stage_entry.proofs.RowsMade.{row-laid, lies-of}
 
 -- ---- one parameter
 
@@ -39,7 +39,7 @@ module _ (sheet slots : List ℕ) (slot : ℕ) (resources : VerifierResources) {
   pub seed-none : (o : Option Fact) → o ≡ none
       → some (leaves (Covered resources) (rowSlices kinds values)) ≡ leavesOf rowLaid (rowBlank (length slots)) (seedParam sheet slots slot o row resources)
   unfolding seedParam give
-  seed-none o e = rw e (covered-leaves _ _ refl refl (laid lies))
+  seed-none o e = rw e (covered-leaves _ _ refl refl (row-laid lies))
 
   module _ {cell : FactCell} (fact : Fact) (is : cell ≡ cellOf fact) (whole : Outcome) (came : asSpent whole ≡ chargeLayouts sheet (factIn cell) resources) where
     came-by : asSpent whole ≡ chargeLayouts sheet fact resources
@@ -50,7 +50,7 @@ module _ (sheet slots : List ℕ) (slot : ℕ) (resources : VerifierResources) {
         → some (leaves whole (rowSlices k v)) ≡ leavesOf rowLaid (rowBlank (length slots)) (seedParam sheet slots slot (some fact) row resources)
     unfolding seedParam give
     seed-covered e r p q =
-        covered-leaves _ _ (then-covered (chargeLayouts sheet fact) (give (put slots row slot fact)) resources (covered came-by e)) e (laid (put-lies lies r slot fact is p q))
+        covered-leaves _ _ (then-covered (chargeLayouts sheet fact) (give (put slots row slot fact)) resources (covered came-by e)) e (row-laid (put-lies lies r slot fact is p q))
 
     pub seed-refused : {memory : RowSlices} → NotCovered whole → memory ≡ rowBlank (length slots)
         → some (leaves whole memory) ≡ leavesOf rowLaid (rowBlank (length slots)) (seedParam sheet slots slot (some fact) row resources)
@@ -126,4 +126,4 @@ module _ (sheet slots : List ℕ) (start : ℕ) (budget : VerifierResources) whe
     pub seeded-all : {k v : List ℕ} {left : VerifierResources} {passed i : ℕ} → Seeded k v left passed i → count ≤ i → count ≡ paramCount sheet → SeededTo (paramCount sheet) (Covered left) k v
     seeded-all {k} {v} {left} {passed} {i} s h n row l =
         let p : i ≡ paramCount sheet = omega (arith, s .added .within) in
-        let o = s .is row l in covered-leaves _ _ (ap (λ (m : ℕ). seeded m row) (sym p) ∙ o .1) refl (laid (o .2))
+        let o = s .is row l in covered-leaves _ _ (ap (λ (m : ℕ). seeded m row) (sym p) ∙ o .1) refl (row-laid (o .2))

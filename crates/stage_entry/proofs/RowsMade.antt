@@ -34,8 +34,8 @@ blank-rowed {slots} b = record {
 
 -- ---- memory and row
 
-pub laid : {row : Row} {kinds values : List ℕ} → RowLies row (rowSlices kinds values) → rowSlices kinds values ≡ rowLaid row
-laid l = rw (l .kinds-are, l .values-are)
+pub row-laid : {row : Row} {kinds values : List ℕ} → RowLies row (rowSlices kinds values) → rowSlices kinds values ≡ rowLaid row
+row-laid l = rw (l .kinds-are, l .values-are)
 
 pub lies-of : {row : Row} {kinds values : List ℕ} → rowSlices kinds values ≡ rowLaid row → RowLies row (rowSlices kinds values)
 lies-of e = record { kinds-are = ap (λ (m : RowSlices). m .kinds) e; values-are = ap (λ (m : RowSlices). m .values) e }

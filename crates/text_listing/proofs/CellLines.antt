@@ -45,15 +45,15 @@ module _ (text : Fact → List ℕ) (pc : ℕ) where
 
   -- after j cells
   module _ (slots kinds values : List ℕ) where
-    abbrev pub Listed : ℕ → List ℕ → ℕ → ℕ → List ℕ → Type 0
-    Listed start old j at new = Added (89 * j) (firstLines slots (factsOf kinds values) j) start old at new
+    abbrev pub CellsListed : ℕ → List ℕ → ℕ → ℕ → List ℕ → Type 0
+    CellsListed start old j at new = Added (89 * j) (firstLines slots (factsOf kinds values) j) start old at new
 
-    pub listed-none : (start : ℕ) (old : List ℕ) → start ≤ length old → Listed start old 0 start old
+    pub listed-none : (start : ℕ) (old : List ℕ) → start ≤ length old → CellsListed start old 0 start old
     unfolding rowLines
     listed-none start old h = no-text old start h
 
-    pub listed-more : (start : ℕ) (old mid new : List ℕ) (j at next : ℕ) → length kinds ≡ length slots → length values ≡ length slots → j < length slots → Listed start old j at mid
-        → Added 89 (cellLine text pc (getD slots j 0) (factOf (getD kinds j 0) (getD values j 0))) at mid next new → Listed start old (j + 1) next new
+    pub listed-more : (start : ℕ) (old mid new : List ℕ) (j at next : ℕ) → length kinds ≡ length slots → length values ≡ length slots → j < length slots → CellsListed start old j at mid
+        → Added 89 (cellLine text pc (getD slots j 0) (factOf (getD kinds j 0) (getD values j 0))) at mid next new → CellsListed start old (j + 1) next new
     listed-more start old mid new j at next hk hv l w v =
         reword (omega arith)
         (ap (λ (f : Fact). firstLines slots (factsOf kinds values) j ++ cellLine text pc (getD slots j 0) f) (sym (fact-at kinds values j (omega arith) (omega arith)))
@@ -65,7 +65,7 @@ module _ (text : Fact → List ℕ) (pc : ℕ) where
     Row-written byte start old at new = Added (89 * length slots) (presentLines text pc slots (tableRowOf byte kinds values)) start old at new
 
     -- a present row
-    pub listed-all : (start : ℕ) (old new : List ℕ) (byte j at : ℕ) → length kinds ≡ length slots → length values ≡ length slots → byte ≡ 1 → j ≡ length slots → Listed start old j at new
+    pub listed-all : (start : ℕ) (old new : List ℕ) (byte j at : ℕ) → length kinds ≡ length slots → length values ≡ length slots → byte ≡ 1 → j ≡ length slots → CellsListed start old j at new
         → Row-written byte start old at new
     unfolding presentLines tableRowOf presentRow
     listed-all start old new byte j at hk hv b e w =

@@ -17,7 +17,7 @@ use Rattle.model.specs.declared.FactCell.{FactCell}
 use Rattle.transfer_written.specs.Ranges.{holdsSlot, slotRangeCount, slotRange}
 use Rattle.transfer_written.specs.declared.SlotRange.{SlotRange}
 use Rattle.transfer_written.specs.declared.Written.{Written}
-use Rattle.transfer_written.proofs.RangeTests.{before, from-start}
+use Rattle.transfer_written.proofs.RangeTests.{starts-before, from-start}
 use Rattle.transfer_written.proofs.RangeLoop.{among, among-all}
 use Rattle.fact_row.specs.Rows.{Bound}
 use Rattle.fact_row.proofs.Ascending.{ascends-lt}
@@ -44,8 +44,8 @@ module _ (slots : List ℕ) (start count : ℕ) (cell : ℕ → FactCell) (kinds
     kinds-long = nk;
     values-long = nv;
     from = b .above;
-    kinds-partly = front-written-none _ _ kinds j (λ k l. sym (before (getD slots k 0) start count (b .below k l)));
-    values-partly = front-written-none _ _ values j (λ k l. sym (before (getD slots k 0) start count (b .below k l)));
+    kinds-partly = front-written-none _ _ kinds j (λ k l. sym (starts-before (getD slots k 0) start count (b .below k l)));
+    values-partly = front-written-none _ _ values j (λ k l. sym (starts-before (getD slots k 0) start count (b .below k l)));
   }
 
   module _ {kinds′ values′ : List ℕ} {j : ℕ} (w : Writing kinds′ values′ j) where
@@ -91,8 +91,8 @@ pub wrote-beyond : (slots : List ℕ) (start count : ℕ) (cell : ℕ → FactCe
     → Wrote slots (λ slot. inRange slot start count) cell (rowSlices kinds values) (rowSlices kinds values)
 wrote-beyond slots start count cell kinds values nk nv h =
     wrote slots (λ slot. inRange slot start count) cell kinds values nk nv kinds values refl refl
-    (λ k l. rw (← before (getD slots k 0) start count (h k (omega arith))))
-    (λ k l. rw (← before (getD slots k 0) start count (h k (omega arith))))
+    (λ k l. rw (← starts-before (getD slots k 0) start count (h k (omega arith))))
+    (λ k l. rw (← starts-before (getD slots k 0) start count (h k (omega arith))))
 
 -- no slots at all
 pub wrote-nowhere : (slots : List ℕ) (writes : ℕ → Bool) (cell : ℕ → FactCell) (kinds values : List ℕ) → length slots ≡ 0 → length kinds ≡ length slots

@@ -12,7 +12,7 @@ use Rattle.model.specs.Tables.{cellOf}
 use Rattle.model.specs.Transfer.{factFor}
 use Rattle.model.specs.Written.{inRange}
 use Rattle.model.specs.declared.FactCell.{FactCell}
-use Rattle.transfer_written.proofs.RangeTests.{before, from-start}
+use Rattle.transfer_written.proofs.RangeTests.{starts-before, from-start}
 use Rattle.fact_row.specs.Target.{targetCell}
 use Rattle.transfer_facts.specs.Effect.{effectCell}
 use Rattle.transfer_facts.specs.declared.Effect.{Effect}
@@ -41,7 +41,7 @@ one-slot slot a = go (ltb slot a) refl (ltb a slot) refl
 module _ (slots : List ℕ) (row : Row) (slot : ℕ) where
   module _ (start count : ℕ) where
     outside : slot < start → targetCell (inRange slot start count) ≡ targetCell false
-    outside h = ap targetCell (sym (before slot start count h))
+    outside h = ap targetCell (sym (starts-before slot start count h))
 
     past : start ≤ slot → count ≤ slot - start → targetCell (inRange slot start count) ≡ targetCell false
     past h l = ap targetCell (sym (from-start slot start count h) ∙ le-ltb (slot - start) count l)

@@ -10,9 +10,9 @@ use borrow.Author.Tests.{ltb-true, ltb-false, lt-ltb, le-ltb, le-leb, lt-leb}
 use Rattle.model.specs.Written.{inRange}
 
 -- a slot before the start
-pub before : (slot start count : ℕ) → slot < start → false ≡ inRange slot start count
+pub starts-before : (slot start count : ℕ) → slot < start → false ≡ inRange slot start count
 unfolding inRange
-before slot start count h = rw (lt-leb start slot h)
+starts-before slot start count h = rw (lt-leb start slot h)
 
 -- one from the start on, by its offset
 pub from-start : (slot start count : ℕ) → start ≤ slot → ltb (slot - start) count ≡ inRange slot start count

@@ -3,7 +3,7 @@ use Prim.Native.Nat.{_-_}
 use lib.ListN.{length}
 use mathlib.Core.Path.{refl}
 use Rattle.memory.proofs.StoreLoops.{Turned, turned-none, turn}
-use Rattle.sheet_layouts.proofs.Classes.{filled}
+use Rattle.sheet_layouts.proofs.Classes.{classes-filled}
 use native.Mathlib.Omega.{arith}
 use Rattle.sheet_layouts.proofs.fill.Statement.{statement}
 use Rattle.sheet_layouts.proofs.fill.Tie as tie
@@ -24,7 +24,7 @@ same-length : tie.Need-same-length Inv-loop μ-loop
 same-length c = c .before .loop .inv .long
 
 returns : tie.Need-returns Inv-loop μ-loop
-returns c = filled (c .before .loop .inv) (c .loop-test .left)
+returns c = classes-filled (c .before .loop .inv) (c .loop-test .left)
 
 pub fill-spec : {M : Type 1} → statement M
 fill-spec =

@@ -6,13 +6,13 @@ use native.Mathlib.Nat.{mul-one}
 use native.Mathlib.Omega.{arith}
 use lib.Seq.{length-take-le}
 use Rattle.memory.proofs.StoreLoops.{Turned, turned-none, turn}
-use Rattle.check_replay_lent.specs.Lent.{before}
-use Rattle.check_replay_lent.proofs.PatternLoop.{filled}
+use Rattle.check_replay_lent.specs.Lent.{patternAt}
+use Rattle.check_replay_lent.proofs.PatternLoop.{pattern-filled}
 use Rattle.check_replay_lent.proofs.front.front_u8.Statement.{statement}
 use Rattle.check_replay_lent.proofs.front.front_u8.Tie as tie
 
 abbrev Inv-loop : tie.InvT-loop
-Inv-loop room₀ size head call which end i₀ room i = (i ≤ end) × Turned (before 1) room₀ room i
+Inv-loop room₀ size head call which end i₀ room i = (i ≤ end) × Turned (patternAt 1) room₀ room i
 
 abbrev μ-loop : tie.MeasureT-loop
 μ-loop room₀ size head call which end i₀ room i = end - i
@@ -23,4 +23,4 @@ front-u8-spec =
     (λ c. omega (arith, c .before .loop .inv .1 .long)) (λ c. omega arith) (λ c. omega arith)
     (λ c. (omega arith, turn (c .before .loop .inv .1) (omega (arith, c .before .loop .inv .1 .long)) (sym (mul-one _))))
     (λ c. sym (length-take-le _ _ (omega (arith, c .before .before .loop .inv .1 .long))))
-    (λ c. let ended = c .before .before in let begun = ended .before in filled 1 (ended .loop .inv .1) (omega (arith, begun .lent-length .ensures .0)) (ended .loop .inv .0) (c .before .loop-test .left) (begun .lent-length .ensures .1)))
+    (λ c. let ended = c .before .before in let begun = ended .before in pattern-filled 1 (ended .loop .inv .1) (omega (arith, begun .lent-length .ensures .0)) (ended .loop .inv .0) (c .before .loop-test .left) (begun .lent-length .ensures .1)))

@@ -2,14 +2,14 @@
 use Prim.Native.Nat.{_-_, _≤_}
 use lib.ListN.{length}
 use Rattle.text_facts.specs.Text.{factTextBy}
-use Rattle.text_listing.proofs.CellLines.{Listed, listed-none, listed-more, listed-all, listed-nothing}
+use Rattle.text_listing.proofs.CellLines.{CellsListed, listed-none, listed-more, listed-all, listed-nothing}
 use native.Mathlib.Omega.{arith}
 use denote.Ref.{now}
 use Rattle.text_listing.proofs.rows.row_lines.Statement.{statement}
 use Rattle.text_listing.proofs.rows.row_lines.Tie as tie
 
 abbrev Inv-loop : tie.InvT-loop
-Inv-loop which classes pc slots present kinds values at out₀ next₀ j₀ out next j = (j ≤ length slots) × Listed (factTextBy which classes) pc slots kinds values at out₀ j next out
+Inv-loop which classes pc slots present kinds values at out₀ next₀ j₀ out next j = (j ≤ length slots) × CellsListed (factTextBy which classes) pc slots kinds values at out₀ j next out
 
 abbrev μ-loop : tie.MeasureT-loop
 μ-loop which classes pc slots present kinds values at out₀ next₀ j₀ out next j = length slots - j
