@@ -25,7 +25,7 @@ module _ (head sheet : List ℕ) where
   again i answer {done} next e k = rw (add-one i) (ap (withFirst (called answer done)) (rw (add-one i) at k) ∙ ap (calledAgain head sheet (suc i)) e)
 
   -- the text that is written is the sheet's line
-  pub call-shown : (all : Called) {most next : ℕ} {old new : List ℕ} → some all ≡ replayed head sheet 18 → Added most (calledLine all) 0 old next new
+  pub line-shown : (all : Called) {most next : ℕ} {old new : List ℕ} → some all ≡ replayed head sheet 18 → Added most (calledLine all) 0 old next new
       → ShowsText (replayLine head sheet) old next new
   unfolding replayLine lineOf
-  call-shown all e w = let s = shows w in record { within = s .within; front = ap lineOf (sym e) ∙ s .front; rest = s .rest }
+  line-shown all e w = let s = shows w in record { within = s .within; front = ap lineOf (sym e) ∙ s .front; rest = s .rest }

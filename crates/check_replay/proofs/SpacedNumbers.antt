@@ -10,30 +10,30 @@ use lib.Seq.{take-suc, take-all}
 use Rattle.model.specs.Listing.{decimal, space}
 use Rattle.text_lines.specs.Text.{Added}
 use Rattle.text_lines.proofs.TextWritten.{then, reword, no-text}
-use Rattle.check_replay.specs.Line.{spaced}
+use Rattle.check_replay.specs.Line.{spacedAll}
 
-spaced-last : (xs : List ℕ) (x : ℕ) → spaced (xs ++ (x ∷ [])) ≡ spaced xs ++ (space ++ decimal x)
-unfolding spaced
+spaced-last : (xs : List ℕ) (x : ℕ) → spacedAll (xs ++ (x ∷ [])) ≡ spacedAll xs ++ (space ++ decimal x)
+unfolding spacedAll
 spaced-last [] x = append-nil (space ++ decimal x)
 spaced-last (y ∷ ys) x =
-    ap (λ (t : List ℕ). (space ++ decimal y) ++ t) (spaced-last ys x) ∙ sym (append-assoc (space ++ decimal y) (spaced ys) (space ++ decimal x))
+    ap (λ (t : List ℕ). (space ++ decimal y) ++ t) (spaced-last ys x) ∙ sym (append-assoc (space ++ decimal y) (spacedAll ys) (space ++ decimal x))
 
 module _ (xs : List ℕ) where
-  pub none : (old : List ℕ) (at : ℕ) → at ≤ length old → Added (21 * 0) (spaced (take 0 xs)) at old at old
-  unfolding spaced
+  pub none : (old : List ℕ) (at : ℕ) → at ≤ length old → Added (21 * 0) (spacedAll (take 0 xs)) at old at old
+  unfolding spacedAll
   none old at h = no-text old at h
 
   -- one more
-  pub more : {old mid new : List ℕ} {at a next i : ℕ} → i < length xs → Added (21 * i) (spaced (take i xs)) at old a mid
-      → Added 21 (space ++ decimal (getD xs i 0)) a mid next new → Added (21 * (i + 1)) (spaced (take (i + 1) xs)) at old next new
+  pub more : {old mid new : List ℕ} {at a next i : ℕ} → i < length xs → Added (21 * i) (spacedAll (take i xs)) at old a mid
+      → Added 21 (space ++ decimal (getD xs i 0)) a mid next new → Added (21 * (i + 1)) (spacedAll (take (i + 1) xs)) at old next new
   more {i} h w v =
-      let e : spaced (take i xs) ++ (space ++ decimal (getD xs i 0)) ≡ spaced (take (i + 1) xs) = rw (add-one, take-suc xs i 0 h) (sym (spaced-last (take i xs) (getD xs i 0))) in
+      let e : spacedAll (take i xs) ++ (space ++ decimal (getD xs i 0)) ≡ spacedAll (take (i + 1) xs) = rw (add-one, take-suc xs i 0 h) (sym (spaced-last (take i xs) (getD xs i 0))) in
       reword (omega arith) e (then w v)
 
   -- all of them
-  pub all : {old new : List ℕ} {at next i : ℕ} → i ≤ length xs → length xs ≤ i → Added (21 * i) (spaced (take i xs)) at old next new
-      → Added (21 * length xs) (spaced xs) at old next new
-  all {i} h k w = reword (omega arith) (ap spaced (take-all i xs k)) w
+  pub all : {old new : List ℕ} {at next i : ℕ} → i ≤ length xs → length xs ≤ i → Added (21 * i) (spacedAll (take i xs)) at old next new
+      → Added (21 * length xs) (spacedAll xs) at old next new
+  all {i} h k w = reword (omega arith) (ap spacedAll (take-all i xs k)) w
 
 -- an equal number
 pub same : {x y at next : ℕ} {old new : List ℕ} → x ≡ y → Added 21 (space ++ decimal x) at old next new → Added 21 (space ++ decimal y) at old next new

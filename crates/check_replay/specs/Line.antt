@@ -11,13 +11,13 @@ use Rattle.check_replay.specs.Calls.{replayed}
 use Rattle.check_replay.specs.declared.call.Called.{Called}
 
 -- numbers, each behind a space
-unfoldable pub spaced : List ℕ → List ℕ
-spaced [] = []
-spaced (x ∷ xs) = (space ++ decimal x) ++ spaced xs
+unfoldable pub spacedAll : List ℕ → List ℕ
+spacedAll [] = []
+spacedAll (x ∷ xs) = (space ++ decimal x) ++ spacedAll xs
 
 -- the twelve numbers of the first call's answer, and the checksum over all calls
 unfoldable pub calledLine : Called → List ℕ
-calledLine c = ascii "answer" ++ spaced (twelve (answerNumbered (c .answer))) ++ ascii " checksum" ++ (space ++ decimal (checksumNumber (c .checksum))) ++ newline
+calledLine c = ascii "answer" ++ spacedAll (twelve (answerNumbered (c .answer))) ++ ascii " checksum" ++ (space ++ decimal (checksumNumber (c .checksum))) ++ newline
 
 -- the same, where there is one
 unfoldable pub lineOf : Option Called → Option (List ℕ)

@@ -4,7 +4,7 @@ use borrow.Author.Needs.{needs}
 use Rattle.model.specs.Listing.{ascii, newline}
 use Rattle.text_lines.proofs.TextWritten.{then}
 use Rattle.check_replay.specs.Line.{calledLine}
-use Rattle.check_replay.proofs.CallsInTurn.{call-shown}
+use Rattle.check_replay.proofs.CallsInTurn.{line-shown}
 use Rattle.check_replay.proofs.SpacedNumbers.{same}
 use Rattle.check_replay.proofs.line.put_line.Statement.{statement}
 use Rattle.check_replay.proofs.line.put_line.Tie as tie
@@ -19,7 +19,7 @@ returns c =
     let twelve = word .before .before .before .before .before in
     let name = twelve .before .before .before .before in
     let all = name .before .before .before .before in
-    call-shown _ _ (all .replay .result) (all .replay .ensures)
+    line-shown _ _ (all .replay .result) (all .replay .ensures)
     (then (then (then (then (name .put .ensures) (twelve .put-twelve .ensures)) (word .put2 .ensures))
     (same (number .u64-of .ensures) (sum .put-spaced .ensures))) (end .put3 .ensures))
 

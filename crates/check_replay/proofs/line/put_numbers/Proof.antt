@@ -5,13 +5,13 @@ use native.Mathlib.Omega.{arith}
 use lib.ListN.{length, take}
 use denote.Ref.{now}
 use Rattle.text_lines.specs.Text.{Added}
-use Rattle.check_replay.specs.Line.{spaced}
+use Rattle.check_replay.specs.Line.{spacedAll}
 use Rattle.check_replay.proofs.SpacedNumbers.{none, more, all}
 use Rattle.check_replay.proofs.line.put_numbers.Statement.{statement}
 use Rattle.check_replay.proofs.line.put_numbers.Tie as tie
 
 abbrev Inv-loop : tie.InvT-loop
-Inv-loop numbers at out₀ end₀ i₀ out end i = (i ≤ length numbers) × Added (21 * i) (spaced (take i numbers)) at out₀ end out
+Inv-loop numbers at out₀ end₀ i₀ out end i = (i ≤ length numbers) × Added (21 * i) (spacedAll (take i numbers)) at out₀ end out
 
 abbrev μ-loop : tie.MeasureT-loop
 μ-loop numbers at out₀ end₀ i₀ out end i = length numbers - i
