@@ -10,7 +10,7 @@ use check_input::u64_of;
 use export_numbers::put_answer;
 use model::Answer;
 use text_lines::put;
-use text_lines::put_spacedAll;
+use text_lines::put_spaced;
 
 // Numbers, each behind a space.
 fn put_numbers(numbers: &[u64], at: usize, out: &mut [u8]) -> usize
@@ -20,7 +20,7 @@ fn put_numbers(numbers: &[u64], at: usize, out: &mut [u8]) -> usize
     let mut end = at;
     let mut i = 0;
     while i < numbers.len() {
-        end = put_spacedAll(numbers[i], end, out);
+        end = put_spaced(numbers[i], end, out);
         i += 1;
     }
     end
@@ -47,6 +47,6 @@ pub fn put_line(head: &[u8; 88], sheet: &[u8], out: &mut [u8]) -> usize
     let a = put(b"answer", 0, out);
     let b = put_twelve(answer, a, out);
     let c = put(b" checksum", b, out);
-    let d = put_spacedAll(u64_of(checksum.low, checksum.high), c, out);
+    let d = put_spaced(u64_of(checksum.low, checksum.high), c, out);
     put(b"\n", d, out)
 }
