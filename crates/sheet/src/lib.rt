@@ -1,7 +1,7 @@
 // Little-endian numbers in a slice of bytes. Each compiles to one load.
 // The sheet: its sizes, and where its arrays begin.
 mod bytes;
-mod sizes;
+mod head;
 
 pub use bytes::byte_at;
 pub use bytes::byte_in;
@@ -14,7 +14,7 @@ pub use bytes::u32_of;
 pub use bytes::u64_at;
 pub use bytes::u64_in;
 pub use bytes::u64_of;
-pub use sizes::size_at;
+pub use head::size_at;
 
 // Where each array of a sheet begins; the code begins at 40.
 pub struct Places {

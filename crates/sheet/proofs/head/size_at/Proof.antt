@@ -6,8 +6,8 @@ use Rattle.model.specs.Bytes.{u32}
 use Rattle.model.specs.Sheet.{size}
 use native.Mathlib.Omega.{arith}
 use borrow.Author.Needs.{needs}
-use Rattle.sheet.proofs.sizes.size_at.Statement.{statement}
-use Rattle.sheet.proofs.sizes.size_at.Tie as tie
+use Rattle.sheet.proofs.head.size_at.Statement.{statement}
+use Rattle.sheet.proofs.head.size_at.Tie as tie
 
 returns : tie.Need-returns
 unfolding size
