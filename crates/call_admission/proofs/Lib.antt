@@ -1,2 +1,2 @@
 -- The laws of this crate, for other crates to cite: what `admit` has answered.
-pub mod Admission
+pub mod AdmissionTests

@@ -23,7 +23,7 @@ use Rattle.finality.proofs.Memory.{zeros-read}
 use Rattle.closure_edges.specs.Links.{bucket, bucketsIf, endOf, bucketsOf, Links, links, link, linkEach, Graph, graph, bucketsAt, linkDown, graphOf}
 use Rattle.closure_edges.specs.Chain.{edgesAt, Silent, Chain, ended, linked, Chained}
 use Rattle.closure_edges.specs.declared.Buckets.{Buckets}
-use Rattle.closure_edges.proofs.Buckets.{bucket-below, bucket-order, buckets-few}
+use Rattle.closure_edges.proofs.BucketOrder.{bucket-below, bucket-order, buckets-few}
 use Rattle.closure_edges.proofs.ChainLoops.{each-used, each-room}
 
 -- ---- buckets

@@ -5,6 +5,6 @@ pub mod EdgeCharges
 -- The edges to one slot
 pub mod EdgesToSlot
 -- The laws of this crate. For other crates to cite: Chains.
-pub mod Buckets
+pub mod BucketOrder
 pub mod ChainLoops
 pub mod ChainEdges

@@ -3,4 +3,4 @@ pub mod Marks
 -- The places of the marks
 pub mod MarkedSlots
 -- The seeds of an analysis
-pub mod Seeds
+pub mod SeedRules

@@ -31,7 +31,7 @@ use Rattle.sheet_questions.specs.declared.Admission.{Admission}
 use Rattle.sheet_questions.specs.declared.Admission.the-variants.{Admitted, Refused}
 use Rattle.sheet_questions.proofs.FirstRefusal.{accepted, refused}
 use Rattle.call_admission.specs.Admitted.{admission}
-use Rattle.call_admission.proofs.Admission.{admitted-lengths, refused-by}
+use Rattle.call_admission.proofs.AdmissionTests.{admitted-lengths, refused-by}
 use Rattle.closure.specs.Closed.{Closed, closed, closedBy}
 use Rattle.finality.proofs.Lengths.{zeros-length, zeros-same}
 use Rattle.model.specs.Interface.{looked, inFront}

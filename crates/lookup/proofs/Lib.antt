@@ -1,5 +1,5 @@
 -- What the tests of slots and lengths show. Agreement is for other crates to cite.
-pub mod Ascending
+pub mod AscendingLoop
 pub mod Agreement
 -- What the tests of a row and its cell show
 pub mod Rows

@@ -7,6 +7,7 @@ use crate::cells::cell;
 use crate::cells::named;
 use crate::cells::present_at;
 use crate::question::tables_agree;
+use crate::shown::fixed_at;
 use fact_row::find;
 use model::AnalysisKind;
 use model::Reachability;
@@ -140,7 +141,7 @@ pub fn fixed_fact(
     let at = find(slots, slot as usize);
     let s = slots.len();
     if all_named(s, present, kinds, at) {
-        return shown::fixed_at(s, present, kinds, values, at);
+        return fixed_at(s, present, kinds, values, at);
     }
     SlotFact::Damaged
 }

@@ -1,6 +1,6 @@
 -- `admit` meets its contract.
 -- Assumes nothing.
-use Rattle.call_admission.proofs.Admission.{refused-before, asked-last}
+use Rattle.call_admission.proofs.AdmissionTests.{refused-before, asked-last}
 use borrow.Author.Needs.{needs}
 use Rattle.call_admission.proofs.admission.admit.Statement.{statement}
 use Rattle.call_admission.proofs.admission.admit.Tie as tie

@@ -1,6 +1,6 @@
 -- `closure_room` meets its contract.
 -- Assumes nothing.
-use Rattle.call_admission.proofs.Admission.{too-few-marks, too-short, wide-enough}
+use Rattle.call_admission.proofs.AdmissionTests.{too-few-marks, too-short, wide-enough}
 use Rattle.call_admission.proofs.admission.closure_room.Statement.{statement}
 use Rattle.call_admission.proofs.admission.closure_room.Tie as tie
 

@@ -2,7 +2,7 @@
 -- Assumes nothing.
 use native.Mathlib.Omega.{arith}
 use borrow.Author.Needs.{needs}
-use Rattle.closure_edges.proofs.Buckets.{in-order, some-buckets, no-buckets}
+use Rattle.closure_edges.proofs.BucketOrder.{in-order, some-buckets, no-buckets}
 use Rattle.closure_edges.proofs.destinations.buckets_of.Statement.{statement}
 use Rattle.closure_edges.proofs.destinations.buckets_of.Tie as tie
 

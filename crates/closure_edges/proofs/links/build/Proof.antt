@@ -6,7 +6,7 @@ use borrow.Author.Needs.{needs}
 use Rattle.sheet.proofs.SizeNames.{counted}
 use Rattle.sheet.proofs.SizeLimits.{limited}
 use Rattle.sheet.proofs.FieldBounds.{code-inside}
-use Rattle.closure_edges.proofs.Buckets.{buckets-at}
+use Rattle.closure_edges.proofs.BucketOrder.{buckets-at}
 use Rattle.closure_edges.proofs.ChainLoops.{Building, building-none, building-more, building-full, building-done}
 use Rattle.closure_edges.proofs.links.build.Statement.{statement}
 use Rattle.closure_edges.proofs.links.build.Tie as tie

@@ -7,7 +7,7 @@ use Rattle.model.specs.Opcode.{select}
 use Rattle.model.specs.Dependencies.{seedFields}
 use Rattle.model.specs.declared.AnalysisKind.the-variants.{Container}
 use Rattle.closure_marks.specs.Fields.{fieldsIn}
-use Rattle.closure_marks.proofs.Seeds.{one-of, other}
+use Rattle.closure_marks.proofs.SeedRules.{one-of, other}
 use Rattle.closure_marks.proofs.seeds.container_fields.Statement.{statement}
 use Rattle.closure_marks.proofs.seeds.container_fields.Tie as tie
 

@@ -1,6 +1,6 @@
 -- `closure_marks::fields_of` meets its contract.
 -- Assumes nothing.
-use Rattle.closure_marks.proofs.Seeds.{for-kind}
+use Rattle.closure_marks.proofs.SeedRules.{for-kind}
 use borrow.Author.Needs.{needs}
 use Rattle.closure_marks.proofs.seeds.fields_of.Statement.{statement}
 use Rattle.closure_marks.proofs.seeds.fields_of.Tie as tie

@@ -3,7 +3,7 @@
 use Rattle.model.specs.Dependencies.{field}
 use Rattle.closure_marks.specs.Fields.{fieldsIn}
 use Rattle.closure_marks.specs.declared.Fields.the-variants.{None, A, B, C, BAndNext, AAndB}
-use Rattle.closure_marks.proofs.Seeds.{fields-held}
+use Rattle.closure_marks.proofs.SeedRules.{fields-held}
 use Rattle.closure_marks.proofs.Marks.{none-held, one-held, two-held}
 use borrow.Author.Needs.{needs}
 use Rattle.closure_marks.proofs.seeds.seed_fields.Statement.{statement}

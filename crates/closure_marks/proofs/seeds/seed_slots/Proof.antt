@@ -8,7 +8,7 @@ use Rattle.sheet.proofs.SizeNames.{counted}
 use Rattle.sheet.proofs.FieldBounds.{code-inside}
 use Rattle.closure_marks.specs.Marks.{Goes}
 use Rattle.closure_marks.proofs.Marks.{lain-on, goes-wide, goes-long}
-use Rattle.closure_marks.proofs.Seeds.{seeds-none, seeds-more, seeds-all}
+use Rattle.closure_marks.proofs.SeedRules.{seeds-none, seeds-more, seeds-all}
 use Rattle.closure_marks.proofs.seeds.seed_slots.Statement.{statement}
 use Rattle.closure_marks.proofs.seeds.seed_slots.Tie as tie
 

@@ -2,7 +2,7 @@
 use mathlib.Core.Path.{sym}
 use Prim.Native.Nat.{_-_, _≤_}
 use lib.ListN.{length}
-use Rattle.lookup.proofs.Ascending.{Rising, rising-all, rising-more, falling}
+use Rattle.lookup.proofs.AscendingLoop.{Rising, rising-all, rising-more, falling}
 use native.Mathlib.Omega.{arith}
 use denote.Ref.{now}
 use Rattle.lookup.proofs.question.ascending.Statement.{statement}

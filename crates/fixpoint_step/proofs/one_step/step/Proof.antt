@@ -2,8 +2,8 @@
 -- Assumes nothing.
 use native.Mathlib.Omega.{arith}
 use Rattle.fixpoint_step.proofs.OneStep.{step-end, step-length, transfer-asks, visiting, step-visits, step-copies}
-use Rattle.fixpoint_step.proofs.step.step.Statement.{statement}
-use Rattle.fixpoint_step.proofs.step.step.Tie as tie
+use Rattle.fixpoint_step.proofs.one_step.step.Statement.{statement}
+use Rattle.fixpoint_step.proofs.one_step.step.Tie as tie
 
 -- the places, each from a later one
 
