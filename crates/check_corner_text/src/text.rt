@@ -24,7 +24,9 @@ pub fn answer_line(
     question: Question,
     out: &mut [u8],
 ) -> usize
-    requires { ⌜ Accepted (now sheet) sizes × Holds (firstRange (now sheet)) (codeCount (now sheet)) (now firsts) × (question .pc < sizes .«code_count») × (102 ≤ length (now out)) ⌝ }
+    requires { ⌜ (
+        Accepted (now sheet) sizes × Holds (firstRange (now sheet)) (codeCount (now sheet)) (now firsts) × (question .pc < sizes .«code_count») × (102 ≤ length (now out))
+        ) ⌝ }
     ensures { λ r. ⌜ Added 102 (answerLine (now (sheet .entry)) question) 0 (now (out .entry)) r (now (out .exit)) ⌝ }
 {
     let pc = question.pc;

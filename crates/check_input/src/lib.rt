@@ -57,7 +57,12 @@ fn so_far(count: usize, piece: Input) -> Input
 // One read into the buffer from a place on, by way of chunk, so that the rest of the buffer stays as it is.
 fn read_to(buffer: &mut [u8], to: usize, chunk: &mut [u8]) -> Input
     requires { ⌜ to ≤ length (now buffer) ⌝ }
-    ensures { λ r. ⌜ (to + r .count ≤ length (now (buffer .entry))) × (take to (now (buffer .exit)) ≡ take to (now (buffer .entry))) × (drop (to + r .count) (now (buffer .exit)) ≡ drop (to + r .count) (now (buffer .entry))) × (r .failed ≡ true → r .count ≡ 0) ⌝ }
+    ensures { λ r. ⌜ (
+        (to + r .count ≤ length (now (buffer .entry)))
+        × (take to (now (buffer .exit)) ≡ take to (now (buffer .entry)))
+        × (drop (to + r .count) (now (buffer .exit)) ≡ drop (to + r .count) (now (buffer .entry)))
+        × (r .failed ≡ true → r .count ≡ 0)
+        ) ⌝ }
 {
     let n = least(buffer.len() - to, chunk.len());
     let input = input_from(libc::read(STDIN_FILENO, &mut chunk[..n]), n);
@@ -68,7 +73,11 @@ fn read_to(buffer: &mut [u8], to: usize, chunk: &mut [u8]) -> Input
 
 // Reads standard input until the buffer is full, the input ends or a read fails. Behind the bytes that came the buffer stays as it was.
 pub fn read_input(buffer: &mut [u8]) -> Input
-    ensures { λ r. ⌜ Counts (r .count) (now (buffer .exit)) × (drop (r .count) (now (buffer .exit)) ≡ drop (r .count) (now (buffer .entry))) × (r .failed ≡ true → r .count < length (now (buffer .exit))) ⌝ }
+    ensures { λ r. ⌜ (
+        Counts (r .count) (now (buffer .exit))
+        × (drop (r .count) (now (buffer .exit)) ≡ drop (r .count) (now (buffer .entry)))
+        × (r .failed ≡ true → r .count < length (now (buffer .exit)))
+        ) ⌝ }
 {
     let mut space = io::buffer();
     let chunk: &mut [u8] = &mut space;

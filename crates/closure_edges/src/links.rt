@@ -19,8 +19,17 @@ fn link_each(
     nexts: &mut [u16],
     pcs: &mut [u16],
 ) -> usize
-    requires { ⌜ (buckets .first + buckets .count ≤ length (now heads)) × (used + buckets .count ≤ length (now nexts)) × (length (now pcs) ≡ length (now nexts)) × (length (now nexts) ≤ 65535) × (pc ≤ 65535) ⌝ }
-    ensures { λ r. ⌜ links (now (heads .exit)) (now (nexts .exit)) (now (pcs .exit)) r ≡ linkEach pc (buckets .first) (buckets .count) (links (now (heads .entry)) (now (nexts .entry)) (now (pcs .entry)) used) ⌝ }
+    requires { ⌜ (
+        (buckets .first + buckets .count ≤ length (now heads))
+        × (used + buckets .count ≤ length (now nexts))
+        × (length (now pcs) ≡ length (now nexts))
+        × (length (now nexts) ≤ 65535)
+        × (pc ≤ 65535)
+        ) ⌝ }
+    ensures { λ r. ⌜ (
+        links (now (heads .exit)) (now (nexts .exit)) (now (pcs .exit)) r
+        ≡ linkEach pc (buckets .first) (buckets .count) (links (now (heads .entry)) (now (nexts .entry)) (now (pcs .entry)) used)
+        ) ⌝ }
 {
     let first = buckets.first;
     let count = buckets.count;
@@ -46,7 +55,9 @@ pub fn build(
     pcs: &mut [u16],
 ) -> usize
     requires { ⌜ Measured (now sheet) sizes × (length (now heads) ≡ 2048) × (length (now pcs) ≡ length (now nexts)) × (length (now nexts) ≤ 65535) ⌝ }
-    ensures { λ r. ⌜ graph (now (heads .exit)) (now (nexts .exit)) (now (pcs .exit)) r ≡ graphOf (now (sheet .entry)) (now (heads .entry)) (now (nexts .entry)) (now (pcs .entry)) ⌝ }
+    ensures { λ r. ⌜ (
+        graph (now (heads .exit)) (now (nexts .exit)) (now (pcs .exit)) r ≡ graphOf (now (sheet .entry)) (now (heads .entry)) (now (nexts .entry)) (now (pcs .entry))
+        ) ⌝ }
 {
     clear_u16(heads);
     let mut used = 0;

@@ -114,7 +114,10 @@ fn follow_instruction(
     from: Followed,
 ) -> Followed
     requires { ⌜ (d < l) × (l ≤ 65535) × (from .count < 4294967296) × Lain (now marks) (now stack) (from .top) ⌝ }
-    ensures { λ r. ⌜ (r .count ≤ from .count + 255) × Follows bit (edgesInto d (instructionEdges l inst)) (now (marks .entry)) (now (stack .entry)) from (now (marks .exit)) (now (stack .exit)) r ⌝ }
+    ensures { λ r. ⌜ (
+        (r .count ≤ from .count + 255)
+        × Follows bit (edgesInto d (instructionEdges l inst)) (now (marks .entry)) (now (stack .entry)) from (now (marks .exit)) (now (stack .exit)) r
+        ) ⌝ }
 {
     let a = inst.a as usize;
     // most instructions are passed over by this test alone: below a the difference wraps and is larger than any reach
@@ -144,7 +147,11 @@ fn follow_code(
     top: usize,
 ) -> Followed
     requires { ⌜ Measured (now sheet) sizes × (end ≤ sizes .«code_count») × (d < sizes .«local_slots») × Lain (now marks) (now stack) top ⌝ }
-    ensures { λ r. ⌜ (r .count ≤ end * 255) × Follows bit (collect (edgesAt (now (sheet .entry)) d) end) (now (marks .entry)) (now (stack .entry)) (record { top = top; count = 0 }) (now (marks .exit)) (now (stack .exit)) r ⌝ }
+    ensures { λ r. ⌜ (
+        (r .count ≤ end * 255)
+        × Follows bit (collect (edgesAt (now (sheet .entry)) d) end) (now (marks .entry)) (now (stack .entry)) (record { top = top; count = 0 }) (now (marks .exit))
+        (now (stack .exit)) r
+        ) ⌝ }
 {
     let l = sizes.local_slots;
     let mut followed = Followed { top, count: 0 };
@@ -172,7 +179,10 @@ pub fn follow_edges(
     top: usize,
 ) -> Followed
     requires { ⌜ Measured (now sheet) sizes × Chained (now sheet) (now heads) (now nexts) (now pcs) from × (d < sizes .«local_slots») × Lain (now marks) (now stack) top ⌝ }
-    ensures { λ r. ⌜ Follows (dependencyBit which) (edgesTo (now (sheet .entry)) d) (now (marks .entry)) (now (stack .entry)) (record { top = top; count = 0 }) (now (marks .exit)) (now (stack .exit)) r ⌝ }
+    ensures { λ r. ⌜ (
+        Follows (dependencyBit which) (edgesTo (now (sheet .entry)) d) (now (marks .entry)) (now (stack .entry)) (record { top = top; count = 0 }) (now (marks .exit))
+        (now (stack .exit)) r
+        ) ⌝ }
 {
     let l = sizes.local_slots;
     let bit = dependency_bit(which);

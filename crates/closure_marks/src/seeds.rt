@@ -92,7 +92,9 @@ pub fn seed_slots(
     stack: &mut [u16],
 ) -> usize
     requires { ⌜ Measured (now sheet) sizes × Lain (now marks) (now stack) 0 ⌝ }
-    ensures { λ r. ⌜ Goes (markSeeds which (now (sheet .entry)) (codeCount (now (sheet .entry)))) (now (marks .entry)) (now (stack .entry)) 0 (now (marks .exit)) (now (stack .exit)) r ⌝ }
+    ensures { λ r. ⌜ (
+        Goes (markSeeds which (now (sheet .entry)) (codeCount (now (sheet .entry)))) (now (marks .entry)) (now (stack .entry)) 0 (now (marks .exit)) (now (stack .exit)) r
+        ) ⌝ }
 {
     let n = sizes.code_count;
     let mut top = 0;

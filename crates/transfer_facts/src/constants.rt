@@ -106,7 +106,10 @@ pub fn constant_fact_written_to_slot(
     inst: Instruction,
 ) -> FactCell
     requires { ⌜ Measured (now sheet) sizes × ReadableRow (now slots) (now kinds) (now values) × (inst .op ≡ 4 → ⊥) ⌝ }
-    ensures { λ r. ⌜ ((slot : ℕ) → targetCell (eqb (inst .a) slot) r ≡ cellOf (constantFact (constantRule (inst .op)) (now (sheet .entry)) inst (now (slots .entry)) (factsOf (now (kinds .entry)) (now (values .entry))) slot)) ⌝ }
+    ensures { λ r. ⌜ (
+        ((slot : ℕ) → targetCell (eqb (inst .a) slot) r
+        ≡ cellOf (constantFact (constantRule (inst .op)) (now (sheet .entry)) inst (now (slots .entry)) (factsOf (now (kinds .entry)) (now (values .entry))) slot))
+        ) ⌝ }
 {
     let op = inst.op;
     if op == LOAD_INT {

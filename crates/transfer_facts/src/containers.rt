@@ -62,7 +62,10 @@ pub fn container_fact_written_to_slot(
 ) -> FactCell
     requires { ⌜ Measured (now sheet) sizes × ReadableRow (now slots) (now kinds) (now values) × (pc < sizes .«code_count») × (inst ≡ instruction (now sheet) pc) ⌝ }
     requires { ⌜ (inst .op ≡ 4 → ⊥) × (inst .op ≡ 95 → ⊥) ⌝ }
-    ensures { λ r. ⌜ ((slot : ℕ) → targetCell (eqb (inst .a) slot) r ≡ cellOf (containerFact (containerRule (inst .op)) (now (sheet .entry)) pc (now (slots .entry)) (factsOf (now (kinds .entry)) (now (values .entry))) slot)) ⌝ }
+    ensures { λ r. ⌜ (
+        ((slot : ℕ) → targetCell (eqb (inst .a) slot) r
+        ≡ cellOf (containerFact (containerRule (inst .op)) (now (sheet .entry)) pc (now (slots .entry)) (factsOf (now (kinds .entry)) (now (values .entry))) slot))
+        ) ⌝ }
 {
     let op = inst.op;
     if op == COPY {

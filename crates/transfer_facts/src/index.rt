@@ -23,7 +23,10 @@ pub fn index_check_fact_written_to_slot(
     inst: Instruction,
 ) -> FactCell
     requires { ⌜ ReadableRow (now slots) (now kinds) (now values) × (inst .op ≡ 4 → ⊥) ⌝ }
-    ensures { λ r. ⌜ ((slot : ℕ) → targetCell (eqb (inst .a) slot) r ≡ cellOf (indexFact (indexRule (inst .op)) inst (now (slots .entry)) (factsOf (now (kinds .entry)) (now (values .entry))) slot)) ⌝ }
+    ensures { λ r. ⌜ (
+        ((slot : ℕ) → targetCell (eqb (inst .a) slot) r
+        ≡ cellOf (indexFact (indexRule (inst .op)) inst (now (slots .entry)) (factsOf (now (kinds .entry)) (now (values .entry))) slot))
+        ) ⌝ }
 {
     if inst.op == COPY {
         return fact_for_tracked_source(slots, kinds, values, wide(inst.b));
