@@ -1,11 +1,9 @@
 // "for index, the ended constant run": what each IndexCheck makes of its fact of b, found once, before the index run.
-// What the index analysis reads of the constants.
 // "Order: flow graph, dependencies, constants, index, containers.": the three analyses one after the other, as laws, and their answer.
 mod facts;
 mod order;
 mod tables;
 
-pub use facts::length_facts;
 pub use order::answer_of;
 pub use order::counts_unless;
 pub use tables::store_lengths;

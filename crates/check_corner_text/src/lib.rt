@@ -1,5 +1,4 @@
-// What a case is made of.
-// The line that answers a question about a sheet.
+// What a case is made of, and the line that answers a question about a sheet.
 mod cases;
 mod text;
 

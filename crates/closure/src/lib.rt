@@ -4,7 +4,6 @@ mod expansion;
 mod slots;
 
 use budget::Outcome;
-pub use expansion::expand;
 pub use slots::tracked_slots;
 
 // What a closure comes to: how many slots are tracked, 0 after a refusal, and the outcome of its charges.

@@ -1,5 +1,4 @@
-// Little-endian numbers in a slice of bytes. Each compiles to one load.
-// The sheet: its sizes, and where its arrays begin.
+// The sheet: little-endian numbers in its bytes, its sizes, and where its arrays begin.
 mod bytes;
 mod head;
 

@@ -1,5 +1,4 @@
-// Words and numbers, each written from a place of a lent buffer on. The answer is the place behind it.
-// The lines of a listing that name no cell, each written from a place of a lent buffer on. The answer is the place behind it.
+// Words, numbers and lines, each written from a place of a lent buffer on. The answer is the place behind it.
 mod lines;
 mod words;
 
