@@ -51,8 +51,12 @@ loop-again c =
 returns-3 : tie.Need-returns-3 Inv-loop μ-loop
 returns-3 c = written-all _ _ _ _ _ _ (c .before .loop .inv) (c .loop-test .left)
 
+-- the row before the instruction is read, not the one being written
+effect-on-slot-requires : tie.Need-effect-on-slot-requires Inv-loop μ-loop
+effect-on-slot-requires c κs = search needs
+
 pub write-range-spec : {M : Type 1} → statement M
 write-range-spec =
     tie.close (tie.spec Inv-loop μ-loop returns (λ c κs. search needs) (λ c κs. at-start (c .before) .pre .0 .ascending) loop-holds (λ c. omega arith)
-    (λ c. omega arith) sub-if2 cast-if2 (λ c. omega arith) (λ c. omega arith) returns-2 (λ c κs. search needs) (λ c. omega arith) (λ c. omega arith)
+    (λ c. omega arith) sub-if2 cast-if2 (λ c. omega arith) (λ c. omega arith) returns-2 effect-on-slot-requires (λ c. omega arith) (λ c. omega arith)
     (λ c. omega arith) (λ c. omega arith) (λ c. omega arith) loop-again (λ c. omega arith) (λ c. omega arith) returns-3)
