@@ -31,7 +31,7 @@ use Rattle.finality.proofs.Cells.{stacked-top, stacked-pop}
 use Rattle.closure_marks.specs.Marks.{MarkedLies, Lain}
 use Rattle.closure_follow.specs.Sources.{Follows}
 use Rattle.closure.specs.Taking.{Standing, topEdges, topTaken, Takes}
-use Rattle.closure.specs.Expanded.{ZeroScratch}
+use Rattle.closure.specs.Expanded.{MarksZero}
 use Rattle.closure_follow.specs.declared.Followed.{Followed}
 use Rattle.closure_marks.proofs.Marks.{some-lain}
 
@@ -272,7 +272,7 @@ module _ (which : AnalysisKind) (sheet : List ℕ) where
 
 -- ---- how it begins
 
-pub zero-lies : {sheet marks stack : List ℕ} {sizes : Sizes} → Measured sheet sizes → ZeroScratch sheet marks stack → MarkedLies sheet (length stack) (unmarked sheet) marks stack 0
+pub zero-lies : {sheet marks stack : List ℕ} {sizes : Sizes} → Measured sheet sizes → MarksZero sheet marks stack → MarkedLies sheet (length stack) (unmarked sheet) marks stack 0
 unfolding unmarked stacked zeros
 zero-lies {sheet} {marks} {stack} w b = record {
   passed = begun refl;

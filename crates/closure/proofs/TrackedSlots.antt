@@ -19,7 +19,7 @@ use Rattle.budget.specs.declared.Outcome.the-variants.{Covered}
 use Rattle.budget.proofs.Outcomes.{NotCovered, covered-leaves, stopped-then, stopped-leaves, spent-stopped, left-covered, left-stopped}
 use Rattle.budget.proofs.Spending.{covered, then-covered}
 use Rattle.closure_marks.specs.Slots.{fitted}
-use Rattle.closure.specs.Expanded.{ZeroScratch}
+use Rattle.closure.specs.Expanded.{MarksZero}
 use Rattle.closure.specs.Closed.{scratchCharges, Closed, closed, closedBy}
 
 -- ---- the parts of the whole
@@ -87,7 +87,7 @@ take-zeros (suc l) (x ∷ xs) e =
     rw (p, ← (take-zeros l xs q))
 
 module _ (sheet : List ℕ) {l : ℕ} (marks stack : List ℕ) (all : l ≡ localSlots sheet) (wide : l ≤ length marks) (deep : l ≤ length stack) (no-marks : marks ≡ zeros marks) (no-entries : stack ≡ zeros stack) where
-  pub blank : ZeroScratch sheet (take l marks) stack
+  pub blank : MarksZero sheet (take l marks) stack
   unfolding zeros
   blank = record {
     wide = length-take-le l marks wide ∙ all;

@@ -14,7 +14,7 @@ use Rattle.budget.specs.Outcome.{leaves, leavesOf}
 use Rattle.budget.specs.declared.Outcome.{Outcome}
 
 -- L marks and a stack of at least L entries, all zero
-pub record ZeroScratch (sheet marks stack : List ℕ) : Type 0 where
+pub record MarksZero (sheet marks stack : List ℕ) : Type 0 where
   pub wide : length marks ≡ localSlots sheet
   pub deep : localSlots sheet ≤ length stack
   pub no-marks : marks ≡ zeros marks

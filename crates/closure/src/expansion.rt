@@ -3,7 +3,7 @@ ghost use Prim.Native.Nat.{_<_};
 ghost use Rattle.sheet.specs.Measured.{Measured};
 ghost use Rattle.closure_edges.specs.Chain.{Chained};
 ghost use Rattle.closure.specs.Taking.{Standing, Takes};
-ghost use Rattle.closure.specs.Expanded.{ZeroScratch, ExpandEnsures};
+ghost use Rattle.closure.specs.Expanded.{MarksZero, ExpandEnsures};
 use budget::Outcome;
 use budget::charge_work;
 use budget::metered;
@@ -65,7 +65,7 @@ fn expand_along(
     marks: &mut [u8],
     stack: &mut [u16],
 ) -> Outcome
-    requires { ⌜ Measured (now sheet) sizes × ZeroScratch (now sheet) (now marks) (now stack) × Chained (now sheet) (now heads) (now nexts) (now pcs) from ⌝ }
+    requires { ⌜ Measured (now sheet) sizes × MarksZero (now sheet) (now marks) (now stack) × Chained (now sheet) (now heads) (now nexts) (now pcs) from ⌝ }
     ensures { λ r. ⌜ ExpandEnsures which (now (sheet .entry)) resources (now (marks .entry)) (now (stack .entry)) r (now (marks .exit)) (now (stack .exit)) ⌝ }
 {
     let stage = stage_number(which);
@@ -105,7 +105,7 @@ fn expand_short(
     marks: &mut [u8],
     stack: &mut [u16],
 ) -> Outcome
-    requires { ⌜ Measured (now sheet) sizes × ZeroScratch (now sheet) (now marks) (now stack) ⌝ }
+    requires { ⌜ Measured (now sheet) sizes × MarksZero (now sheet) (now marks) (now stack) ⌝ }
     ensures { λ r. ⌜ ExpandEnsures which (now (sheet .entry)) resources (now (marks .entry)) (now (stack .entry)) r (now (marks .exit)) (now (stack .exit)) ⌝ }
 {
     let heads = [0u16; 1];
@@ -135,7 +135,7 @@ pub fn expand(
     marks: &mut [u8],
     stack: &mut [u16],
 ) -> Outcome
-    requires { ⌜ Measured (now sheet) sizes × ZeroScratch (now sheet) (now marks) (now stack) ⌝ }
+    requires { ⌜ Measured (now sheet) sizes × MarksZero (now sheet) (now marks) (now stack) ⌝ }
     ensures { λ r. ⌜ ExpandEnsures which (now (sheet .entry)) resources (now (marks .entry)) (now (stack .entry)) r (now (marks .exit)) (now (stack .exit)) ⌝ }
 {
     if sizes.code_count < 33 {

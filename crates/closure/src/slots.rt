@@ -5,7 +5,7 @@ ghost use lib.ListN.{length};
 ghost use Rattle.model.specs.Call.{zeros};
 ghost use Rattle.budget.specs.Outcome.{asSpent};
 ghost use Rattle.sheet.specs.Measured.{Measured};
-ghost use Rattle.closure.specs.Expanded.{ZeroScratch};
+ghost use Rattle.closure.specs.Expanded.{MarksZero};
 ghost use Rattle.closure.specs.Closed.{scratchCharges, TrackEnsures};
 use crate::Tracked;
 use crate::expansion::expand;
@@ -42,7 +42,7 @@ fn track(
     stack: &mut [u16],
     slots: &mut [u16],
 ) -> Tracked
-    requires { ⌜ Measured (now sheet) sizes × ZeroScratch (now sheet) (now marks) (now stack) ⌝ }
+    requires { ⌜ Measured (now sheet) sizes × MarksZero (now sheet) (now marks) (now stack) ⌝ }
     ensures { λ r. ⌜ (
         TrackEnsures which (now (sheet .entry)) resources (now (marks .entry)) (now (stack .entry)) (now (slots .entry)) r
         (now (marks .exit)) (now (stack .exit)) (now (slots .exit))

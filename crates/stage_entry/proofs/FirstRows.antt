@@ -22,14 +22,14 @@ use Rattle.budget.specs.declared.Outcome.{Outcome}
 use Rattle.budget.specs.declared.Outcome.the-variants.{Covered}
 use Rattle.budget.proofs.Outcomes.{NotCovered, covered-leaves, stopped-then, stopped-leaves, spent-stopped, left-covered, left-stopped}
 use Rattle.budget.proofs.Spending.{covered, then-covered}
-use Rattle.stage_entry.specs.First.{Blank, rowLaid, rowBlank}
+use Rattle.stage_entry.specs.First.{RowZero, rowLaid, zeroRow}
 use Rattle.stage_entry.proofs.RowsMade.{blank-lies, row-laid}
 
 -- ---- parameters
 
 module _ (sheet slots : List ℕ) (budget : VerifierResources) (row : Row) {o : Option ℕ} (is : o ≡ paramStart sheet) where
   pub param-none : o ≡ none → {kinds values : List ℕ} → RowLies row (rowSlices kinds values)
-      → some (leaves (Covered budget) (rowSlices kinds values)) ≡ leavesOf rowLaid (rowBlank (length slots)) (paramRow sheet slots (paramStart sheet) row budget)
+      → some (leaves (Covered budget) (rowSlices kinds values)) ≡ leavesOf rowLaid (zeroRow (length slots)) (paramRow sheet slots (paramStart sheet) row budget)
   unfolding paramRow give
   param-none e l = rw (← is, e) (covered-leaves _ _ refl refl (row-laid l))
 
@@ -46,9 +46,9 @@ module _ (sheet slots : List ℕ) (budget : VerifierResources) where
 
   -- a container row, as the code leaves it
   abbrev Entered : Outcome → RowSlices → Type 0
-  Entered outcome memory = some (leaves outcome memory) ≡ leavesOf rowLaid (rowBlank (length slots)) (containerRow false sheet slots budget)
+  Entered outcome memory = some (leaves outcome memory) ≡ leavesOf rowLaid (zeroRow (length slots)) (containerRow false sheet slots budget)
 
-  module _ (seeded : Outcome) {memory : RowSlices} (came : some (leaves seeded memory) ≡ leavesOf rowLaid (rowBlank (length slots)) params) where
+  module _ (seeded : Outcome) {memory : RowSlices} (came : some (leaves seeded memory) ≡ leavesOf rowLaid (zeroRow (length slots)) params) where
     -- a parameter's charge is refused
     pub params-refused : NotCovered seeded → Entered seeded memory
     unfolding containerRow _>>=_
@@ -56,7 +56,7 @@ module _ (sheet slots : List ℕ) (budget : VerifierResources) where
 
     module _ {left : VerifierResources} (e : seeded ≡ Covered left) (charged : Outcome) (notes : asSpent charged ≡ chargeInstructionFacts sheet left) where
       -- a note's charge is refused
-      pub notes-refused : {cleared : RowSlices} → NotCovered charged → cleared ≡ rowBlank (length slots) → Entered charged cleared
+      pub notes-refused : {cleared : RowSlices} → NotCovered charged → cleared ≡ zeroRow (length slots) → Entered charged cleared
       unfolding containerRow _>>=_ _>>_ continue
       notes-refused h z =
           let r = left-covered _ _ _ came e in
@@ -74,13 +74,13 @@ module _ (sheet slots : List ℕ) (budget : VerifierResources) where
 module _ (which : AnalysisKind) (sheet slots : List ℕ) (budget : VerifierResources) where
   -- the first row of an analysis, as the code leaves it
   abbrev First : Outcome → RowSlices → Type 0
-  First outcome memory = some (leaves outcome memory) ≡ leavesOf rowLaid (rowBlank (length slots)) (firstRow which sheet slots budget)
+  First outcome memory = some (leaves outcome memory) ≡ leavesOf rowLaid (zeroRow (length slots)) (firstRow which sheet slots budget)
 
-  pub constant-row : {kinds values : List ℕ} → which ≡ Constant → Blank slots kinds values → First (Covered budget) (rowSlices kinds values)
+  pub constant-row : {kinds values : List ℕ} → which ≡ Constant → RowZero slots kinds values → First (Covered budget) (rowSlices kinds values)
   unfolding firstRow give
   constant-row e b = rw e (covered-leaves _ _ refl refl (row-laid (blank-lies b)))
 
-  pub index-row : {kinds values : List ℕ} → which ≡ IndexCheck → Blank slots kinds values → First (Covered budget) (rowSlices kinds values)
+  pub index-row : {kinds values : List ℕ} → which ≡ IndexCheck → RowZero slots kinds values → First (Covered budget) (rowSlices kinds values)
   unfolding firstRow give
   index-row e b = rw e (covered-leaves _ _ refl refl (row-laid (blank-lies b)))
 

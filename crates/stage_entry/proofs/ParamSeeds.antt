@@ -29,7 +29,7 @@ use Rattle.fact_row.specs.Place.{setAt}
 use Rattle.fact_row.specs.Rows.{WritableRow}
 use Rattle.fact_row.proofs.Facts.{read}
 use Rattle.fact_row.proofs.FactSet.{put-lies}
-use Rattle.stage_entry.specs.First.{rowLaid, rowBlank}
+use Rattle.stage_entry.specs.First.{rowLaid, zeroRow}
 use Rattle.stage_entry.proofs.RowsMade.{row-laid, lies-of}
 
 -- ---- one parameter
@@ -37,7 +37,7 @@ use Rattle.stage_entry.proofs.RowsMade.{row-laid, lies-of}
 module _ (sheet slots : List ℕ) (slot : ℕ) (resources : VerifierResources) {row : Row} {kinds values : List ℕ} (lies : RowLies row (rowSlices kinds values)) where
   -- without a fact
   pub seed-none : (o : Option Fact) → o ≡ none
-      → some (leaves (Covered resources) (rowSlices kinds values)) ≡ leavesOf rowLaid (rowBlank (length slots)) (seedParam sheet slots slot o row resources)
+      → some (leaves (Covered resources) (rowSlices kinds values)) ≡ leavesOf rowLaid (zeroRow (length slots)) (seedParam sheet slots slot o row resources)
   unfolding seedParam give
   seed-none o e = rw e (covered-leaves _ _ refl refl (row-laid lies))
 
@@ -47,13 +47,13 @@ module _ (sheet slots : List ℕ) (slot : ℕ) (resources : VerifierResources) {
 
     pub seed-covered : {left : VerifierResources} {k v : List ℕ} → whole ≡ Covered left → WritableRow slots kinds values
         → k ≡ setAt (place slots slot) kinds (cell .kind) → v ≡ setAt (place slots slot) values (cell .value)
-        → some (leaves whole (rowSlices k v)) ≡ leavesOf rowLaid (rowBlank (length slots)) (seedParam sheet slots slot (some fact) row resources)
+        → some (leaves whole (rowSlices k v)) ≡ leavesOf rowLaid (zeroRow (length slots)) (seedParam sheet slots slot (some fact) row resources)
     unfolding seedParam give
     seed-covered e r p q =
         covered-leaves _ _ (then-covered (chargeLayouts sheet fact) (give (put slots row slot fact)) resources (covered came-by e)) e (row-laid (put-lies lies r slot fact is p q))
 
-    pub seed-refused : {memory : RowSlices} → NotCovered whole → memory ≡ rowBlank (length slots)
-        → some (leaves whole memory) ≡ leavesOf rowLaid (rowBlank (length slots)) (seedParam sheet slots slot (some fact) row resources)
+    pub seed-refused : {memory : RowSlices} → NotCovered whole → memory ≡ zeroRow (length slots)
+        → some (leaves whole memory) ≡ leavesOf rowLaid (zeroRow (length slots)) (seedParam sheet slots slot (some fact) row resources)
     unfolding seedParam _>>_
     seed-refused h e = stopped-leaves (stopped-then (spent-stopped whole came-by h) (λ _. give (put slots row slot fact))) _ e
 
@@ -98,17 +98,17 @@ module _ (sheet slots : List ℕ) (start : ℕ) (budget : VerifierResources) whe
 
     -- what the first i parameters leave in memory
     abbrev SeededTo : ℕ → Outcome → List ℕ → List ℕ → Type 0
-    SeededTo i outcome k v = (row : Row) → RowLies row (rowSlices k₀ v₀) → some (leaves outcome (rowSlices k v)) ≡ leavesOf rowLaid (rowBlank (length slots)) (seeded i row)
+    SeededTo i outcome k v = (row : Row) → RowLies row (rowSlices k₀ v₀) → some (leaves outcome (rowSlices k v)) ≡ leavesOf rowLaid (zeroRow (length slots)) (seeded i row)
 
     module _ {k v : List ℕ} {left : VerifierResources} {passed i : ℕ} (s : Seeded k v left passed i) (h : i < count) (outcome : Outcome) {k′ v′ : List ℕ}
         (came : (row : Row) → RowLies row (rowSlices k v)
-        → some (leaves outcome (rowSlices k′ v′)) ≡ leavesOf rowLaid (rowBlank (length slots)) (seedParam sheet slots (start + passed) (paramFact sheet i) row left)) where
+        → some (leaves outcome (rowSlices k′ v′)) ≡ leavesOf rowLaid (zeroRow (length slots)) (seedParam sheet slots (start + passed) (paramFact sheet i) row left)) where
       came-next : SeededTo (i + 1) outcome k′ v′
       came-next row l =
           let o = s .is row l in
           came (o .0) (o .2)
-          ∙ ap (λ (p : ℕ). leavesOf rowLaid (rowBlank (length slots)) (seedParam sheet slots (start + p) (paramFact sheet i) (o .0) left)) (s .added .is)
-          ∙ ap (leavesOf rowLaid (rowBlank (length slots))) (sym (seeded-next i row (o .1)))
+          ∙ ap (λ (p : ℕ). leavesOf rowLaid (zeroRow (length slots)) (seedParam sheet slots (start + p) (paramFact sheet i) (o .0) left)) (s .added .is)
+          ∙ ap (leavesOf rowLaid (zeroRow (length slots))) (sym (seeded-next i row (o .1)))
 
       pub seeded-more : {rest : VerifierResources} {width : ℕ} → outcome ≡ Covered rest → width ≡ paramWidth sheet i → width ≤ 65535 → length k′ ≡ length slots → length v′ ≡ length slots
           → Seeded k′ v′ rest (passed + width) (i + 1)

@@ -10,7 +10,7 @@ use Rattle.model.specs.Fact.{kind, value, Row}
 use Rattle.model.specs.Lookup.{ascends}
 
 -- the slots ascend, and kinds and values have a zero for each
-pub record Blank (slots kinds values : List ℕ) : Type 0 where
+pub record RowZero (slots kinds values : List ℕ) : Type 0 where
   pub ascending : ascends slots ≡ true
   pub kinds-zero : kinds ≡ replicate (length slots) 0
   pub values-zero : values ≡ replicate (length slots) 0
@@ -20,5 +20,5 @@ abbrev pub rowLaid : Row → RowSlices
 rowLaid row = rowSlices (map kind row) (map value row)
 
 -- s zeros in each: what a refusal leaves
-abbrev pub rowBlank : ℕ → RowSlices
-rowBlank s = rowSlices (replicate s 0) (replicate s 0)
+abbrev pub zeroRow : ℕ → RowSlices
+zeroRow s = rowSlices (replicate s 0) (replicate s 0)

@@ -8,7 +8,7 @@ ghost use Rattle.model.specs.Tables.{rowSlices};
 ghost use Rattle.model.specs.Analyses.{containerRow, firstRow};
 ghost use Rattle.budget.specs.Outcome.{leaves, leavesOf};
 ghost use Rattle.sheet.specs.Measured.{Measured};
-ghost use Rattle.stage_entry.specs.First.{Blank, rowLaid, rowBlank};
+ghost use Rattle.stage_entry.specs.First.{RowZero, rowLaid, zeroRow};
 use crate::layouts::charge_instruction_facts;
 use crate::seeds::param_row;
 use budget::Outcome;
@@ -27,10 +27,10 @@ fn container_row(
     row_kinds: &mut [u8],
     row_values: &mut [u64],
 ) -> Outcome
-    requires { ⌜ Measured (now sheet) sizes × Blank (now slots) (now «row_kinds») (now «row_values») ⌝ }
+    requires { ⌜ Measured (now sheet) sizes × RowZero (now slots) (now «row_kinds») (now «row_values») ⌝ }
     ensures { λ r. ⌜ (
         some (leaves r (rowSlices (now («row_kinds» .exit)) (now («row_values» .exit))))
-        ≡ leavesOf rowLaid (rowBlank (length (now (slots .entry)))) (containerRow false (now (sheet .entry)) (now (slots .entry)) resources)
+        ≡ leavesOf rowLaid (zeroRow (length (now (slots .entry)))) (containerRow false (now (sheet .entry)) (now (slots .entry)) resources)
         ) ⌝ }
 {
     let seeded = param_row(sheet, sizes, slots, resources, row_kinds, row_values);
@@ -56,10 +56,10 @@ pub fn first_row(
     row_kinds: &mut [u8],
     row_values: &mut [u64],
 ) -> Outcome
-    requires { ⌜ Measured (now sheet) sizes × Blank (now slots) (now «row_kinds») (now «row_values») × (0 < sizes .«code_count») × (0 < length (now slots)) ⌝ }
+    requires { ⌜ Measured (now sheet) sizes × RowZero (now slots) (now «row_kinds») (now «row_values») × (0 < sizes .«code_count») × (0 < length (now slots)) ⌝ }
     ensures { λ r. ⌜ (
         some (leaves r (rowSlices (now («row_kinds» .exit)) (now («row_values» .exit))))
-        ≡ leavesOf rowLaid (rowBlank (length (now (slots .entry)))) (firstRow which (now (sheet .entry)) (now (slots .entry)) resources)
+        ≡ leavesOf rowLaid (zeroRow (length (now (slots .entry)))) (firstRow which (now (sheet .entry)) (now (slots .entry)) resources)
         ) ⌝ }
 {
     match which {

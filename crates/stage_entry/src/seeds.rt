@@ -11,7 +11,7 @@ ghost use Rattle.model.specs.Analyses.{unknownRow};
 ghost use Rattle.budget.specs.Outcome.{leaves, leavesOf};
 ghost use Rattle.sheet.specs.Measured.{Measured};
 ghost use Rattle.fact_row.specs.Rows.{WritableRow};
-ghost use Rattle.stage_entry.specs.First.{Blank, rowLaid, rowBlank};
+ghost use Rattle.stage_entry.specs.First.{RowZero, rowLaid, zeroRow};
 use crate::layouts::charge_layouts;
 use crate::params::ParamStart;
 use crate::params::param_fact;
@@ -41,7 +41,7 @@ fn seed_fact(
     ensures { λ r. ⌜ (
         (row : Row) (fact : Fact) → RowLies row (rowSlices (now («row_kinds» .entry)) (now («row_values» .entry))) → cell ≡ cellOf fact
         → some (leaves r (rowSlices (now («row_kinds» .exit)) (now («row_values» .exit))))
-        ≡ leavesOf rowLaid (rowBlank (length (now (slots .entry))))
+        ≡ leavesOf rowLaid (zeroRow (length (now (slots .entry))))
         (seedParam (now (sheet .entry)) (now (slots .entry)) slot (some fact) row resources)
         ) ⌝ }
 {
@@ -70,7 +70,7 @@ fn seed_param(
     ensures { λ r. ⌜ (
         (row : Row) → RowLies row (rowSlices (now («row_kinds» .entry)) (now («row_values» .entry)))
         → some (leaves r (rowSlices (now («row_kinds» .exit)) (now («row_values» .exit))))
-        ≡ leavesOf rowLaid (rowBlank (length (now (slots .entry))))
+        ≡ leavesOf rowLaid (zeroRow (length (now (slots .entry))))
         (seedParam (now (sheet .entry)) (now (slots .entry)) slot (paramFact (now (sheet .entry)) i) row resources)
         ) ⌝ }
 {
@@ -104,7 +104,7 @@ fn seed_params(
     ensures { λ r. ⌜ (
         (row : Row) → RowLies row (rowSlices (now («row_kinds» .entry)) (now («row_values» .entry)))
         → some (leaves r (rowSlices (now («row_kinds» .exit)) (now («row_values» .exit))))
-        ≡ leavesOf rowLaid (rowBlank (length (now (slots .entry))))
+        ≡ leavesOf rowLaid (zeroRow (length (now (slots .entry))))
         (seedParams (now (sheet .entry)) (now (slots .entry)) start (paramCount (now (sheet .entry))) row resources)
         ) ⌝ }
 {
@@ -135,10 +135,10 @@ pub fn param_row(
     row_kinds: &mut [u8],
     row_values: &mut [u64],
 ) -> Outcome
-    requires { ⌜ Measured (now sheet) sizes × Blank (now slots) (now «row_kinds») (now «row_values») ⌝ }
+    requires { ⌜ Measured (now sheet) sizes × RowZero (now slots) (now «row_kinds») (now «row_values») ⌝ }
     ensures { λ r. ⌜ (
         some (leaves r (rowSlices (now («row_kinds» .exit)) (now («row_values» .exit))))
-        ≡ leavesOf rowLaid (rowBlank (length (now (slots .entry))))
+        ≡ leavesOf rowLaid (zeroRow (length (now (slots .entry))))
         (paramRow (now (sheet .entry)) (now (slots .entry)) (paramStart (now (sheet .entry))) (unknownRow (now (slots .entry))) resources)
         ) ⌝ }
 {

@@ -19,11 +19,11 @@ use Rattle.budget.proofs.Spending.{covered}
 use Rattle.sheet.specs.Measured.{Measured}
 use Rattle.sheet.specs.declared.Sizes.{Sizes}
 use Rattle.sheet.proofs.SizeNames.{counted}
-use Rattle.stage_entry.specs.First.{Blank, rowLaid, rowBlank}
+use Rattle.stage_entry.specs.First.{RowZero, rowLaid, zeroRow}
 use Rattle.stage_prepare.specs.Begin.{entering}
 use Rattle.stage_prepare.proofs.StageParts.{matrix-covered}
 
-blank-is : {slots kinds values : List ℕ} → Blank slots kinds values → rowSlices kinds values ≡ rowBlank (length slots)
+blank-is : {slots kinds values : List ℕ} → RowZero slots kinds values → rowSlices kinds values ≡ zeroRow (length slots)
 blank-is b = rw (b .kinds-zero, b .values-zero)
 
 module _ (which : AnalysisKind) (sheet : List ℕ) (sizes : Sizes) (slots : List ℕ) (budget : VerifierResources) (charged : Outcome) (m : Measured sheet sizes)
@@ -32,12 +32,12 @@ module _ (which : AnalysisKind) (sheet : List ℕ) (sizes : Sizes) (slots : List
   unfolding chargeMatrix
   matrix = e ∙ ap (λ (n : ℕ). spendBytes (stageNumber which) (n * length slots * factBytes which) budget) (counted (m .are) .code-count)
 
-  pub enter-refused : {kinds values : List ℕ} → NotCovered charged → Blank slots kinds values
-      → some (leaves charged (rowSlices kinds values)) ≡ leavesOf rowLaid (rowBlank (length slots)) (entering which sheet slots budget)
+  pub enter-refused : {kinds values : List ℕ} → NotCovered charged → RowZero slots kinds values
+      → some (leaves charged (rowSlices kinds values)) ≡ leavesOf rowLaid (zeroRow (length slots)) (entering which sheet slots budget)
   unfolding entering _>>_
   enter-refused h b = stopped-leaves (stopped-then (spent-stopped charged matrix h) _) _ (blank-is b)
 
   pub enter-covered : {left : VerifierResources} {outcome : Outcome} {memory : RowSlices} → charged ≡ Covered left
-      → some (leaves outcome memory) ≡ leavesOf rowLaid (rowBlank (length slots)) (firstRow which sheet slots left)
-      → some (leaves outcome memory) ≡ leavesOf rowLaid (rowBlank (length slots)) (entering which sheet slots budget)
-  enter-covered {left} c k = k ∙ ap (leavesOf rowLaid (rowBlank (length slots))) (sym (matrix-covered which sheet slots budget left (covered matrix c)))
+      → some (leaves outcome memory) ≡ leavesOf rowLaid (zeroRow (length slots)) (firstRow which sheet slots left)
+      → some (leaves outcome memory) ≡ leavesOf rowLaid (zeroRow (length slots)) (entering which sheet slots budget)
+  enter-covered {left} c k = k ∙ ap (leavesOf rowLaid (zeroRow (length slots))) (sym (matrix-covered which sheet slots budget left (covered matrix c)))

@@ -27,7 +27,7 @@ use Rattle.sheet.specs.Measured.{Accepted, Measured}
 use Rattle.sheet.specs.declared.Sizes.{Sizes}
 use Rattle.sheet.proofs.AcceptedSheet.{measured}
 use Rattle.stage_memory.specs.Room.{roomBy}
-use Rattle.stage_entry.specs.First.{Blank, rowLaid, rowBlank}
+use Rattle.stage_entry.specs.First.{RowZero, rowLaid, zeroRow}
 use Rattle.stage_entry.proofs.RowsMade.{lies-of}
 use Rattle.stage_prepare.specs.Begin.{entering, enterIf, enough, rowFilled, rowZero}
 use Rattle.stage_prepare.specs.declared.Room.{Room}
@@ -104,7 +104,7 @@ module _ (which : AnalysisKind) (sheet : List ℕ) (n s : ℕ) (all : n ≡ code
 
     -- what the entry row asks
     pub entry-asks : {sizes : Sizes} → n ≡ sizes .«code_count» → Accepted sheet sizes → s ≤ 65535 → (s ≤ length slots → ascends (take s slots) ≡ true) → (n ≡ 0 → ⊥) → (s ≡ 0 → ⊥)
-        → Measured sheet sizes × Blank (take s slots) (take s rowKinds) (take s rowValues) × (0 < sizes .«code_count») × (0 < length (take s slots)) × (length (take s slots) ≤ 65535)
+        → Measured sheet sizes × RowZero (take s slots) (take s rowKinds) (take s rowValues) × (0 < sizes .«code_count») × (0 < length (take s slots)) × (length (take s slots) ≤ 65535)
     entry-asks is accepted few up some-n some-s =
         let long : length (take s slots) ≡ s = length-take-le s slots slots-fit in
         let fit = room-parts n s _ _ _ _ _ _ _ e in (
@@ -125,7 +125,7 @@ module _ (which : AnalysisKind) (sheet : List ℕ) (n s : ℕ) (all : n ≡ code
 
     -- what the charges and the entry row leave in the first places is what they leave in the whole
     pub entered-row : {entered : Outcome} (rk rv : List ℕ)
-        → some (leaves entered (rowSlices rk rv)) ≡ leavesOf rowLaid (rowBlank (length (take s slots))) (entering which sheet (take s slots) left)
+        → some (leaves entered (rowSlices rk rv)) ≡ leavesOf rowLaid (zeroRow (length (take s slots))) (entering which sheet (take s slots) left)
         → length (rk ++ drop s rowKinds) ≡ length rowKinds → length (rv ++ drop s rowValues) ≡ length rowValues
         → some (leaves entered (rowSlices (rk ++ drop s rowKinds) (rv ++ drop s rowValues))) ≡ goal
     entered-row {entered} rk rv h lk lv = go (left-by _ _ _ h) ∙ with-room
@@ -139,13 +139,13 @@ module _ (which : AnalysisKind) (sheet : List ℕ) (n s : ℕ) (all : n ≡ code
         filled-is : (row : Row) → RowLies row (rowSlices rk rv) → rowSlices (rk ++ drop s rowKinds) (rv ++ drop s rowValues) ≡ rowFilled rowKinds rowValues row
         filled-is row l = rw (front-filled s rowKinds (fit .0) zk (l .kinds-are) (part-length s rowKinds (fit .0) rk lk), front-filled s rowValues (fit .1) zv (l .values-are) (part-length s rowValues (fit .1) rv lv))
 
-        zero-is : rowSlices rk rv ≡ rowBlank (length (take s slots)) → rowSlices (rk ++ drop s rowKinds) (rv ++ drop s rowValues) ≡ rowZero rowKinds rowValues
+        zero-is : rowSlices rk rv ≡ zeroRow (length (take s slots)) → rowSlices (rk ++ drop s rowKinds) (rv ++ drop s rowValues) ≡ rowZero rowKinds rowValues
         zero-is m =
             let k = ap (λ (x : RowSlices). x .kinds) m ∙ ap (λ (j : ℕ). replicate j 0) long in
             let v = ap (λ (x : RowSlices). x .values) m ∙ ap (λ (j : ℕ). replicate j 0) long in
             rw (front-cleared s rowKinds (fit .0) zk k, front-cleared s rowValues (fit .1) zv v)
 
-        go : Left rowLaid (rowBlank (length (take s slots))) (entering which sheet (take s slots) left) entered (rowSlices rk rv)
+        go : Left rowLaid (zeroRow (length (take s slots))) (entering which sheet (take s slots) left) entered (rowSlices rk rv)
             → some (leaves entered (rowSlices (rk ++ drop s rowKinds) (rv ++ drop s rowValues)))
             ≡ leavesOf (rowFilled rowKinds rowValues) (rowZero rowKinds rowValues) (entering which sheet (take s slots) left)
         go (covered row rest c o m) = covered-leaves _ _ c o (filled-is row (lies-of m))

@@ -44,7 +44,7 @@ begin which sheet enough = do
 -- ---- what is lent
 
 -- marks, stack and row scratch of zeros, with room for the closure
-pub record Unmarked (sheet marks stack rowKinds rowValues : List ℕ) : Type 0 where
+pub record MarksAndRowZero (sheet marks stack rowKinds rowValues : List ℕ) : Type 0 where
   pub no-marks : marks ≡ zeros marks
   pub no-stack : stack ≡ zeros stack
   pub no-row-kinds : rowKinds ≡ zeros rowKinds

@@ -10,7 +10,7 @@ ghost use Rattle.model.specs.Lookup.{ascends};
 ghost use Rattle.model.specs.Call.{zeros};
 ghost use Rattle.budget.specs.Outcome.{leaves, leavesOf};
 ghost use Rattle.sheet.specs.Measured.{Accepted};
-ghost use Rattle.stage_prepare.specs.Begin.{begin, enterIf, enough, Unmarked, rowFilled, rowZero};
+ghost use Rattle.stage_prepare.specs.Begin.{begin, enterIf, enough, MarksAndRowZero, rowFilled, rowZero};
 ghost use Rattle.stage_prepare.specs.Prepare.{something, prepared, preparedBy, unprepared};
 use crate::Prepared;
 use crate::Room;
@@ -101,7 +101,7 @@ pub fn begin_stage(
     row_kinds: &mut [u8],
     row_values: &mut [u64],
 ) -> Prepared
-    requires { ⌜ Accepted (now sheet) sizes × (now slots ≡ zeros (now slots)) × Unmarked (now sheet) (now marks) (now stack) (now «row_kinds») (now «row_values») ⌝ }
+    requires { ⌜ Accepted (now sheet) sizes × (now slots ≡ zeros (now slots)) × MarksAndRowZero (now sheet) (now marks) (now stack) (now «row_kinds») (now «row_values») ⌝ }
     ensures { λ r. ⌜ (
         let n = codeCount (now (sheet .entry)) in
         let ss = now (slots .entry) in let rk = now («row_kinds» .entry) in let rv = now («row_values» .entry) in

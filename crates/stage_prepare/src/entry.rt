@@ -6,7 +6,7 @@ ghost use lib.ListN.{length};
 ghost use Rattle.model.specs.Tables.{rowSlices};
 ghost use Rattle.budget.specs.Outcome.{leaves, leavesOf};
 ghost use Rattle.sheet.specs.Measured.{Measured};
-ghost use Rattle.stage_entry.specs.First.{Blank, rowLaid, rowBlank};
+ghost use Rattle.stage_entry.specs.First.{RowZero, rowLaid, zeroRow};
 ghost use Rattle.stage_prepare.specs.Begin.{entering};
 use budget::Outcome;
 use model::AnalysisKind;
@@ -26,12 +26,12 @@ pub fn entry_row(
     row_values: &mut [u64],
 ) -> Outcome
     requires { ⌜ (
-        Measured (now sheet) sizes × Blank (now slots) (now «row_kinds») (now «row_values»)
+        Measured (now sheet) sizes × RowZero (now slots) (now «row_kinds») (now «row_values»)
         × (0 < sizes .«code_count») × (0 < length (now slots)) × (length (now slots) ≤ 65535)
         ) ⌝ }
     ensures { λ r. ⌜ (
         some (leaves r (rowSlices (now («row_kinds» .exit)) (now («row_values» .exit))))
-        ≡ leavesOf rowLaid (rowBlank (length (now (slots .entry)))) (entering which (now (sheet .entry)) (now (slots .entry)) resources)
+        ≡ leavesOf rowLaid (zeroRow (length (now (slots .entry)))) (entering which (now (sheet .entry)) (now (slots .entry)) resources)
         ) ⌝ }
 {
     let charged = charge_matrix(which, sizes.code_count, slots.len(), resources);

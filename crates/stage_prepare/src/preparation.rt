@@ -6,7 +6,7 @@ ghost use Rattle.model.specs.Charges.{continue};
 ghost use Rattle.model.specs.Call.{zeros};
 ghost use Rattle.budget.specs.Outcome.{asSpent, leaves, leavesOf};
 ghost use Rattle.sheet.specs.Measured.{Accepted};
-ghost use Rattle.stage_prepare.specs.Begin.{begin, enough, Unmarked};
+ghost use Rattle.stage_prepare.specs.Begin.{begin, enough, MarksAndRowZero};
 ghost use Rattle.stage_prepare.specs.Prepare.{prepared, preparedBy, unprepared};
 use crate::Prepared;
 use crate::Room;
@@ -29,7 +29,7 @@ pub fn prepare(
     row_kinds: &mut [u8],
     row_values: &mut [u64],
 ) -> Prepared
-    requires { ⌜ Accepted (now sheet) sizes × Unmarked (now sheet) (now marks) (now stack) (now «row_kinds») (now «row_values») ⌝ }
+    requires { ⌜ Accepted (now sheet) sizes × MarksAndRowZero (now sheet) (now marks) (now stack) (now «row_kinds») (now «row_values») ⌝ }
     ensures { λ r. ⌜ (
         let n = codeCount (now (sheet .entry)) in
         let ss = now (slots .entry) in let rk = now («row_kinds» .entry) in let rv = now («row_values» .entry) in

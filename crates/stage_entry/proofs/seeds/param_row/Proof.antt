@@ -3,7 +3,7 @@ use mathlib.Core.Path.{ap, _∙_}
 use lib.ListN.{length}
 use Rattle.model.specs.Analyses.{unknownRow}
 use Rattle.budget.specs.Outcome.{leavesOf}
-use Rattle.stage_entry.specs.First.{rowLaid, rowBlank}
+use Rattle.stage_entry.specs.First.{rowLaid, zeroRow}
 use Rattle.stage_entry.specs.Start.{paramStartOf}
 use Rattle.stage_entry.proofs.RowsMade.{blank-lies, blank-rowed}
 use Rattle.stage_entry.proofs.FirstRows.{param-none, param-some}
@@ -34,7 +34,7 @@ returns-2 c =
     let found = from .before .before in
     let a = start found .args in
     seeded .seed-params .ensures _ (blank-lies (start found .pre .1))
-    ∙ ap (leavesOf rowLaid (rowBlank (length (a .slots .now))))
+    ∙ ap (leavesOf rowLaid (zeroRow (length (a .slots .now))))
     (param-some (a .sheet .now) (a .slots .now) (a .resources) (unknownRow (a .slots .now)) (found .param-start .ensures) (ap paramStartOf (from .start .given .1)))
 
 pub param-row-spec : {M : Type 1} → statement M

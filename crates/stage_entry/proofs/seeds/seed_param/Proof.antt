@@ -5,7 +5,7 @@ use lib.ListN.{length}
 use Rattle.model.specs.Fact.{Fact}
 use Rattle.model.specs.Parameters.{paramFact, seedParam}
 use Rattle.budget.specs.Outcome.{leavesOf}
-use Rattle.stage_entry.specs.First.{rowLaid, rowBlank}
+use Rattle.stage_entry.specs.First.{rowLaid, zeroRow}
 use Rattle.stage_entry.proofs.ParamFacts.{brings-none, brings}
 use Rattle.stage_entry.proofs.ParamSeeds.{seed-none}
 use borrow.Author.Needs.{needs}
@@ -30,7 +30,7 @@ returns-2 c row l =
     let a = start found .args in
     let b = brings _ (a .i) (found .param-fact .ensures) (other c .if1 .left) in
     c .before .before .before .before .seed-fact .ensures row (b .0) l (b .2)
-    ∙ ap (λ (o : Option Fact). leavesOf rowLaid (rowBlank (length (a .slots .now))) (seedParam (a .sheet .now) (a .slots .now) (a .slot) o row (a .resources))) (sym (b .1))
+    ∙ ap (λ (o : Option Fact). leavesOf rowLaid (zeroRow (length (a .slots .now))) (seedParam (a .sheet .now) (a .slots .now) (a .slot) o row (a .resources))) (sym (b .1))
 
 pub seed-param-spec : {M : Type 1} → statement M
 seed-param-spec = tie.close (tie.spec (λ c κs. search needs) returns (λ c κs. search needs) (λ c. search needs) (λ c. search needs) returns-2)

@@ -8,7 +8,7 @@ use Rattle.model.specs.Parameters.{seedParams}
 use Rattle.budget.specs.Outcome.{leavesOf}
 use Rattle.sheet.proofs.SizeLimits.{limited}
 use Rattle.sheet.proofs.SizeNames.{counted}
-use Rattle.stage_entry.specs.First.{rowLaid, rowBlank}
+use Rattle.stage_entry.specs.First.{rowLaid, zeroRow}
 use Rattle.stage_entry.proofs.ParamSeeds.{Seeded, seeded-none, seeded-more, seeded-refused, seeded-all}
 use native.Mathlib.Omega.{arith}
 use borrow.Author.Needs.{needs}
@@ -42,11 +42,11 @@ in-loop c = c .before .before .before .before .before .before .before
 
 -- the code's start is the definition's
 begins : (c : tie.After-wide Inv-loop μ-loop) (row : Row)
-    → (let a = start c .args in leavesOf rowLaid (rowBlank (length (a .slots .now))) (seedParams (a .sheet .now) (a .slots .now) (c .wide .result) (paramCount (a .sheet .now)) row (a .resources)))
-    ≡ (let a = start c .args in leavesOf rowLaid (rowBlank (length (a .slots .now))) (seedParams (a .sheet .now) (a .slots .now) (a .start) (paramCount (a .sheet .now)) row (a .resources)))
+    → (let a = start c .args in leavesOf rowLaid (zeroRow (length (a .slots .now))) (seedParams (a .sheet .now) (a .slots .now) (c .wide .result) (paramCount (a .sheet .now)) row (a .resources)))
+    ≡ (let a = start c .args in leavesOf rowLaid (zeroRow (length (a .slots .now))) (seedParams (a .sheet .now) (a .slots .now) (a .start) (paramCount (a .sheet .now)) row (a .resources)))
 begins c row =
     let a = start c .args in
-    ap (λ (n : ℕ). leavesOf rowLaid (rowBlank (length (a .slots .now))) (seedParams (a .sheet .now) (a .slots .now) n (paramCount (a .sheet .now)) row (a .resources))) (c .wide .ensures .0)
+    ap (λ (n : ℕ). leavesOf rowLaid (zeroRow (length (a .slots .now))) (seedParams (a .sheet .now) (a .slots .now) n (paramCount (a .sheet .now)) row (a .resources))) (c .wide .ensures .0)
 
 returns : tie.Need-returns Inv-loop μ-loop
 returns c row l =
