@@ -35,7 +35,7 @@ use Rattle.model.proofs.Tests.{both-left, both-right}
 use Rattle.closure_marks.specs.Slots.{fittedIf, fitted}
 use Rattle.stage_memory.specs.Room.{roomBy}
 use Rattle.closure.specs.Closed.{Closed, closed, closedBy}
-use Rattle.stage_prepare.specs.Begin.{enterIf, Begun, begin, enough, rowFilled, rowZero}
+use Rattle.stage_prepare.specs.Begin.{enterIf, Begun, begin, enough, rowFilled, clearedRow}
 use Rattle.stage_prepare.specs.Prepare.{something, PrepareEnd, prepared, preparedBy, unprepared}
 use Rattle.stage_prepare.specs.declared.Room.{Room}
 use Rattle.stage_prepare.proofs.StageParts.{closure-tracked}
@@ -157,7 +157,7 @@ module _ (which : AnalysisKind) (sheet slots rowKinds rowValues : List ℕ) (roo
           closure-tracked which sheet (enough room sheet slots rowKinds rowValues) budget found left (done .1)
           ∙ ap (continue (λ entry. give (record { slots = found; entry = entry }))) (ap (λ (b : Bool). entered b found) (sym asked-same) ∙ sym same-entry)
 
-      module _ {outcome : Outcome} {memory : RowSlices} (row : some (leaves outcome memory) ≡ leavesOf (rowFilled rowKinds rowValues) (rowZero rowKinds rowValues) (entered asked (take s slots′))) where
+      module _ {outcome : Outcome} {memory : RowSlices} (row : some (leaves outcome memory) ≡ leavesOf (rowFilled rowKinds rowValues) (clearedRow rowKinds rowValues) (entered asked (take s slots′))) where
         -- question 8, or a charge behind it, is refused
         pub begin-refused : {slots″ : List ℕ} → NotCovered outcome → slots″ ≡ zeros slots′ → some (leaves outcome (prepared false 0 slots″ (memory .kinds) (memory .values))) ≡ goal
         begin-refused h z =

@@ -29,7 +29,7 @@ use Rattle.sheet.proofs.AcceptedSheet.{measured}
 use Rattle.stage_memory.specs.Room.{roomBy}
 use Rattle.stage_entry.specs.First.{RowZero, rowLaid, zeroRow}
 use Rattle.stage_entry.proofs.RowsMade.{lies-of}
-use Rattle.stage_prepare.specs.Begin.{entering, enterIf, enough, rowFilled, rowZero}
+use Rattle.stage_prepare.specs.Begin.{entering, enterIf, enough, rowFilled, clearedRow}
 use Rattle.stage_prepare.specs.declared.Room.{Room}
 use Rattle.stage_prepare.proofs.StageParts.{enters-at-once}
 use Rattle.stage_prepare.proofs.ZeroFronts.{take-zero, front-cleared, front-filled, part-length, zero-filled}
@@ -74,7 +74,7 @@ module _ (which : AnalysisKind) (sheet : List ℕ) (n s : ℕ) (all : n ≡ code
   same = ap (λ (m : ℕ). roomBy m s (length slots) (room .present) (room .kinds) (room .values) (length rowKinds) (length rowValues) (room .«work_list»)) all
 
   abbrev goal : Option (Leaves RowSlices)
-  goal = leavesOf (rowFilled rowKinds rowValues) (rowZero rowKinds rowValues) (enterIf (enough room sheet slots rowKinds rowValues s) which sheet (take s slots) left)
+  goal = leavesOf (rowFilled rowKinds rowValues) (clearedRow rowKinds rowValues) (enterIf (enough room sheet slots rowKinds rowValues s) which sheet (take s slots) left)
 
   pub refused-room : asked ≡ false → some (leaves (NoRoom left) (rowSlices rowKinds rowValues)) ≡ goal
   unfolding enterIf leavesOf refusedBy
@@ -84,7 +84,7 @@ module _ (which : AnalysisKind) (sheet : List ℕ) (n s : ℕ) (all : n ≡ code
     slots-fit : s ≤ length slots
     slots-fit = room-parts n s _ _ _ _ _ _ _ e .0
 
-    with-room : leavesOf (rowFilled rowKinds rowValues) (rowZero rowKinds rowValues) (entering which sheet (take s slots) left) ≡ goal
+    with-room : leavesOf (rowFilled rowKinds rowValues) (clearedRow rowKinds rowValues) (entering which sheet (take s slots) left) ≡ goal
     unfolding enterIf
     with-room = rw (sym same ∙ e)
 
@@ -139,7 +139,7 @@ module _ (which : AnalysisKind) (sheet : List ℕ) (n s : ℕ) (all : n ≡ code
         filled-is : (row : Row) → RowLies row (rowSlices rk rv) → rowSlices (rk ++ drop s rowKinds) (rv ++ drop s rowValues) ≡ rowFilled rowKinds rowValues row
         filled-is row l = rw (front-filled s rowKinds (fit .0) zk (l .kinds-are) (part-length s rowKinds (fit .0) rk lk), front-filled s rowValues (fit .1) zv (l .values-are) (part-length s rowValues (fit .1) rv lv))
 
-        zero-is : rowSlices rk rv ≡ zeroRow (length (take s slots)) → rowSlices (rk ++ drop s rowKinds) (rv ++ drop s rowValues) ≡ rowZero rowKinds rowValues
+        zero-is : rowSlices rk rv ≡ zeroRow (length (take s slots)) → rowSlices (rk ++ drop s rowKinds) (rv ++ drop s rowValues) ≡ clearedRow rowKinds rowValues
         zero-is m =
             let k = ap (λ (x : RowSlices). x .kinds) m ∙ ap (λ (j : ℕ). replicate j 0) long in
             let v = ap (λ (x : RowSlices). x .values) m ∙ ap (λ (j : ℕ). replicate j 0) long in
@@ -147,6 +147,6 @@ module _ (which : AnalysisKind) (sheet : List ℕ) (n s : ℕ) (all : n ≡ code
 
         go : Left rowLaid (zeroRow (length (take s slots))) (entering which sheet (take s slots) left) entered (rowSlices rk rv)
             → some (leaves entered (rowSlices (rk ++ drop s rowKinds) (rv ++ drop s rowValues)))
-            ≡ leavesOf (rowFilled rowKinds rowValues) (rowZero rowKinds rowValues) (entering which sheet (take s slots) left)
+            ≡ leavesOf (rowFilled rowKinds rowValues) (clearedRow rowKinds rowValues) (entering which sheet (take s slots) left)
         go (covered row rest c o m) = covered-leaves _ _ c o (filled-is row (lies-of m))
         go (stopped refusal rest c o m) = stopped-leaves (record { refusal = refusal; left = rest; came = c; is = o }) _ (zero-is m)

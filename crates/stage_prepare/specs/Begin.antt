@@ -64,5 +64,5 @@ abbrev pub rowFilled : List ℕ → List ℕ → Row → RowSlices
 rowFilled rowKinds rowValues row = rowSlices (filled (map kind row) rowKinds) (filled (map value row) rowValues)
 
 -- zeros: after 7 and 8
-abbrev pub rowZero : List ℕ → List ℕ → RowSlices
-rowZero rowKinds rowValues = rowSlices (zeros rowKinds) (zeros rowValues)
+abbrev pub clearedRow : List ℕ → List ℕ → RowSlices
+clearedRow rowKinds rowValues = rowSlices (zeros rowKinds) (zeros rowValues)

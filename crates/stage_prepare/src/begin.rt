@@ -10,7 +10,7 @@ ghost use Rattle.model.specs.Lookup.{ascends};
 ghost use Rattle.model.specs.Call.{zeros};
 ghost use Rattle.budget.specs.Outcome.{leaves, leavesOf};
 ghost use Rattle.sheet.specs.Measured.{Accepted};
-ghost use Rattle.stage_prepare.specs.Begin.{begin, enterIf, enough, MarksAndRowZero, rowFilled, rowZero};
+ghost use Rattle.stage_prepare.specs.Begin.{begin, enterIf, enough, MarksAndRowZero, rowFilled, clearedRow};
 ghost use Rattle.stage_prepare.specs.Prepare.{something, prepared, preparedBy, unprepared};
 use crate::Prepared;
 use crate::Room;
@@ -52,7 +52,7 @@ fn enter_tracked(
     ensures { λ r. ⌜ (
         let rk = now («row_kinds» .entry) in let rv = now («row_values» .entry) in
         some (leaves r (rowSlices (now («row_kinds» .exit)) (now («row_values» .exit))))
-        ≡ leavesOf (rowFilled rk rv) (rowZero rk rv)
+        ≡ leavesOf (rowFilled rk rv) (clearedRow rk rv)
         (enterIf (enough room (now (sheet .entry)) (now (slots .entry)) rk rv s) which (now (sheet .entry)) (take s (now (slots .entry))) resources)
         ) ⌝ }
 {
