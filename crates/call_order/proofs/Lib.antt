@@ -1,10 +1,9 @@
--- The laws of this crate. For the caller of `length_facts`: Stored, what its tables read as, and Runs, that the index run is the same by them.
+-- The length facts: the tables they come from and are stored in, and that the index run is the same by them
 pub mod EndedTables
 pub mod LengthTables
 pub mod IndexRuns
--- The laws of this crate.
 pub mod ConstantTables
--- The laws of this crate.
+-- The analyses in order
 pub mod PartAfterPart
 pub mod SameStages
 pub mod ClearedOutputs

@@ -4,7 +4,7 @@ pub mod EdgeRows
 pub mod EdgeCharges
 -- The edges to one slot
 pub mod EdgesToSlot
--- The laws of this crate. For other crates to cite: Chains.
+-- The laws of this crate. For other crates to cite: ChainEdges.
 pub mod BucketOrder
 pub mod ChainLoops
 pub mod ChainEdges

@@ -1,5 +1,4 @@
--- The laws of this crate, in order: one visit, then those of the successors.
+-- One visit, then those of the successors, then the step
 pub mod VisitedTables
 pub mod TwoSuccessors
--- The laws of this crate.
 pub mod OneStep

@@ -1,4 +1,4 @@
--- The laws of this crate. What a sheet is like that questions 1 to 5 leave, for other crates to cite: Counted, Limited, Laid, Inside, Asked, Adding.
+-- The laws of this crate. What a sheet is like that questions 1 to 5 leave, for other crates to cite.
 pub mod SizeNames
 pub mod SizeLimits
 pub mod SheetLength

@@ -1,6 +1,6 @@
--- The laws of this crate.
+-- What the layouts of a fact cost
 pub mod LayoutCharges
--- The laws of this crate.
+-- The first row: the parameters' facts, and their charges
 pub mod ParamFacts
 pub mod ParamStarts
 pub mod RowsMade

@@ -1,4 +1,4 @@
--- The laws of this crate.
+-- Question 8
 pub mod RoomTests
--- The laws of this crate, for other crates to cite.
+-- Lent memory as records, for other crates to cite
 pub mod RecordEqualities

@@ -1,4 +1,4 @@
--- The laws of this crate. For other crates to cite: Zeros, Stepwise, Ready.
+-- The laws of this crate. For other crates to cite: ZeroFronts, StageParts, PreparedOutcome.
 pub mod ZeroFronts
 pub mod StageParts
 pub mod EntryRow

@@ -1,3 +1,3 @@
--- Decimals, and texts in a buffer. Writing is for other crates to cite: one text behind another.
+-- Decimals, and texts in a buffer. TextWritten is for other crates to cite: one text behind another.
 pub mod TextWritten
 pub mod Decimals

@@ -1,5 +1,5 @@
--- The laws of this crate.
+-- Facts written into a row
 pub mod SlotWrites
 pub mod RangeWrites
--- The laws of this crate.
+-- A row through an instruction
 pub mod RowTransfers
