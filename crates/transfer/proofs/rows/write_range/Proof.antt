@@ -42,6 +42,10 @@ returns-2 c =
     written-range _ _ _ _ _ _ (loop .loop .inv) (at-start (loop .before .before .before) .pre .0 .ascending) (c .before .before .loop-test .taken) (c .if2 .taken)
 
 -- the row before the instruction is read, not the one being written
+-- the row before the instruction is read, not the one being written
+effect-on-slot-requires : tie.Need-effect-on-slot-requires Inv-loop μ-loop
+effect-on-slot-requires c κs = search needs
+
 loop-again : tie.Need-loop-again Inv-loop μ-loop
 loop-again c =
     let in-loop = c .before .before .before in
@@ -50,10 +54,6 @@ loop-again c =
 
 returns-3 : tie.Need-returns-3 Inv-loop μ-loop
 returns-3 c = written-all _ _ _ _ _ _ (c .before .loop .inv) (c .loop-test .left)
-
--- the row before the instruction is read, not the one being written
-effect-on-slot-requires : tie.Need-effect-on-slot-requires Inv-loop μ-loop
-effect-on-slot-requires c κs = search needs
 
 pub write-range-spec : {M : Type 1} → statement M
 write-range-spec =
