@@ -26,7 +26,7 @@ use Rattle.fixpoint_step.specs.Stepped.{SheetIndex}
 use Rattle.budget.specs.Outcome.{asSpent, leaves, leavesOf}
 use Rattle.budget.specs.declared.Outcome.{Outcome}
 use Rattle.stage_memory.specs.Stage.{zeroScratch}
-use Rattle.stage.specs.Staged.{ScratchZero, noCounts, StageLeft, staged, stagedBy}
+use Rattle.stage_memory.specs.Staged.{ScratchZero, noCounts, StageLeft, staged, stagedBy}
 use Rattle.call_order.proofs.PartAfterPart.{left-same}
 
 -- ---- outputs

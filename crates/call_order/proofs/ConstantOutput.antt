@@ -31,7 +31,7 @@ use Rattle.budget.specs.declared.Outcome.{Outcome}
 use Rattle.budget.proofs.Outcomes.{Left, covered, stopped, left-by}
 use Rattle.stage_prepare.proofs.ClosureSlots.{few-below}
 use Rattle.stage_memory.specs.Stage.{zeroScratch}
-use Rattle.stage.specs.Staged.{noCounts, staged, stagedBy}
+use Rattle.stage_memory.specs.Staged.{noCounts, staged, stagedBy}
 use Rattle.call_order.specs.Stored.{Stored}
 use Rattle.call_order.proofs.PartAfterPart.{refusing-refused}
 use Rattle.call_order.proofs.ClearedOutputs.{roomIn, StageEnds, staged-same}

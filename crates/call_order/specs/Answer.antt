@@ -6,7 +6,7 @@ use Rattle.model.specs.declared.Answer.{Answer}
 use Rattle.model.specs.declared.Answer.the-variants as A
 use Rattle.budget.specs.declared.Outcome.{Outcome}
 use Rattle.budget.specs.declared.Outcome.the-variants.{Covered, Refused, NoRoom}
-use Rattle.stage.specs.Staged.{noCounts}
+use Rattle.stage_memory.specs.Staged.{noCounts}
 
 -- no counts where an analysis was refused
 unfoldable pub countsUnless : Bool → Counts → Counts

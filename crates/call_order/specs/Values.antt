@@ -11,7 +11,7 @@ use Rattle.model.specs.declared.AnalysisKind.the-variants.{Constant, IndexCheck
 use Rattle.model.specs.declared.Counts.{Counts}
 use Rattle.stage_memory.specs.Stage.{zeroScratch}
 use Rattle.call_admission.specs.Graph.{chargeGraph}
-use Rattle.stage.specs.Staged.{noCounts}
+use Rattle.stage_memory.specs.Staged.{noCounts}
 
 -- The ended constant and index analyses.
 pub record ValueFacts : Type 0 where

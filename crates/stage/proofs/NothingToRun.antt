@@ -29,7 +29,7 @@ use Rattle.stage_prepare.specs.Prepare.{something, PrepareEnd, prepared, prepar
 use Rattle.stage_prepare.proofs.StageParts.{goOn, enters-at-once, runs-at-once}
 use Rattle.stage_prepare.proofs.RoomAndRow.{room-parts, unknown-cells}
 use Rattle.stage_prepare.proofs.ZeroFronts.{zero-filled, cleared-zero}
-use Rattle.stage.specs.Staged.{ScratchZero, noCounts, StageLeft, staged, stagedBy}
+use Rattle.stage_memory.specs.Staged.{ScratchZero, noCounts, StageLeft, staged, stagedBy}
 use Rattle.stage.proofs.StageBegun.{begunAfter, stageAfter, stage-after, PreparedTold, Ready, begun-ready}
 
 pub stage-path : {o o′ : Outcome} {c c′ : Counts} {t t′ : Table} {w w′ : Scratch} → o ≡ o′ → c ≡ c′ → t ≡ t′ → w ≡ w′

@@ -44,7 +44,7 @@ use Rattle.stage_prepare.specs.Prepare.{something}
 use Rattle.stage_prepare.proofs.ClosureSlots.{few-below}
 use Rattle.stage_prepare.proofs.RoomAndRow.{room-parts}
 use Rattle.stage_prepare.proofs.ZeroFronts.{take-zero, front-filled, front-cleared, cleared-zero}
-use Rattle.stage.specs.Staged.{ScratchZero, noCounts, staged, stagedBy}
+use Rattle.stage_memory.specs.Staged.{ScratchZero, noCounts, staged, stagedBy}
 use Rattle.stage.proofs.StageBegun.{stageAfter, stage-after, Ready}
 use Rattle.stage.proofs.NothingToRun.{stage-path, filled-zeros}
 

@@ -10,7 +10,7 @@ ghost use Rattle.model.specs.Tables.{lengthTable};
 ghost use Rattle.budget.specs.Outcome.{asSpent, leaves, leavesOf};
 ghost use Rattle.fixpoint_step.specs.Stepped.{SheetIndex};
 ghost use Rattle.stage_memory.specs.Stage.{zeroScratch};
-ghost use Rattle.stage.specs.Staged.{ScratchZero, noCounts, staged, stagedBy};
+ghost use Rattle.stage_memory.specs.Staged.{ScratchZero, noCounts, staged, stagedBy};
 use budget::Outcome;
 use budget::left_of;
 use fixpoint::run_to_fixpoint;

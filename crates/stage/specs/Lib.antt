@@ -1,2 +1,0 @@
--- What an analysis asks, and what it leaves
-pub mod Staged
