@@ -72,7 +72,7 @@ module _ (which : AnalysisKind) {sheet : List ℕ} {sizes : Sizes} {firsts class
   none-lie = rw (f .present-zero, f .kinds-zero, f .values-zero) (T.none-lie a lawful)
 
   -- instruction 0 gets the first row
-  pub start-joins : JoinRequires 0 (rowSlices rowKinds rowValues) (tableSlices present kinds values)
+  pub start-joins : JoinRequires 0 (tableSlices present kinds values) (rowSlices rowKinds rowValues)
   start-joins =
       let w = lent-lengths f in record {
         below = rw (w .0) (s .some-code);
@@ -94,7 +94,7 @@ module _ (which : AnalysisKind) {sheet : List ℕ} {sizes : Sizes} {firsts class
   pub start-enters : (fresh : Bool) → (fresh ≡ true → 0 < length list) × (fresh ≡ true → 0 ≤ 65535)
   start-enters fresh = ((λ k. some-room), (λ k. omega arith))
 
-  module _ (new : TableSlices) (fresh : Bool) (j : JoinEnsures (equalBy which classes) 0 (rowSlices rowKinds rowValues) (tableSlices present kinds values) new fresh)
+  module _ (new : TableSlices) (fresh : Bool) (j : JoinEnsures (equalBy which classes) 0 (tableSlices present kinds values) (rowSlices rowKinds rowValues) new fresh)
       {lisnew : List ℕ} {top′ : ℕ} (l′ : lisnew ≡ cond fresh (set list 0 0) list) (t′ : top′ ≡ cond fresh (0 + 1) 0) where
     joined : RowsLie (length slots) (rowsVisited (equalKnown which sheet) first 0 (replicate (codeCount sheet) none)) new × (fresh ≡ true)
     unfolding JoinEnsures ranAnalysis analysis

@@ -60,11 +60,11 @@ pub fn run_to_fixpoint(
         which,
         classes,
         0,
-        row_kinds,
-        row_values,
         present,
         kinds,
         values,
+        row_kinds,
+        row_values,
     );
     let mut top = enter(fresh, 0, 0, work_list);
     let cost = slots.len() as u64;

@@ -91,7 +91,7 @@ module _ {sheet : List ℕ} {sizes : Sizes} {firsts classes slots lengthKinds le
     copy-length = let z = step-copies (a .1 .rows) (a .1 .row-there) (a .1 .rows-lie) (a .1 .stands) .0 in (lies-kinds copy-lies ∙ z, lies-values copy-lies ∙ z)
 
     -- what the visits ask
-    pub visiting : SuccessorsRequires sheet sizes p copy t
+    pub visiting : SuccessorsRequires sheet sizes p t copy
     visiting =
         let w = copy-length in record {
           accepted = a .0 .0 .accepted;
@@ -110,7 +110,7 @@ module _ {sheet : List ℕ} {sizes : Sizes} {firsts classes slots lengthKinds le
         }
 
     -- what they make of it is the step
-    pub step-visits : (t′ : TableSlices) (r : InstructionSuccessors) → SuccessorsEnsures (equalBy which classes) (sheetSuccessors sheet p) copy t t′ r
+    pub step-visits : (t′ : TableSlices) (r : InstructionSuccessors) → SuccessorsEnsures (equalBy which classes) (sheetSuccessors sheet p) t copy t′ r
         → StepEnsures which sheet slots (lengthTable lengthKinds lengthValues) p t t′ r
     unfolding SuccessorsEnsures StepEnsures CopyEnsures
     step-visits t′ r o rows x l m =

@@ -169,13 +169,13 @@ module _ (same : ℕ → ℕ → ℕ → ℕ → Bool) (copy : Row) where
 
 -- ---- one of at most two
 
-module _ (same : ℕ → ℕ → ℕ → ℕ → Bool) (successors : InstructionSuccessors) (k : ℕ) (row : RowSlices) (t : TableSlices) where
-  pub next-joined : (t′ : TableSlices) (r : Bool) → NextRequires successors k row t → k < successors .len → JoinEnsures same (getD (successors .pcs) k 0) row t t′ r
-      → NextEnsures same successors k row t t′ r
+module _ (same : ℕ → ℕ → ℕ → ℕ → Bool) (successors : InstructionSuccessors) (k : ℕ) (t : TableSlices) (row : RowSlices) where
+  pub next-joined : (t′ : TableSlices) (r : Bool) → NextRequires successors k t row → k < successors .len → JoinEnsures same (getD (successors .pcs) k 0) t row t′ r
+      → NextEnsures same successors k t row t′ r
   unfolding JoinEnsures NextEnsures successorAt rowsAfter firstNews
   next-joined t′ r n h j rows copy l c = rw (lt-ltb k (successors .len) h) (j rows copy l c (omega (arith, n .below h, rows-are l)))
 
-  pub next-none : successors .len ≤ k → NextEnsures same successors k row t t false
+  pub next-none : successors .len ≤ k → NextEnsures same successors k t row t false
   unfolding NextEnsures successorAt rowsAfter firstNews
   next-none h rows copy l c = rw (le-ltb k (successors .len) h) (l, refl)
 
@@ -187,7 +187,7 @@ pub next-is : {sheet : List ℕ} {sizes : Sizes} (p : ℕ) (inst : Instruction) 
 unfolding sheetSuccessors
 next-is p inst next a e k = k ∙ ap₂ (λ (n : ℕ) (i : Instruction). asRecord (successors n p i)) (counted (a .are) .code-count) e
 
-module _ {sheet : List ℕ} {sizes : Sizes} {p : ℕ} {row : RowSlices} {t : TableSlices} (f : SuccessorsRequires sheet sizes p row t) where
+module _ {sheet : List ℕ} {sizes : Sizes} {p : ℕ} {t : TableSlices} {row : RowSlices} (f : SuccessorsRequires sheet sizes p t row) where
   -- what reading the instruction and its successors asks
   pub following-inside : 40 + 8 * p + 8 ≤ length sheet
   following-inside = code-inside (measured (f .accepted)) p (rw (counted (f .accepted .are) .code-count) (f .below))
@@ -202,16 +202,16 @@ module _ {sheet : List ℕ} {sizes : Sizes} {p : ℕ} {row : RowSlices} {t : Tab
         subst (λ (x : InstructionSuccessors). (k : ℕ) → k < x .len → getD (x .pcs) k 0 < codeCount sheet) (sym e)
         (λ k h. successors-below sheet p _ (list-at (sheetSuccessors sheet p) k h))
 
-    pub first-next : NextRequires next 0 row t
+    pub first-next : NextRequires next 0 t row
     first-next = record { among = omega arith; below = λ i. rw (f .present-length) (target-below 0 i); visitable = f .visitable }
 
-    module _ (same : ℕ → ℕ → ℕ → ℕ → Bool) (first : Bool) (t′ : TableSlices) (n₁ : NextEnsures same next 0 row t t′ first) where
+    module _ (same : ℕ → ℕ → ℕ → ℕ → Bool) (first : Bool) (t′ : TableSlices) (n₁ : NextEnsures same next 0 t row t′ first) where
       first-lie : (rows : List (Option Row)) (copy : Row) → RowsLie (length (row .kinds)) rows t → RowLies copy row
           → RowsLie (length (row .kinds)) (rowsAfter same copy (at (sheetSuccessors sheet p) 0) rows) t′ × (first ≡ firstNews same copy (at (sheetSuccessors sheet p) 0) rows)
       unfolding NextEnsures
       first-lie rows copy l c = rw (ap (λ (x : InstructionSuccessors). successorAt x 0) e ∙ successor-first (sheetSuccessors sheet p)) at (n₁ rows copy l c)
 
-      pub second-next : length (t′ .present) ≡ length (t .present) → length (t′ .kinds) ≡ length (t .kinds) → length (t′ .values) ≡ length (t .values) → NextRequires next 1 row t′
+      pub second-next : length (t′ .present) ≡ length (t .present) → length (t′ .kinds) ≡ length (t .kinds) → length (t′ .values) ≡ length (t .values) → NextRequires next 1 t′ row
       second-next hp hk hv =
           let v = f .visitable in record {
             among = omega arith;
@@ -227,8 +227,8 @@ module _ {sheet : List ℕ} {sizes : Sizes} {p : ℕ} {row : RowSlices} {t : Tab
             };
           }
 
-      pub followed : (second : Bool) (t″ : TableSlices) (r : InstructionSuccessors) → NextEnsures same next 1 row t′ t″ second → r ≡ withNews next first second
-          → SuccessorsEnsures same (sheetSuccessors sheet p) row t t″ r
+      pub followed : (second : Bool) (t″ : TableSlices) (r : InstructionSuccessors) → NextEnsures same next 1 t′ row t″ second → r ≡ withNews next first second
+          → SuccessorsEnsures same (sheetSuccessors sheet p) t row t″ r
       unfolding NextEnsures SuccessorsEnsures
       followed second t″ r n₂ is rows copy l c =
           let one = first-lie rows copy l c in

@@ -86,12 +86,12 @@ module _ (same : ℕ → ℕ → ℕ → ℕ → Bool) where
   length-merged s none copy h k = h
   length-merged s (some old) copy h k = length-joinRow same old copy ∙ k old refl
 
-  module _ (q : ℕ) (row : RowSlices) (t : TableSlices) (new : RowSlices) where
+  module _ (q : ℕ) (t : TableSlices) (row new : RowSlices) where
     abbrev s : ℕ
     s = length (row .kinds)
 
     pub visit-absent : getD (t .present) q 0 ≡ 0 → new .kinds ≡ row .kinds → new .values ≡ row .values
-        → JoinEnsures same q row t (withRow (length (row .kinds)) q t (set (t .present) q 1) new) true
+        → JoinEnsures same q t row (withRow (length (row .kinds)) q t (set (t .present) q 1) new) true
     unfolding JoinEnsures rowsVisited merged news presentByte
     visit-absent e k v rows copy l c h = (
       record {
@@ -132,7 +132,7 @@ module _ (same : ℕ → ℕ → ℕ → ℕ → Bool) where
       )
 
     pub visit-present : (r : Bool) → getD (t .present) q 0 ≢ 0 → JoinedRow same (rowPart (length (row .kinds)) q t) row new r
-        → JoinEnsures same q row t (withRow (length (row .kinds)) q t (t .present) new) r
+        → JoinEnsures same q t row (withRow (length (row .kinds)) q t (t .present) new) r
     unfolding JoinEnsures rowsVisited
     visit-present r e j rows copy l c h =
         let found : (o : Row) × (rowAt rows q ≡ some o) = there (rowAt rows q) (λ z. e (rw (l .present-are) (present-at rows q ∙ z))) in
@@ -140,7 +140,7 @@ module _ (same : ℕ → ℕ → ℕ → ℕ → Bool) where
 
 -- ---- what a visit asks, put to use
 
-module _ {q : ℕ} {row : RowSlices} {t : TableSlices} (v : JoinRequires q row t) where
+module _ {q : ℕ} {t : TableSlices} {row : RowSlices} (v : JoinRequires q t row) where
   -- the row of q lies within both tables
   pub visiting-end : (q * length (row .kinds) + length (row .kinds) ≤ length (t .kinds)) × (q * length (row .kinds) + length (row .kinds) ≤ length (t .values))
   visiting-end = let h = row-end (length (row .kinds)) (v .below) in (omega (arith, h, v .visitable .kinds-length), omega (arith, h, v .visitable .values-length))

@@ -68,10 +68,10 @@ pub fn step(
         sizes,
         classes,
         p,
-        row_kinds,
-        row_values,
         present,
         kinds,
         values,
+        row_kinds,
+        row_values,
     )
 }

@@ -19,17 +19,17 @@ fn join_next(
     classes: &[u16],
     successors: InstructionSuccessors,
     k: usize,
-    row_kinds: &[u8],
-    row_values: &[u64],
     present: &mut [u8],
     kinds: &mut [u8],
     values: &mut [u64],
+    row_kinds: &[u8],
+    row_values: &[u64],
 ) -> bool
-    requires { ⌜ NextRequires successors k (rowSlices (now «row_kinds») (now «row_values»)) (tableSlices (now present) (now kinds) (now values)) ⌝ }
+    requires { ⌜ NextRequires successors k (tableSlices (now present) (now kinds) (now values)) (rowSlices (now «row_kinds») (now «row_values»)) ⌝ }
     ensures { λ r. ⌜ (
-        let row = lentRow «row_kinds» «row_values» in
         let t = lentRows present kinds values in
-        NextEnsures (equalBy which (now (classes .entry))) successors k (row .entry) (t .entry) (t .exit) r
+        let row = lentRow «row_kinds» «row_values» in
+        NextEnsures (equalBy which (now (classes .entry))) successors k (t .entry) (row .entry) (t .exit) r
         ) ⌝ }
 {
     let len = successors.len as usize;
@@ -40,11 +40,11 @@ fn join_next(
             which,
             classes,
             q,
-            row_kinds,
-            row_values,
             present,
             kinds,
             values,
+            row_kinds,
+            row_values,
         );
     }
     false
@@ -83,17 +83,17 @@ pub fn visit_successors(
     sizes: Sizes,
     classes: &[u16],
     p: usize,
-    row_kinds: &[u8],
-    row_values: &[u64],
     present: &mut [u8],
     kinds: &mut [u8],
     values: &mut [u64],
+    row_kinds: &[u8],
+    row_values: &[u64],
 ) -> InstructionSuccessors
-    requires { ⌜ SuccessorsRequires (now sheet) sizes p (rowSlices (now «row_kinds») (now «row_values»)) (tableSlices (now present) (now kinds) (now values)) ⌝ }
+    requires { ⌜ SuccessorsRequires (now sheet) sizes p (tableSlices (now present) (now kinds) (now values)) (rowSlices (now «row_kinds») (now «row_values»)) ⌝ }
     ensures { λ r. ⌜ (
-        let row = lentRow «row_kinds» «row_values» in
         let t = lentRows present kinds values in
-        SuccessorsEnsures (equalBy which (now (classes .entry))) (sheetSuccessors (now (sheet .entry)) p) (row .entry) (t .entry) (t .exit) r
+        let row = lentRow «row_kinds» «row_values» in
+        SuccessorsEnsures (equalBy which (now (classes .entry))) (sheetSuccessors (now (sheet .entry)) p) (t .entry) (row .entry) (t .exit) r
         ) ⌝ }
 {
     let next = instruction_successors(sizes.code_count, p, instruction_at(sheet, p));
@@ -102,22 +102,22 @@ pub fn visit_successors(
         classes,
         next,
         0,
-        row_kinds,
-        row_values,
         present,
         kinds,
         values,
+        row_kinds,
+        row_values,
     );
     let second = join_next(
         which,
         classes,
         next,
         1,
-        row_kinds,
-        row_values,
         present,
         kinds,
         values,
+        row_kinds,
+        row_values,
     );
     with_news(next, first, second)
 }

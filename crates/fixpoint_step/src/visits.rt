@@ -13,17 +13,17 @@ pub fn join_into(
     which: AnalysisKind,
     classes: &[u16],
     q: usize,
-    row_kinds: &[u8],
-    row_values: &[u64],
     present: &mut [u8],
     kinds: &mut [u8],
     values: &mut [u64],
+    row_kinds: &[u8],
+    row_values: &[u64],
 ) -> bool
-    requires { ⌜ JoinRequires q (rowSlices (now «row_kinds») (now «row_values»)) (tableSlices (now present) (now kinds) (now values)) ⌝ }
+    requires { ⌜ JoinRequires q (tableSlices (now present) (now kinds) (now values)) (rowSlices (now «row_kinds») (now «row_values»)) ⌝ }
     ensures { λ r. ⌜ (
-        let row = lentRow «row_kinds» «row_values» in
         let t = lentRows present kinds values in
-        JoinEnsures (equalBy which (now (classes .entry))) q (row .entry) (t .entry) (t .exit) r
+        let row = lentRow «row_kinds» «row_values» in
+        JoinEnsures (equalBy which (now (classes .entry))) q (t .entry) (row .entry) (t .exit) r
         ) ⌝ }
 {
     let s = row_kinds.len();

@@ -40,7 +40,7 @@ step-spec =
     (λ c. omega (arith, c .shared-slice-known8 .given (at-start (c .before .before) .args .p))) (λ c. omega arith) (λ c. omega arith)
     (λ c. omega (arith, step-end (at-parts c .pre))) (λ c. omega (arith, step-end (at-parts (c .before) .pre))) (λ c. omega arith) (λ c. omega arith)
     (λ c. omega (arith, step-end (at-parts (c .before .before) .pre))) (λ c κs. transfer-asks (at-call c .pre)) visit-successors-requires
-    (λ c. at-visits c .visit-successors .kept .1 .1 .1 .1 .1 .1 .1 .0) (λ c. at-visits c .visit-successors .kept .1 .1 .1 .1 .1 .1 .1 .1 .0)
-    (λ c. at-visits c .visit-successors .kept .1 .1 .1 .1 .1 .1 .1 .1 .1 .0)
+    (λ c. at-visits c .visit-successors .kept .1 .1 .1 .1 .1 .0) (λ c. at-visits c .visit-successors .kept .1 .1 .1 .1 .1 .1 .0)
+    (λ c. at-visits c .visit-successors .kept .1 .1 .1 .1 .1 .1 .1 .0)
     (λ c. at-transfer (at-visits c .before) .transfer-row .kept .1 .1 .1 .1 .1 .1 .1 .1 .1 .0)
     (λ c. at-transfer (at-visits c .before) .transfer-row .kept .1 .1 .1 .1 .1 .1 .1 .1 .1 .1 .0) returns)

@@ -30,7 +30,7 @@ join-next-requires-2 : tie.Need-join-next-requires-2
 join-next-requires-2 c κs =
     let first = at-first c in
     let next = at-next (first .before) in
-    let kept = first .join-next .kept .1 .1 .1 .1 .1 .1 in
+    let kept = first .join-next .kept .1 .1 .1 .1 in
     second-next (at-start (next .before) .pre) _ (next-are next) _ _ _ (first .join-next .ensures) (kept .0) (kept .1 .0) (kept .1 .1 .0)
 
 returns : tie.Need-returns

@@ -6,7 +6,7 @@ use Rattle.fixpoint_step.proofs.VisitedTables.{visiting-end, visiting-r
 use Rattle.fixpoint_step.proofs.visits.join_into.Statement.{statement}
 use Rattle.fixpoint_step.proofs.visits.join_into.Tie as tie
 
-abbrev at-start : tie.After-slice-known3 → tie.Start
+abbrev at-start : tie.After-shared-slice-known3 → tie.Start
 at-start c = c .before .before .before .before .before .before
 
 abbrev at-copy : tie.After-slice-known5 → tie.Start
