@@ -20,7 +20,7 @@ use Rattle.sheet.specs.Measured.{Accepted}
 use Rattle.budget.specs.Outcome.{asSpent, refusing, leaves, leavesOf, refusedBy}
 use Rattle.budget.specs.declared.Outcome.{Outcome}
 use Rattle.stage_memory.specs.Stage.{zeroScratch, tableIf}
-use Rattle.call_admission.specs.Graph.{chargeGraph}
+use Rattle.closure_edges.specs.GraphCharges.{chargeGraph}
 use Rattle.stage_memory.specs.Staged.{noCounts, staged, stagedBy}
 use Rattle.call_order.specs.Stored.{Stored, Lengthened}
 use Rattle.call_order.specs.Values.{ValueFacts, valueFacts, values, valued, valuedBy, noValues, ValuesLeft}

@@ -10,7 +10,7 @@ use Rattle.model.specs.Call.{Table, Scratch, counts, tables, zeroTable, filledT
 use Rattle.model.specs.declared.AnalysisKind.the-variants.{Constant, IndexCheck}
 use Rattle.model.specs.declared.Counts.{Counts}
 use Rattle.stage_memory.specs.Stage.{zeroScratch}
-use Rattle.call_admission.specs.Graph.{chargeGraph}
+use Rattle.closure_edges.specs.GraphCharges.{chargeGraph}
 use Rattle.stage_memory.specs.Staged.{noCounts}
 
 -- The ended constant and index analyses.

@@ -29,10 +29,10 @@ use Rattle.finality.proofs.Marks.{IsSet, set-below, mark-grows, free, weight, s
 use Rattle.finality.proofs.Closure.{follow-weight, seeded-weight}
 use Rattle.finality.proofs.Cells.{stacked-top, stacked-pop}
 use Rattle.closure_marks.specs.Marks.{MarkedLies, Lain}
-use Rattle.closure_follow.specs.Sources.{Follows}
+use Rattle.closure.specs.Sources.{Follows}
 use Rattle.closure.specs.Taking.{Standing, topEdges, topTaken, Takes}
 use Rattle.closure.specs.Expanded.{MarksZero}
-use Rattle.closure_follow.specs.declared.Followed.{Followed}
+use Rattle.closure.specs.declared.Followed.{Followed}
 use Rattle.closure_marks.proofs.Marks.{some-lain}
 
 -- ---- what is on the stack is below L

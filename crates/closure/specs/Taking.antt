@@ -8,7 +8,7 @@ use Rattle.model.specs.Dependencies.{dependencyBit, edgesTo}
 use Rattle.model.specs.Closure.{Marked, follow}
 use Rattle.model.specs.declared.AnalysisKind.{AnalysisKind}
 use Rattle.closure_marks.specs.Marks.{MarkedLies}
-use Rattle.closure_follow.specs.declared.Followed.{Followed}
+use Rattle.closure.specs.declared.Followed.{Followed}
 
 -- some state of this sheet's closure lies there
 pub record Standing (sheet marks stack : List ℕ) (top : ℕ) : Type 0 where

@@ -5,6 +5,7 @@ ghost use Rattle.model.specs.Analyses.{flowOf};
 ghost use Rattle.model.specs.Dependencies.{chargeInstruction, chargeDependencies};
 ghost use Rattle.budget.specs.Outcome.{asSpent};
 ghost use Rattle.sheet.specs.Measured.{Measured};
+ghost use Rattle.closure_edges.specs.GraphCharges.{chargeGraph};
 use crate::edges::copy_work;
 use crate::edges::edge_count;
 use budget::Outcome;
@@ -18,7 +19,7 @@ use sheet::Sizes;
 use sheet_fields::instruction_at;
 
 // "successor record 24": bytes 24 × n, then work n.
-pub fn charge_flow(sizes: Sizes, resources: VerifierResources) -> Outcome
+fn charge_flow(sizes: Sizes, resources: VerifierResources) -> Outcome
     requires { ⌜ sizes .«code_count» ≤ 4096 ⌝ }
     ensures { λ r. ⌜ asSpent r ≡ flowOf (sizes .«code_count») resources ⌝ }
 {
@@ -42,7 +43,7 @@ fn charge_instruction(inst: Instruction, l: usize, resources: VerifierResources)
 }
 
 // The charges of all instructions, in code order.
-pub fn charge_dependencies(sheet: &[u8], sizes: Sizes, resources: VerifierResources) -> Outcome
+fn charge_dependencies(sheet: &[u8], sizes: Sizes, resources: VerifierResources) -> Outcome
     requires { ⌜ Measured (now sheet) sizes ⌝ }
     ensures { λ r. ⌜ asSpent r ≡ chargeDependencies (now (sheet .entry)) resources ⌝ }
 {
@@ -59,4 +60,16 @@ pub fn charge_dependencies(sheet: &[u8], sizes: Sizes, resources: VerifierResour
         pc += 1;
     }
     Outcome::Covered { left }
+}
+
+// Both, before any analysis: "Order: flow graph, dependencies"
+pub fn charge_graph(sheet: &[u8], sizes: Sizes, resources: VerifierResources) -> Outcome
+    requires { ⌜ Measured (now sheet) sizes ⌝ }
+    ensures { λ r. ⌜ asSpent r ≡ chargeGraph (now (sheet .entry)) resources ⌝ }
+{
+    let flow = charge_flow(sizes, resources);
+    let Outcome::Covered { left } = flow else {
+        return flow;
+    };
+    charge_dependencies(sheet, sizes, left)
 }

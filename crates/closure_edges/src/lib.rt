@@ -6,8 +6,7 @@ mod destinations;
 mod edges;
 mod links;
 
-pub use charges::charge_dependencies;
-pub use charges::charge_flow;
+pub use charges::charge_graph;
 pub use destinations::bucket_of;
 pub use edges::CONSTANT;
 pub use edges::CONTAINER;

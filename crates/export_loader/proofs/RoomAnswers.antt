@@ -27,11 +27,11 @@ use Rattle.sheet.specs.declared.Sizes.{Sizes}
 use Rattle.sheet.proofs.SizeNames.{counted}
 use Rattle.sheet.proofs.SizeLimits.{limited}
 use Rattle.sheet_questions.specs.Check.{sheetCheck}
+use Rattle.sheet_questions.specs.Admitted.{admission}
 use Rattle.sheet_questions.specs.declared.Admission.{Admission}
 use Rattle.sheet_questions.specs.declared.Admission.the-variants.{Admitted, Refused}
 use Rattle.sheet_questions.proofs.FirstRefusal.{accepted, refused}
-use Rattle.call_admission.specs.Admitted.{admission}
-use Rattle.call_admission.proofs.AdmissionTests.{admitted-lengths, refused-by}
+use Rattle.sheet_questions.proofs.AdmissionTests.{admitted-lengths, refused-by}
 use Rattle.closure.specs.Closed.{Closed, closed, closedBy}
 use Rattle.finality.proofs.Lengths.{zeros-length, zeros-same}
 use Rattle.model.specs.Interface.{looked, inFront}

@@ -8,7 +8,6 @@ ghost use Rattle.model.specs.Call.{zeros};
 ghost use Rattle.sheet.specs.Measured.{Measured};
 ghost use Rattle.model.specs.Interface.{inFront};
 ghost use Rattle.model.specs.Room.{closureSlots, room, roomNumbers, roomOf};
-use call_admission::admit;
 use closure::tracked_slots;
 use memory::clear_u8;
 use memory::clear_u16;
@@ -16,6 +15,7 @@ use model::AnalysisKind;
 use model::VerifierResources;
 use sheet::Sizes;
 use sheet_questions::Admission;
+use sheet_questions::admit;
 
 // The s of one analysis. No charge of its closure is refused: marks and stack are charged with 3 for each of L, and each of at most L turns with at
 // most 2 for each instruction.

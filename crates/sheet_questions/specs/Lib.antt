@@ -1,2 +1,3 @@
 -- What the questions come to, by the definitions of `model`.
 pub mod Check
+pub mod Admitted

@@ -7,12 +7,12 @@ ghost use Rattle.model.specs.CallDemand.{LentDemand};
 ghost use Rattle.model.specs.declared.Answer.the-variants.{Analyzed};
 ghost use Rattle.model.specs.declared.Counts.{Counts};
 ghost use Rattle.model.specs.declared.VerifierResources.{VerifierResources};
-use call_admission::admit;
 use call_indexed::analyze_indexed;
 use model::Answer;
 use model::VerifierResources;
 use sheet_index::index_sheet;
 use sheet_questions::Admission;
+use sheet_questions::admit;
 
 // "Questions, in order", the charges and the three analyses. What it answers and what every lent buffer holds afterwards is the call that the
 // definitions give (`analyzed`); and of an answer with facts, each analysis took at most n × (1 + 2 × s) entries from its work list, and with

@@ -2,7 +2,7 @@
 -- Assumes nothing.
 use Rattle.model.specs.Call.{Lent, lent, table, scratch}
 use Rattle.sheet_index.proofs.IndexFound.{few-layouts, firsts-found, classes-found}
-use Rattle.call_admission.proofs.AdmissionTests.{admitted-lengths, turned-away}
+use Rattle.sheet_questions.proofs.AdmissionTests.{admitted-lengths, turned-away}
 use Rattle.call_order.proofs.ClearedOutputs.{few-code}
 use Rattle.call_order.proofs.CallOrder.{demanded}
 use borrow.Author.Needs.{needs}

@@ -3,7 +3,7 @@
 use native.Mathlib.Omega.{arith}
 use Rattle.sheet.proofs.AcceptedSheet.{measured}
 use Rattle.sheet.proofs.SizeNames.{counted}
-use Rattle.call_admission.proofs.AdmissionTests.{admitted-lengths}
+use Rattle.sheet_questions.proofs.AdmissionTests.{admitted-lengths}
 use Rattle.export_loader.proofs.RoomAnswers.{out-too-short, room-refused, room-told}
 use borrow.Author.Needs.{needs}
 use Rattle.export_loader.proofs.room.room_of.Statement.{statement}

@@ -1,2 +1,0 @@
--- The edges to one slot
-pub mod FollowEdges
