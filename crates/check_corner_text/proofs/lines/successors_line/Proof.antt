@@ -1,11 +1,11 @@
--- `check_corner_lines::successors_line` meets its contract: one part behind the other.
+-- `check_corner_text::successors_line` meets its contract: one part behind the other.
 -- Assumes nothing.
 use Rattle.model.specs.Listing.{ascii, newline}
 use Rattle.text_lines.proofs.TextWritten.{then}
-use Rattle.check_corner_lines.specs.Lines.{successorsLine}
+use Rattle.check_corner_text.specs.Lines.{successorsLine}
 use borrow.Author.Needs.{needs}
-use Rattle.check_corner_lines.proofs.successors_line.Statement.{statement}
-use Rattle.check_corner_lines.proofs.successors_line.Tie as tie
+use Rattle.check_corner_text.proofs.lines.successors_line.Statement.{statement}
+use Rattle.check_corner_text.proofs.lines.successors_line.Tie as tie
 
 returns : tie.Need-returns
 unfolding ascii newline successorsLine

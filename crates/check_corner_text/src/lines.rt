@@ -2,7 +2,7 @@
 ghost use Prim.Native.Nat.{_+_, _≤_};
 ghost use lib.ListN.{length};
 ghost use Rattle.text_lines.specs.Text.{Added};
-ghost use Rattle.check_corner_lines.specs.Lines.{five, refusedCornerLine, acceptedLine, successorsLine, yesOrNo, writesLine, indexWritesLine};
+ghost use Rattle.check_corner_text.specs.Lines.{five, refusedCornerLine, acceptedLine, successorsLine, yesOrNo, writesLine, indexWritesLine};
 use model::FactCell;
 use model::InstructionSuccessors;
 use sheet::Sizes;

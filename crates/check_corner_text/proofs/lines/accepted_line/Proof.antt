@@ -1,11 +1,11 @@
--- `check_corner_lines::accepted_line` meets its contract: the words, then five numbers twice.
+-- `check_corner_text::accepted_line` meets its contract: the words, then five numbers twice.
 -- Assumes nothing.
 use Rattle.model.specs.Listing.{ascii, newline}
 use Rattle.text_lines.proofs.TextWritten.{then}
-use Rattle.check_corner_lines.specs.Lines.{acceptedLine}
+use Rattle.check_corner_text.specs.Lines.{acceptedLine}
 use borrow.Author.Needs.{needs}
-use Rattle.check_corner_lines.proofs.accepted_line.Statement.{statement}
-use Rattle.check_corner_lines.proofs.accepted_line.Tie as tie
+use Rattle.check_corner_text.proofs.lines.accepted_line.Statement.{statement}
+use Rattle.check_corner_text.proofs.lines.accepted_line.Tie as tie
 
 returns : tie.Need-returns
 unfolding ascii newline acceptedLine

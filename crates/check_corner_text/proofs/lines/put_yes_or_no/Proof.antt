@@ -1,13 +1,13 @@
--- `check_corner_lines::put_yes_or_no` meets its contract: one of two words.
+-- `check_corner_text::put_yes_or_no` meets its contract: one of two words.
 -- Assumes nothing.
 use mathlib.Core.Path.{refl}
 use native.Mathlib.Omega.{arith}
 use Rattle.model.specs.Listing.{ascii}
 use Rattle.text_lines.proofs.TextWritten.{reword}
-use Rattle.check_corner_lines.specs.Lines.{yesOrNo}
+use Rattle.check_corner_text.specs.Lines.{yesOrNo}
 use borrow.Author.Needs.{needs}
-use Rattle.check_corner_lines.proofs.put_yes_or_no.Statement.{statement}
-use Rattle.check_corner_lines.proofs.put_yes_or_no.Tie as tie
+use Rattle.check_corner_text.proofs.lines.put_yes_or_no.Statement.{statement}
+use Rattle.check_corner_text.proofs.lines.put_yes_or_no.Tie as tie
 
 returns : tie.Need-returns
 unfolding ascii yesOrNo

@@ -1,10 +1,10 @@
--- `check_corner_lines::put_five` meets its contract: one number behind the other.
+-- `check_corner_text::put_five` meets its contract: one number behind the other.
 -- Assumes nothing.
 use Rattle.text_lines.proofs.TextWritten.{then}
-use Rattle.check_corner_lines.specs.Lines.{five}
+use Rattle.check_corner_text.specs.Lines.{five}
 use borrow.Author.Needs.{needs}
-use Rattle.check_corner_lines.proofs.put_five.Statement.{statement}
-use Rattle.check_corner_lines.proofs.put_five.Tie as tie
+use Rattle.check_corner_text.proofs.lines.put_five.Statement.{statement}
+use Rattle.check_corner_text.proofs.lines.put_five.Tie as tie
 
 returns : tie.Need-returns
 unfolding five

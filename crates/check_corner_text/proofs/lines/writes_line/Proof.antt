@@ -1,11 +1,11 @@
--- `check_corner_lines::writes_line` meets its contract: one part behind the other.
+-- `check_corner_text::writes_line` meets its contract: one part behind the other.
 -- Assumes nothing.
 use Rattle.model.specs.Listing.{ascii}
 use Rattle.text_lines.proofs.TextWritten.{then}
-use Rattle.check_corner_lines.specs.Lines.{writesLine}
+use Rattle.check_corner_text.specs.Lines.{writesLine}
 use borrow.Author.Needs.{needs}
-use Rattle.check_corner_lines.proofs.writes_line.Statement.{statement}
-use Rattle.check_corner_lines.proofs.writes_line.Tie as tie
+use Rattle.check_corner_text.proofs.lines.writes_line.Statement.{statement}
+use Rattle.check_corner_text.proofs.lines.writes_line.Tie as tie
 
 returns : tie.Need-returns
 unfolding ascii writesLine

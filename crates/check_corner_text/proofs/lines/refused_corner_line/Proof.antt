@@ -1,11 +1,11 @@
--- `check_corner_lines::refused_corner_line` meets its contract: number of the question behind its words.
+-- `check_corner_text::refused_corner_line` meets its contract: number of the question behind its words.
 -- Assumes nothing.
 use Rattle.model.specs.Listing.{ascii, newline}
 use Rattle.text_lines.proofs.TextWritten.{then}
-use Rattle.check_corner_lines.specs.Lines.{refusedCornerLine}
+use Rattle.check_corner_text.specs.Lines.{refusedCornerLine}
 use borrow.Author.Needs.{needs}
-use Rattle.check_corner_lines.proofs.refused_corner_line.Statement.{statement}
-use Rattle.check_corner_lines.proofs.refused_corner_line.Tie as tie
+use Rattle.check_corner_text.proofs.lines.refused_corner_line.Statement.{statement}
+use Rattle.check_corner_text.proofs.lines.refused_corner_line.Tie as tie
 
 returns : tie.Need-returns
 unfolding ascii newline refusedCornerLine
