@@ -1,4 +1,4 @@
--- `check_corner_text::refused_corner_line` meets its contract: number of the question behind its words.
+-- `check_corner_text::refused_corner_line` meets its contract: the number of the question behind its words.
 -- Assumes nothing.
 use Rattle.model.specs.Listing.{ascii, newline}
 use Rattle.text_lines.proofs.TextWritten.{then}
@@ -10,12 +10,9 @@ use Rattle.check_corner_text.proofs.lines.refused_corner_line.Tie as ti
 returns : tie.Need-returns
 unfolding ascii newline refusedCornerLine
 returns c =
-    let put2 = c .before .before in
-    let put-spaced = put2 .before .before .before .before .before in
-    let put = put-spaced .before .before .before .before in
-    then (then (put .put .ensures) (put-spaced .put-spaced .ensures)) (put2 .put2 .ensures)
+    let end = c .before .before in
+    let numbers = end .before .before .before .before .before in
+    then (numbers .put-numbered .ensures) (end .put .ensures)
 
 pub refused-corner-line-spec : {M : Type 1} → statement M
-refused-corner-line-spec =
-    tie.close (tie.spec (λ c. search needs) (λ c κs. search needs) (λ c κs. search needs) (λ c. search needs) (λ c κs. search needs)
-    (λ c. search needs) returns)
+refused-corner-line-spec = tie.close (tie.spec (λ c. search needs) (λ c. search needs) (λ c κs. search needs) (λ c. search needs) (λ c κs. search needs) (λ c. search needs) returns)

@@ -1,4 +1,4 @@
--- `check_corner_text::writes_line` meets its contract: one part behind the other.
+-- `check_corner_text::writes_line` meets its contract: the answer behind the numbers.
 -- Assumes nothing.
 use Rattle.model.specs.Listing.{ascii}
 use Rattle.text_lines.proofs.TextWritten.{then}
@@ -10,13 +10,8 @@ use Rattle.check_corner_text.proofs.lines.writes_line.Tie as tie
 returns : tie.Need-returns
 unfolding ascii writesLine
 returns c =
-    let put-yes-or-no = c .before .before in
-    let put-spaced2 = put-yes-or-no .before .before .before .before in
-    let put-spaced = put-spaced2 .before .before .before .before in
-    let put = put-spaced .before .before .before .before in
-    then (then (then (put .put .ensures) (put-spaced .put-spaced .ensures)) (put-spaced2 .put-spaced2 .ensures)) (put-yes-or-no .put-yes-or-no .ensures)
+    let answer = c .before .before in
+    then (answer .before .before .before .before .put-numbered .ensures) (answer .put-yes-or-no .ensures)
 
 pub writes-line-spec : {M : Type 1} → statement M
-writes-line-spec =
-    tie.close (tie.spec (λ c. search needs) (λ c κs. search needs) (λ c κs. search needs) (λ c κs. search needs) (λ c κs. search needs)
-    (λ c. search needs) returns)
+writes-line-spec = tie.close (tie.spec (λ c. search needs) (λ c. search needs) (λ c κs. search needs) (λ c κs. search needs) (λ c. search needs) returns)

@@ -1,14 +1,12 @@
--- `check_replay::line::put_numbers` meets its contract: one number behind the other.
--- Assumes nothing.
+-- `text_lines::put_numbers` meets its contract: one number behind the other. Assumes nothing.
 use Prim.Native.Nat.{_-_, _*_, _≤_}
 use native.Mathlib.Omega.{arith}
 use lib.ListN.{length, take}
 use denote.Ref.{now}
-use Rattle.text_lines.specs.Text.{Added}
-use Rattle.check_replay.specs.Line.{spacedAll}
-use Rattle.check_replay.proofs.SpacedNumbers.{none, more, all}
-use Rattle.check_replay.proofs.line.put_numbers.Statement.{statement}
-use Rattle.check_replay.proofs.line.put_numbers.Tie as tie
+use Rattle.text_lines.specs.Text.{Added, spacedAll}
+use Rattle.text_lines.proofs.SpacedNumbers.{none, more, all}
+use Rattle.text_lines.proofs.words.put_numbers.Statement.{statement}
+use Rattle.text_lines.proofs.words.put_numbers.Tie as tie
 
 abbrev Inv-loop : tie.InvT-loop
 Inv-loop numbers at out₀ end₀ i₀ out end i = (i ≤ length numbers) × Added (21 * i) (spacedAll (take i numbers)) at out₀ end out

@@ -8,9 +8,8 @@ use native.Mathlib.Omega.{arith}
 use lib.ListN.{length, getD, take}
 use lib.Seq.{take-suc, take-all}
 use Rattle.model.specs.Listing.{decimal, space}
-use Rattle.text_lines.specs.Text.{Added}
+use Rattle.text_lines.specs.Text.{Added, spacedAll}
 use Rattle.text_lines.proofs.TextWritten.{then, reword, no-text}
-use Rattle.check_replay.specs.Line.{spacedAll}
 
 spaced-last : (xs : List ℕ) (x : ℕ) → spacedAll (xs ++ (x ∷ [])) ≡ spacedAll xs ++ (space ++ decimal x)
 unfolding spacedAll
@@ -34,7 +33,3 @@ module _ (xs : List ℕ) where
   pub all : {old new : List ℕ} {at next i : ℕ} → i ≤ length xs → length xs ≤ i → Added (21 * i) (spacedAll (take i xs)) at old next new
       → Added (21 * length xs) (spacedAll xs) at old next new
   all {i} h k w = reword (omega arith) (ap spacedAll (take-all i xs k)) w
-
--- an equal number
-pub same : {x y at next : ℕ} {old new : List ℕ} → x ≡ y → Added 21 (space ++ decimal x) at old next new → Added 21 (space ++ decimal y) at old next new
-same e w = reword (omega arith) (ap (λ (z : ℕ). space ++ decimal z) e) w
