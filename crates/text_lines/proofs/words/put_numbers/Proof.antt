@@ -14,10 +14,15 @@ Inv-loop numbers at out₀ end₀ i₀ out end i = (i ≤ length numbers) × Add
 abbrev μ-loop : tie.MeasureT-loop
 μ-loop numbers at out₀ end₀ i₀ out end i = length numbers - i
 
+loop-again : tie.Need-loop-again Inv-loop μ-loop
+loop-again c =
+    let put-spaced = c .before .before in
+    let test = put-spaced .before .before .before in
+    (omega arith, more _ (test .loop-test .taken) (test .before .loop .inv .1) (put-spaced .put-spaced .ensures))
+
 pub put-numbers-spec : {M : Type 1} → statement M
 put-numbers-spec =
     tie.close (tie.spec Inv-loop μ-loop (λ c. (omega arith, none (now (c .before .before .args .numbers)) _ _ (omega arith))) (λ c. omega arith)
     (λ c. omega arith) (λ c κs. let added = c .before .before .before .loop .inv .1 in omega (arith, added .short, added .long)) (λ c. omega arith)
-    (λ c. omega arith)
-    (λ c. let test = c .before .before .before .before .before in (omega arith, more _ (test .loop-test .taken) (test .before .loop .inv .1) (c .before .before .put-spaced .ensures)))
-    (λ c. c .before .loop .inv .1 .long) (λ c. all _ (c .before .loop .inv .0) (c .loop-test .left) (c .before .loop .inv .1)))
+    (λ c. omega arith) loop-again (λ c. c .before .loop .inv .1 .long)
+    (λ c. all _ (c .before .loop .inv .0) (c .loop-test .left) (c .before .loop .inv .1)))
