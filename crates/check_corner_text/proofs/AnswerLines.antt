@@ -15,7 +15,7 @@ use Rattle.model.specs.declared.Instruction.{Instruction}
 use Rattle.model.specs.declared.InstructionSuccessors.{InstructionSuccessors}
 use Rattle.text_lines.specs.Text.{Added}
 use Rattle.text_lines.proofs.TextWritten.{reword}
-use Rattle.check_corner_lines.specs.Lines.{successorsLine, writesLine, indexWritesLine}
+use Rattle.check_corner_text.specs.Lines.{successorsLine, writesLine, indexWritesLine}
 use Rattle.check_corner_text.specs.Answers.{answerLine}
 use Rattle.check_corner_text.specs.declared.Question.{Question}
 

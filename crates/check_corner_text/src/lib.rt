@@ -1,9 +1,12 @@
-// What a case is made of, and the line that answers a question about a sheet.
+// What a case is made of, and the lines that are printed of it.
 mod cases;
+mod lines;
 mod text;
 
 pub use cases::head_of;
 pub use cases::question_of;
+pub use lines::accepted_line;
+pub use lines::refused_corner_line;
 use model::FactCell;
 pub use text::answer_line;
 

@@ -10,9 +10,9 @@ use crate::INDEX_WRITES;
 use crate::Question;
 use crate::SUCCESSORS;
 use crate::WRITES;
-use check_corner_lines::index_writes_line;
-use check_corner_lines::successors_line;
-use check_corner_lines::writes_line;
+use crate::lines::index_writes_line;
+use crate::lines::successors_line;
+use crate::lines::writes_line;
 use model::FactCell;
 use sheet::Sizes;
 

@@ -1,4 +1,3 @@
--- The laws of the calls, and of the numbers that are printed.
+-- The laws of the calls.
 pub mod CallBuffers
 pub mod CallsInTurn
-pub mod SpacedNumbers

@@ -5,19 +5,15 @@ use mathlib.Core.Option.{Option, none, some}
 use Prim.Native.Nat.{ℕ}
 use Rattle.model.specs.Call.{answerNumbered}
 use Rattle.model.specs.Interface.{twelve}
-use Rattle.model.specs.Listing.{ascii, decimal, space, newline}
+use Rattle.model.specs.Listing.{ascii, newline}
+use Rattle.text_lines.specs.Text.{numbered}
 use Rattle.check_replay_lent.specs.Checksum.{checksumNumber}
 use Rattle.check_replay.specs.Calls.{replayed}
 use Rattle.check_replay.specs.declared.call.Called.{Called}
 
--- numbers, each behind a space
-unfoldable pub spacedAll : List ℕ → List ℕ
-spacedAll [] = []
-spacedAll (x ∷ xs) = (space ++ decimal x) ++ spacedAll xs
-
 -- the twelve numbers of the first call's answer, and the checksum over all calls
 unfoldable pub calledLine : Called → List ℕ
-calledLine c = ascii "answer" ++ spacedAll (twelve (answerNumbered (c .answer))) ++ ascii " checksum" ++ (space ++ decimal (checksumNumber (c .checksum))) ++ newline
+calledLine c = numbered (ascii "answer") (twelve (answerNumbered (c .answer))) ++ numbered (ascii " checksum") (checksumNumber (c .checksum) ∷ []) ++ newline
 
 -- the same, where there is one
 unfoldable pub lineOf : Option Called → Option (List ℕ)

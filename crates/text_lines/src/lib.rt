@@ -8,4 +8,5 @@ pub use lines::refused_line;
 pub use lines::too_large;
 pub use words::put;
 pub use words::put_decimal;
+pub use words::put_numbered;
 pub use words::put_spaced;

@@ -1,9 +1,9 @@
 // Words and numbers, each written from a place of a lent buffer on. The answer is the place behind it.
 ghost use mathlib.Core.List.{_++_};
-ghost use Prim.Native.Nat.{_+_, _≤_};
+ghost use Prim.Native.Nat.{_+_, _*_, _≤_};
 ghost use lib.ListN.{length, drop};
 ghost use Rattle.model.specs.Listing.{decimal, space};
-ghost use Rattle.text_lines.specs.Text.{Added};
+ghost use Rattle.text_lines.specs.Text.{Added, spacedAll, numbered};
 
 // The bytes of word from a place on.
 fn put_from(word: &[u8], from: usize, at: usize, out: &mut [u8]) -> usize
@@ -53,4 +53,27 @@ pub fn put_spaced(x: u64, at: usize, out: &mut [u8]) -> usize
 {
     let a = put(b" ", at, out);
     put_decimal(x, a, out)
+}
+
+// Numbers, each behind a space.
+fn put_numbers(numbers: &[u64], at: usize, out: &mut [u8]) -> usize
+    requires { ⌜ at + 21 * length (now numbers) ≤ length (now out) ⌝ }
+    ensures { λ r. ⌜ Added (21 * length (now (numbers .entry))) (spacedAll (now (numbers .entry))) at (now (out .entry)) r (now (out .exit)) ⌝ }
+{
+    let mut end = at;
+    let mut i = 0;
+    while i < numbers.len() {
+        end = put_spaced(numbers[i], end, out);
+        i += 1;
+    }
+    end
+}
+
+// A word and numbers.
+pub fn put_numbered(word: &[u8], numbers: &[u64], at: usize, out: &mut [u8]) -> usize
+    requires { ⌜ at + length (now word) + 21 * length (now numbers) ≤ length (now out) ⌝ }
+    ensures { λ r. ⌜ Added (length (now (word .entry)) + 21 * length (now (numbers .entry))) (numbered (now (word .entry)) (now (numbers .entry))) at (now (out .entry)) r (now (out .exit)) ⌝ }
+{
+    let a = put(word, at, out);
+    put_numbers(numbers, a, out)
 }

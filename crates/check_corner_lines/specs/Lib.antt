@@ -1,2 +1,0 @@
--- The lines that answer a case.
-pub mod Lines
