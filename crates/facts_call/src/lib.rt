@@ -10,11 +10,9 @@ ghost use Rattle.sheet.specs.Measured.{Accepted};
 ghost use Rattle.sheet_layouts.specs.Classes.{Classes};
 ghost use Rattle.text_lines.specs.Text.{ShowsText};
 use call_indexed::analyze_indexed;
-use model::AnalysisKind;
 use model::VerifierResources;
 use sheet::Sizes;
-use text_listing::answer_lines;
-use text_listing::last_line;
+use text_listing::call_lines;
 
 // "for s over 32 in question 8's [place]": what is lent has room for 32 tracked slots. The sheet is accepted and its index found, and n and L are in
 // their limits: nothing is asked or found again.
@@ -76,42 +74,22 @@ pub fn list_facts(
         &mut row_values,
         &mut work_list,
     );
-    let n = sizes.code_count;
-    let a = answer_lines(
-        AnalysisKind::Constant,
+    call_lines(
         answer,
         classes,
-        n,
+        sizes.code_count,
         &constant_slots,
         &constant_present,
         &constant_kinds,
         &constant_values,
-        0,
-        out,
-    );
-    let b = answer_lines(
-        AnalysisKind::IndexCheck,
-        answer,
-        classes,
-        n,
         &index_slots,
         &index_present,
         &index_kinds,
         &index_values,
-        a,
-        out,
-    );
-    let c = answer_lines(
-        AnalysisKind::Container,
-        answer,
-        classes,
-        n,
         &container_slots,
         &container_present,
         &container_kinds,
         &container_values,
-        b,
         out,
-    );
-    last_line(answer, c, out)
+    )
 }

@@ -7,6 +7,7 @@ use Prim.Native.Nat.{ℕ}
 use native.Mathlib.Omega.{arith}
 use Rattle.model.specs.Charges.{overBudget, noRoom}
 use Rattle.model.specs.Call.{Table, Lent, CallEnd, kept, cleared, completed, tableOf, call, counts, answer, tables, filledTable, scratchZero, lentAfter, Result, result, resultOf, analyzed}
+use Rattle.model.specs.Fact.{Fact}
 use Rattle.model.specs.Sheet.{codeCount}
 use Rattle.model.specs.Listing.{factText, analysisLines, factsLines, endLines, callLines}
 use Rattle.model.specs.declared.Counts.{Counts}
@@ -17,11 +18,23 @@ use Rattle.model.specs.declared.Answer.{Answer}
 use Rattle.model.specs.declared.Answer.the-variants.{Analyzed}
 use Rattle.lookup.specs.Run.{analysedOf}
 use Rattle.lookup.proofs.AfterCall.{call-shaped}
+use Rattle.text_lines.specs.Text.{Added}
+use Rattle.text_lines.proofs.TextWritten.{then}
 use Rattle.text_listing.specs.Rows.{printedAnalysis}
-use Rattle.text_listing.specs.Answer.{Listable, choose, answerPart, lastLine, answerText}
+use Rattle.text_listing.specs.Answer.{Listable, choose, answerPart, lastLine, textBy, answerText}
 use Rattle.text_listing.proofs.AnalysisLines.{analysis-is, listable}
 
 -- ---- the end of a call, from its answer and what it left
+
+-- the three parts and the last line, one behind the other
+pub text-added : (text : AnalysisKind → Fact → List ℕ) (n : ℕ) (r : Answer) (constants index containers : Table) {old one two three new : List ℕ} {x y z next : ℕ}
+    → Added 729161 (answerPart Constant (text Constant) n r constants) 0 old x one
+    → Added 729161 (answerPart IndexCheck (text IndexCheck) n r index) x one y two
+    → Added 729161 (answerPart Container (text Container) n r containers) y two z three
+    → Added 47 (lastLine r) z three next new
+    → Added 2187530 (textBy text n r constants index containers) 0 old next new
+unfolding textBy
+text-added text n r constants index containers w v u t = then (then (then w v) u) t
 
 module _ (sheet : List ℕ) (budget : VerifierResources) (before : Lent) where
   -- the call ended so
@@ -44,7 +57,7 @@ module _ (sheet : List ℕ) (budget : VerifierResources) (before : Lent) where
   -- ---- its text
 
   text-is : (end : CallEnd) → call sheet budget before ≡ some end → answerText sheet (answer budget end) (lentAfter end before) ≡ endLines sheet end
-  unfolding answerText answerPart lastLine choose answer endLines lentAfter scratchZero factsLines analysedOf
+  unfolding textBy answerPart lastLine choose answer endLines lentAfter scratchZero factsLines analysedOf
   text-is (kept number) e = refl
   text-is (cleared (overBudget stage requested remaining) left) e = refl
   text-is (cleared noRoom left) e = refl

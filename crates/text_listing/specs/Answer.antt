@@ -52,8 +52,21 @@ lastLine (Invalid number left) = refusedLine number
 lastLine (OverBudget stage requested remaining left) = refusedLine 7
 lastLine (NoRoom left) = tooLarge
 
--- the three analyses and the last line
-unfoldable pub answerText : List ℕ → Answer → Lent → List ℕ
-answerText sheet answer lent =
-    sheetPart Constant sheet answer (lent .constants) ++ sheetPart IndexCheck sheet answer (lent .index) ++ sheetPart Container sheet answer (lent .containers)
+-- the three analyses and the last line, each fact as a text gives it
+unfoldable pub textBy : (AnalysisKind → Fact → List ℕ) → ℕ → Answer → Table → Table → Table → List ℕ
+textBy text n answer constants index containers =
+    answerPart Constant (text Constant) n answer constants ++ answerPart IndexCheck (text IndexCheck) n answer index ++ answerPart Container (text Container) n answer containers
     ++ lastLine answer
+
+-- the three analyses and the last line
+abbrev pub answerText : List ℕ → Answer → Lent → List ℕ
+answerText sheet answer lent = textBy (λ which. factText which sheet) (codeCount sheet) answer (lent .constants) (lent .index) (lent .containers)
+
+-- tables that have room for their analyses, with at most 32 slots
+pub record TablesListable (answer : Answer) (n : ℕ) (constants index containers : Table) : Type 0 where
+  pub listable-constant : AnswerListable Constant answer n constants
+  pub listable-index : AnswerListable IndexCheck answer n index
+  pub listable-container : AnswerListable Container answer n containers
+  pub few-constant : length (constants .slots) ≤ 32
+  pub few-index : length (index .slots) ≤ 32
+  pub few-container : length (containers .slots) ≤ 32
