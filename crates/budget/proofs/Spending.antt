@@ -18,10 +18,6 @@ module _ {A B : Type 0} (part : Metered A) (next : Metered B) (budget : Verifier
   unfolding _>>_ continue
   then-covered e = rw e
 
-  pub then-refused : {refusal : Refusal} {left : VerifierResources} → part budget ≡ stop refusal left → (part >> next) budget ≡ stop refusal left
-  unfolding _>>_ continue
-  then-refused e = rw e
-
 -- the answer of a part that was covered
 pub covered : {whole : Outcome} {spent : Spent (Unit {0})} {left : VerifierResources} → asSpent whole ≡ spent → whole ≡ Covered left → spent ≡ ok tt left
 unfolding asSpent

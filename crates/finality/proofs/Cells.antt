@@ -83,11 +83,6 @@ module _ (f : Fact → ℕ) (s : ℕ) where
 
 -- ---- the work list
 
-pub length-stacked : (room : ℕ) (list : List ℕ) → length list ≤ room → length (stacked room list) ≡ room
-unfolding stacked
-length-stacked room list h =
-    simp (length-append, length-reverse, length-replicate) (omega arith)
-
 -- one more zero above
 pub replicate-more : (k m : ℕ) → k ≡ suc m → _≡_ {A = List ℕ} (replicate k 0) (0 ∷ replicate m 0)
 replicate-more k m e = rw e
