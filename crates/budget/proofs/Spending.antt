@@ -4,7 +4,7 @@ use mathlib.Core.Path.{_≡_, refl, sym, _∙_}
 use Prim.Native.Nat.{ℕ, _+_, _-_, _≤_, _<_}
 use native.Mathlib.Numerals.{add-one}
 use native.Mathlib.Omega.{arith}
-use Rattle.model.specs.Charges.{Refusal, Spent, ok, stop, Metered, give, continue, _>>_, forEach, chargeBytes, chargeWork, inStage, spendBytes, spendWork}
+use Rattle.model.specs.Charges.{Spent, ok, Metered, give, continue, _>>_, forEach, chargeBytes, chargeWork, inStage, spendBytes, spendWork}
 use Rattle.model.specs.declared.Charge.{Charge}
 use Rattle.model.specs.declared.VerifierResources.{VerifierResources}
 use Rattle.model.proofs.Loops.{each-stops}

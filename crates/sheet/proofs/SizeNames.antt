@@ -5,7 +5,8 @@ use mathlib.Core.List.{List}
 use Prim.Native.Nat.{ℕ}
 use native.Mathlib.Omega.{arith}
 use Rattle.model.specs.Sheet.{codeCount, rangeCount, constantCount, paramCount, layoutCount, slotKindCount, localSlots, paramSlots, recvSlots, isClosure}
-use Rattle.sheet.specs.Sizes.{sizesOf}
+use Rattle.model.specs.Sheet.{slotKindsAt}
+use Rattle.sheet.specs.Sizes.{placesOf, sizesOf}
 use Rattle.sheet.specs.declared.Sizes.{Sizes}
 
 pub record Counted (sheet : List ℕ) (s : Sizes) : Type 0 where
@@ -19,9 +20,10 @@ pub record Counted (sheet : List ℕ) (s : Sizes) : Type 0 where
   pub param-slots : s .«param_slots» ≡ paramSlots sheet
   pub recv-slots : s .«recv_slots» ≡ recvSlots sheet
   pub is-closure : s .«is_closure» ≡ isClosure sheet
+  pub slot-kinds-at : s .places .«slot_kinds» ≡ slotKindsAt sheet
 
 of-sheet : (sheet : List ℕ) → Counted sheet (sizesOf sheet)
-unfolding sizesOf
+unfolding sizesOf placesOf
 of-sheet sheet = omega arith
 
 pub counted : {sheet : List ℕ} {sizes : Sizes} → sizes ≡ sizesOf sheet → Counted sheet sizes

@@ -72,7 +72,11 @@ fn put_numbers(numbers: &[u64], at: usize, out: &mut [u8]) -> usize
 // A word and numbers.
 pub fn put_numbered(word: &[u8], numbers: &[u64], at: usize, out: &mut [u8]) -> usize
     requires { ⌜ at + length (now word) + 21 * length (now numbers) ≤ length (now out) ⌝ }
-    ensures { λ r. ⌜ Added (length (now (word .entry)) + 21 * length (now (numbers .entry))) (numbered (now (word .entry)) (now (numbers .entry))) at (now (out .entry)) r (now (out .exit)) ⌝ }
+    ensures { λ r. ⌜ (
+        let name = now (word .entry) in
+        let given = now (numbers .entry) in
+        Added (length name + 21 * length given) (numbered name given) at (now (out .entry)) r (now (out .exit))
+        ) ⌝ }
 {
     let a = put(word, at, out);
     put_numbers(numbers, a, out)
