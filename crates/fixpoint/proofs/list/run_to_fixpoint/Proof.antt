@@ -19,11 +19,11 @@ use Rattle.fixpoint.proofs.list.run_to_fixpoint.Statement.{statement}
 use Rattle.fixpoint.proofs.list.run_to_fixpoint.Tie as tie
 
 abbrev Inv-loop : tie.InvT-loop
-Inv-loop which sheet sizes firsts classes slots length-kinds length-values resources present₀ kinds₀ values₀ row-kinds₀ row-values₀ work-list₀ fresh top₀ cost pops₀ rest₀ present kinds values row-kinds row-values work-list top pops rest =
+Inv-loop which sheet sizes firsts classes length-kinds length-values slots resources present₀ kinds₀ values₀ row-kinds₀ row-values₀ work-list₀ fresh top₀ cost pops₀ rest₀ present kinds values row-kinds row-values work-list top pops rest =
     Turn which sheet slots length-kinds length-values (factsOf row-kinds₀ row-values₀) (resources .work) (length work-list₀) (runMemory present kinds values row-kinds row-values work-list) top pops rest
 
 abbrev μ-loop : tie.MeasureT-loop
-μ-loop which sheet sizes firsts classes slots length-kinds length-values resources present₀ kinds₀ values₀ row-kinds₀ row-values₀ work-list₀ fresh top₀ cost pops₀ rest₀ present kinds values row-kinds row-values work-list top pops rest =
+μ-loop which sheet sizes firsts classes length-kinds length-values slots resources present₀ kinds₀ values₀ row-kinds₀ row-values₀ work-list₀ fresh top₀ cost pops₀ rest₀ present kinds values row-kinds row-values work-list top pops rest =
     codeCount sheet * (1 + 2 * length slots) - pops
 
 -- the places, each from a later one
