@@ -11,7 +11,7 @@ use crate::answer::last_line;
 use model::AnalysisKind;
 use model::Answer;
 
-// "the three parts in order", and the last line: of a call's answer and the tables that it left.
+// The three analyses in their order, and the last line: of a call's answer and the tables that it left.
 pub fn call_lines(
     answer: Answer,
     classes: &[u16],
