@@ -8,9 +8,9 @@ use native.Mathlib.Omega.{arith}
 use Prim.Native.Nat.{ℕ}
 use types.Run.{OneOf}
 use denote.Enum.Declared.{tag_of}
-use Rattle.model.specs.Charges.{Refusal, overBudget, noRoom, Spent, ok, stop, unfinished, Metered, continue}
+use Rattle.model.specs.Charges.{Refusal, over_budget, no_room, Spent, ok, stop, unfinished, Metered, continue}
 use Rattle.model.specs.declared.VerifierResources.{VerifierResources}
-use Rattle.budget.specs.Outcome.{refusedBy, asSpent, Leaves, leaves, leavesOf}
+use Rattle.budget.specs.Outcome.{refused_by, as_spent, Leaves, leaves, leaves_of}
 use Rattle.budget.specs.declared.Outcome.{Outcome}
 use Rattle.budget.specs.declared.Outcome.TheVariants.{Covered, Refused, NoRoom}
 use Rattle.budget.specs.contracts.Outcome.{the_type}
@@ -18,7 +18,7 @@ use Rattle.budget.specs.contracts.Outcome.{the_type}
 -- an outcome and memory, by what the definitions' part comes to
 pub data Left {A M : Type 0} (given : A → M) (refused : M) (spent : Spent A) (outcome : Outcome) (memory : M) : Type 0 where
   covered : (a : A) (left : VerifierResources) → spent ≡ ok a left → outcome ≡ Covered left → memory ≡ given a → Left given refused spent outcome memory
-  stopped : (refusal : Refusal) (left : VerifierResources) → spent ≡ stop refusal left → outcome ≡ refusedBy refusal left → memory ≡ refused
+  stopped : (refusal : Refusal) (left : VerifierResources) → spent ≡ stop refusal left → outcome ≡ refused_by refusal left → memory ≡ refused
       → Left given refused spent outcome memory
 
 -- what is left, where something is
@@ -27,8 +27,8 @@ kept other none = other
 kept other (some is) = is
 
 module _ {A M : Type 0} (given : A → M) (refused : M) where
-  pub left_by : (spent : Spent A) {outcome : Outcome} {memory : M} → some (leaves outcome memory) ≡ leavesOf given refused spent → Left given refused spent outcome memory
-  unfolding leavesOf kept
+  pub left_by : (spent : Spent A) {outcome : Outcome} {memory : M} → some (leaves outcome memory) ≡ leaves_of given refused spent → Left given refused spent outcome memory
+  unfolding leaves_of kept
   left_by (ok a left) {outcome} {memory} e =
       let same = ap (kept (leaves outcome memory)) e in
       covered a left refl (ap (λ (l : Leaves M). l.outcome) same) (ap (λ (l : Leaves M). l.memory) same)
@@ -38,10 +38,10 @@ module _ {A M : Type 0} (given : A → M) (refused : M) where
   left_by unfinished e = let z : ◌≡◌ {A = ℕ} 0 1 = cc in absurd (omega arith)
 
 -- what is left after a part that was covered
-pub covered-leaves : {A M : Type 0} (given : A → M) (refused : M) {memory : M} {spent : Spent A} {outcome : Outcome} {a : A} {left : VerifierResources}
-    → spent ≡ ok a left → outcome ≡ Covered left → memory ≡ given a → some (leaves outcome memory) ≡ leavesOf given refused spent
-unfolding leavesOf
-covered-leaves given refused s o m = rw (s, o, m)
+pub covered_leaves : {A M : Type 0} (given : A → M) (refused : M) {memory : M} {spent : Spent A} {outcome : Outcome} {a : A} {left : VerifierResources}
+    → spent ≡ ok a left → outcome ≡ Covered left → memory ≡ given a → some (leaves outcome memory) ≡ leaves_of given refused spent
+unfolding leaves_of
+covered_leaves given refused s o m = rw (s, o, m)
 
 -- ---- a part that was refused
 
@@ -50,7 +50,7 @@ pub record Stopped {A : Type 0} (spent : Spent A) (outcome : Outcome) : Type 0 w
   pub refusal : Refusal
   pub left : VerifierResources
   pub came : spent ≡ stop refusal left
-  pub is : outcome ≡ refusedBy refusal left
+  pub is : outcome ≡ refused_by refusal left
 
 -- what the code knows behind `let Outcome::Covered { .. } = outcome else`: one of the two others
 abbrev pub NotCovered : Outcome → Type 0
@@ -58,51 +58,51 @@ NotCovered outcome = OneOf (1 ∷ 2 ∷ []) (tag_of the_type outcome)
 
 module _ {A : Type 0} {spent : Spent A} {outcome : Outcome} (s : Stopped spent outcome) where
   -- it ends what follows
-  pub stopped-then : {B : Type 0} (next : A → Metered B) → Stopped (continue next spent) outcome
+  pub stopped_then : {B : Type 0} (next : A → Metered B) → Stopped (continue next spent) outcome
   unfolding continue
-  stopped-then next = record { refusal = s.refusal; left = s.left; came = rw s.came; is = s.is }
+  stopped_then next = record { refusal = s.refusal; left = s.left; came = rw s.came; is = s.is }
 
   -- what is left after it
-  pub stopped-leaves : {M : Type 0} (given : A → M) {refused memory : M} → memory ≡ refused → some (leaves outcome memory) ≡ leavesOf given refused spent
-  unfolding leavesOf
-  stopped-leaves given e = rw (s.came, s.is, e)
+  pub stopped_leaves : {M : Type 0} (given : A → M) {refused memory : M} → memory ≡ refused → some (leaves outcome memory) ≡ leaves_of given refused spent
+  unfolding leaves_of
+  stopped_leaves given e = rw (s.came, s.is, e)
 
-pub stopped-spent : {spent : Spent (Unit {0})} {outcome : Outcome} → Stopped spent outcome → asSpent outcome ≡ spent
-unfolding asSpent refusedBy
-stopped-spent {spent} {outcome} s = rw (s.came, s.is) (go s.refusal)
+pub stopped_spent : {spent : Spent (Unit {0})} {outcome : Outcome} → Stopped spent outcome → as_spent outcome ≡ spent
+unfolding as_spent refused_by
+stopped_spent {spent} {outcome} s = rw (s.came, s.is) (go s.refusal)
   where
-    go : (refusal : Refusal) → asSpent (refusedBy refusal s.left) ≡ stop refusal s.left
-    go (overBudget stage requested remaining) = refl
-    go noRoom = refl
+    go : (refusal : Refusal) → as_spent (refused_by refusal s.left) ≡ stop refusal s.left
+    go (over_budget stage requested remaining) = refl
+    go no_room = refl
 
-pub spent-stopped : (outcome : Outcome) {spent : Spent (Unit {0})} → asSpent outcome ≡ spent → NotCovered outcome → Stopped spent outcome
-unfolding asSpent refusedBy
-spent-stopped (Covered left) e (inl h) = absurd (omega arith)
-spent-stopped (Covered left) e (inr h) = absurd (omega arith)
-spent-stopped (Refused stage requested remaining left) e h = record { refusal = overBudget stage requested remaining; left = left; came = sym e; is = refl }
-spent-stopped (NoRoom left) e h = record { refusal = noRoom; left = left; came = sym e; is = refl }
+pub spent_stopped : (outcome : Outcome) {spent : Spent (Unit {0})} → as_spent outcome ≡ spent → NotCovered outcome → Stopped spent outcome
+unfolding as_spent refused_by
+spent_stopped (Covered left) e (inl h) = absurd (omega arith)
+spent_stopped (Covered left) e (inr h) = absurd (omega arith)
+spent_stopped (Refused stage requested remaining left) e h = record { refusal = over_budget stage requested remaining; left = left; came = sym e; is = refl }
+spent_stopped (NoRoom left) e h = record { refusal = no_room; left = left; came = sym e; is = refl }
 
 -- ---- by what the code knows of the outcome
 
-module _ {A M : Type 0} (given : A → M) (refused : M) (spent : Spent A) {outcome : Outcome} {memory : M} (e : some (leaves outcome memory) ≡ leavesOf given refused spent) where
-  pub left-covered : {left : VerifierResources} → outcome ≡ Covered left → (a : A) × (spent ≡ ok a left) × (memory ≡ given a)
-  unfolding refusedBy
-  left-covered {left} h = go (left_by given refused spent e)
+module _ {A M : Type 0} (given : A → M) (refused : M) (spent : Spent A) {outcome : Outcome} {memory : M} (e : some (leaves outcome memory) ≡ leaves_of given refused spent) where
+  pub left_covered : {left : VerifierResources} → outcome ≡ Covered left → (a : A) × (spent ≡ ok a left) × (memory ≡ given a)
+  unfolding refused_by
+  left_covered {left} h = go (left_by given refused spent e)
     where
       go : Left given refused spent outcome memory → (a : A) × (spent ≡ ok a left) × (memory ≡ given a)
       go (covered a rest s o m) = (a, cc, m)
-      go (stopped (overBudget stage requested remaining) rest s o m) = let z : ◌≡◌ {A = ℕ} 0 1 = cc in absurd (omega arith)
-      go (stopped noRoom rest s o m) = let z : ◌≡◌ {A = ℕ} 0 1 = cc in absurd (omega arith)
+      go (stopped (over_budget stage requested remaining) rest s o m) = let z : ◌≡◌ {A = ℕ} 0 1 = cc in absurd (omega arith)
+      go (stopped no_room rest s o m) = let z : ◌≡◌ {A = ℕ} 0 1 = cc in absurd (omega arith)
 
-  pub left-stopped : NotCovered outcome → Stopped spent outcome × (memory ≡ refused)
-  left-stopped h = go (left_by given refused spent e)
+  pub left_stopped : NotCovered outcome → Stopped spent outcome × (memory ≡ refused)
+  left_stopped h = go (left_by given refused spent e)
     where
-      none-covered : (o : Outcome) {left : VerifierResources} → o ≡ Covered left → NotCovered o → ⊥
-      none-covered (Covered left) e (inl h) = omega arith
-      none-covered (Covered left) e (inr h) = omega arith
-      none-covered (Refused stage requested remaining left) e h = let z : ◌≡◌ {A = ℕ} 0 1 = cc in omega arith
-      none-covered (NoRoom left) e h = let z : ◌≡◌ {A = ℕ} 0 1 = cc in omega arith
+      none_covered : (o : Outcome) {left : VerifierResources} → o ≡ Covered left → NotCovered o → ⊥
+      none_covered (Covered left) e (inl h) = omega arith
+      none_covered (Covered left) e (inr h) = omega arith
+      none_covered (Refused stage requested remaining left) e h = let z : ◌≡◌ {A = ℕ} 0 1 = cc in omega arith
+      none_covered (NoRoom left) e h = let z : ◌≡◌ {A = ℕ} 0 1 = cc in omega arith
 
       go : Left given refused spent outcome memory → Stopped spent outcome × (memory ≡ refused)
-      go (covered a left s o m) = absurd (none-covered outcome o h)
+      go (covered a left s o m) = absurd (none_covered outcome o h)
       go (stopped refusal left s o m) = (record { refusal = refusal; left = left; came = s; is = o }, m)

@@ -2,21 +2,21 @@
 -- Assumes nothing.
 use Rattle.std.specs.Prelude.{Bool, true, false}
 use Rattle.std.proofs.Math.Option.{Option, none, some}
-use Rattle.model.specs.Charges.{Refusal, overBudget, noRoom, Spent, ok, stop, unfinished}
+use Rattle.model.specs.Charges.{Refusal, over_budget, no_room, Spent, ok, stop, unfinished}
 use Rattle.model.specs.declared.VerifierResources.{VerifierResources}
 use Rattle.budget.specs.declared.Outcome.{Outcome}
 use Rattle.budget.specs.declared.Outcome.TheVariants.{Covered, Refused, NoRoom}
 
 -- "7, with stage (1 to 5 in charge order), requested, remaining", or 8
-unfoldable pub refusedBy : Refusal → VerifierResources → Outcome
-refusedBy (overBudget stage requested remaining) left = Refused stage requested remaining left
-refusedBy noRoom left = NoRoom left
+unfoldable pub refused_by : Refusal → VerifierResources → Outcome
+refused_by (over_budget stage requested remaining) left = Refused stage requested remaining left
+refused_by no_room left = NoRoom left
 
 -- An outcome as a part of the call. Every outcome goes somewhere of its own, so a contract through it determines it.
-unfoldable pub asSpent : Outcome → Spent (Unit {0})
-asSpent (Covered left) = ok tt left
-asSpent (Refused stage requested remaining left) = stop (overBudget stage requested remaining) left
-asSpent (NoRoom left) = stop noRoom left
+unfoldable pub as_spent : Outcome → Spent (Unit {0})
+as_spent (Covered left) = ok tt left
+as_spent (Refused stage requested remaining left) = stop (over_budget stage requested remaining) left
+as_spent (NoRoom left) = stop no_room left
 
 -- whether an outcome is a refusal
 unfoldable pub refusing : Outcome → Bool
@@ -39,7 +39,7 @@ abbrev pub leaves : {M : Type 0} → Outcome → M → Leaves M
 leaves outcome memory = record { outcome = outcome; memory = memory }
 
 -- The outcome of a part, with the memory of what it gives, or the memory after a refusal. None where a loop's fuel was too little, which does not happen.
-unfoldable pub leavesOf : {A M : Type 0} → (A → M) → M → Spent A → Option (Leaves M)
-leavesOf given refused (ok a left) = some (leaves (Covered left) (given a))
-leavesOf given refused (stop refusal left) = some (leaves (refusedBy refusal left) refused)
-leavesOf given refused unfinished = none
+unfoldable pub leaves_of : {A M : Type 0} → (A → M) → M → Spent A → Option (Leaves M)
+leaves_of given refused (ok a left) = some (leaves (Covered left) (given a))
+leaves_of given refused (stop refusal left) = some (leaves (refused_by refusal left) refused)
+leaves_of given refused unfinished = none

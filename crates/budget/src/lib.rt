@@ -1,14 +1,16 @@
 // "Charges": one charge, and equal charges in a row, made from a budget by value; what a part of the call that spends comes to.
+#![tactic(auto)]
+
 ghost use Rattle.std.specs.Prelude.{◌≡◌};
-ghost use Rattle.model.specs.Charges.{units, chargeBytes, chargeWork, inStage, spendBytes, forEach};
-ghost use Rattle.model.specs.Closure.{stageNumber};
-ghost use Rattle.budget.specs.Outcome.{asSpent, refusing, left_of};
+ghost use Rattle.model.specs.Charges.{units, charge_bytes, charge_work, in_stage, spend_bytes, for_each};
+ghost use Rattle.model.specs.Closure.{stage_number};
+ghost use Rattle.budget.specs.Outcome.{as_spent, refusing, left_of};
 
 use model::{AnalysisKind, Charge, VerifierResources};
 
 // What a part of the call that spends comes to: what is left; "7, with stage (1 to 5 in charge order), requested, remaining"; or 8. A
 // refusal has what the covered charges left.
-#[derive(Drop)]
+#[derive(Clone, Copy)]
 pub enum Outcome {
     Covered {
         left: VerifierResources,
@@ -26,7 +28,7 @@ pub enum Outcome {
 
 // "stage (1 to 5 in charge order)", of an analysis
 pub fn stage_number(which: AnalysisKind) -> u8
-    ensures { result ≡ stageNumber which }
+    ensures { result ≡ stage_number which }
 {
     match which {
         AnalysisKind::Constant => 3,
@@ -69,7 +71,7 @@ pub fn left_of(outcome: Outcome) -> VerifierResources
 
 // "7. Does what is left cover the charge?" "A refused charge takes nothing."
 pub fn charge_bytes(resources: VerifierResources, amount: u64) -> Charge
-    ensures { result ≡ chargeBytes amount resources }
+    ensures { result ≡ charge_bytes amount resources }
 {
     let bytes = resources.bytes;
     if amount <= bytes {
@@ -89,7 +91,7 @@ pub fn charge_bytes(resources: VerifierResources, amount: u64) -> Charge
 
 // The same for work.
 pub fn charge_work(resources: VerifierResources, amount: u64) -> Charge
-    ensures { result ≡ chargeWork amount resources }
+    ensures { result ≡ charge_work amount resources }
 {
     let work = resources.work;
     if amount <= work {
@@ -109,7 +111,7 @@ pub fn charge_work(resources: VerifierResources, amount: u64) -> Charge
 
 // A charge made from the resources, as a part of a stage: they are what is left where it was refused.
 pub fn metered(stage: u8, resources: VerifierResources, charge: Charge) -> Outcome
-    ensures { asSpent result ≡ inStage stage resources charge }
+    ensures { as_spent result ≡ in_stage stage resources charge }
 {
     match charge {
         Charge::Covered { left } => Outcome::Covered { left },
@@ -128,7 +130,7 @@ pub fn metered(stage: u8, resources: VerifierResources, charge: Charge) -> Outco
 // "dependency 4": count charges of 4 bytes, one after the other. They are one computation: what is refused is the first that
 // finds fewer than 4 bytes, so that the rest of a division by 4 remains. No product is made before the count is known to be covered.
 pub fn charge_edges(stage: u8, resources: VerifierResources, count: u64) -> Outcome
-    ensures { asSpent result ≡ forEach (λ i. spendBytes stage units.dependency) count resources }
+    ensures { as_spent result ≡ for_each (λ i. spend_bytes stage units.dependency) count resources }
 {
     let bytes = resources.bytes;
     let work = resources.work;

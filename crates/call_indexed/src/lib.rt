@@ -1,9 +1,11 @@
 // The three analyses of a sheet whose index is found: questions 7 and 8, and all charges.
+#![tactic(auto)]
+
 ghost use Rattle.std.specs.Prelude.{◌≡◌, ◌≤◌, length};
 ghost use Rattle.std.proofs.Math.Option.{some};
-ghost use Rattle.model.specs.Sheet.{codeCount, firstRange, localSlots};
-ghost use Rattle.model.specs.Call.{result, analyzed};
-ghost use Rattle.model.specs.Promise.{lentTable, lentScratch, lentCall};
+ghost use Rattle.model.specs.Sheet.{code_count, first_range, local_slots};
+ghost use Rattle.model.specs.Call.{analyzed, call_result};
+ghost use Rattle.model.specs.Promise.{lent_table, lent_scratch, lent_call};
 ghost use Rattle.memory.specs.Front.{Holds};
 ghost use Rattle.sheet.specs.Measured.{Accepted};
 ghost use Rattle.sheet_layouts.specs.Classes.{Classes};
@@ -42,16 +44,14 @@ pub fn analyze_indexed(
     row_values: &mut [u64],
     work_list: &mut [u16],
 ) -> Answer
-    requires { Accepted sheet.now sizes × Holds (firstRange sheet.now) (codeCount sheet.now) firsts.now × Classes sheet.now classes.now
-        × (localSlots sheet.now ≤ length marks.old) × (localSlots sheet.now ≤ length stack.old) }
-    ensures* { λ r. ⌜ (
-        let l = lentCall
-        (lentTable constant_slots constant_present constant_kinds constant_values)
-        (lentTable index_slots index_present index_kinds index_values)
-        (lentTable container_slots container_present container_kinds container_values)
-        (lentScratch marks stack row_kinds row_values work_list) in
-        some (result r l.exit) ≡ analyzed sheet.now resources l.entry
-        ) ⌝ }
+    requires { Accepted sheet.now sizes × Holds (first_range sheet.now) (code_count sheet.now) firsts.now × Classes sheet.now classes.now
+        × (local_slots sheet.now ≤ length marks.old) × (local_slots sheet.now ≤ length stack.old) }
+    ensures { let l = lent_call
+        (lent_table constant_slots constant_present constant_kinds constant_values)
+        (lent_table index_slots index_present index_kinds index_values)
+        (lent_table container_slots container_present container_kinds container_values)
+        (lent_scratch marks stack row_kinds row_values work_list) in
+        some (call_result result l.exit) ≡ analyzed sheet.now resources l.entry }
 {
     let values = analyze_values(
         sheet,

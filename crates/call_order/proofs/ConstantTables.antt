@@ -8,59 +8,59 @@ use native.Mathlib.Nat.{mul-le-mul_right}
 use native.Mathlib.Omega.{arith}
 use lib.ListN.{length, take}
 use Rattle.model.specs.Call.{table}
-use Rattle.model.specs.Sheet.{codeCount, instruction}
+use Rattle.model.specs.Sheet.{code_count, instruction}
 use Rattle.model.specs.Fact.{Row}
-use Rattle.model.specs.Analyses.{Analysed, lengthFacts}
-use Rattle.model.specs.Transfer.{checkedFrom}
+use Rattle.model.specs.Analyses.{Analysed, length_facts}
+use Rattle.model.specs.Transfer.{checked_from}
 use Rattle.model.specs.declared.Counts.{Counts}
-use Rattle.call_order.specs.Lengths.{EndedRows, lengthKinds, lengthValues}
-use Rattle.model.specs.Tables.{lengthTable, tableSlices}
+use Rattle.call_order.specs.Lengths.{EndedRows, length_kinds, length_values}
+use Rattle.model.specs.Tables.{length_table, table_slices}
 use Rattle.call_order.specs.Stored.{Stored, Lengthened}
 
-module _ {sheet : List ℕ} {a : Analysed} {given : Counts} {slots present kinds values : List ℕ} (st : Stored sheet a given (table slots present kinds values)) {n s : ℕ} (all : n ≡ codeCount sheet)
+module _ {sheet : List ℕ} {a : Analysed} {given : Counts} {slots present kinds values : List ℕ} (st : Stored sheet a given (table slots present kinds values)) {n s : ℕ} (all : n ≡ code_count sheet)
     (is : s ≡ given.tracked) where
   many : s ≡ length a.slots
-  many = is ∙ st.tracked-is
+  many = is ∙ st.tracked_is
 
-  pub stored-few : s ≤ 65535
-  stored-few = omega (arith, many, st.few)
+  pub stored_few : s ≤ 65535
+  stored_few = omega (arith, many, st.few)
 
-  pub slots-fit : s ≤ length slots
-  slots-fit = omega (arith, many, st.slots-fit)
+  pub slots_fit : s ≤ length slots
+  slots_fit = omega (arith, many, st.slots_fit)
 
-  pub present-fits : n ≤ length present
-  present-fits = omega (arith, all, st.present-fits)
+  pub present_fits : n ≤ length present
+  present_fits = omega (arith, all, st.present_fits)
 
-  cells_are : n * s ≡ codeCount sheet * length a.slots
+  cells_are : n * s ≡ code_count sheet * length a.slots
   cells_are = ap₂ ◌*◌ all many
 
-  pub kinds-fit : n * s ≤ length kinds
-  kinds-fit = omega (arith, cells_are, st.kinds-fit)
+  pub kinds_fit : n * s ≤ length kinds
+  kinds_fit = omega (arith, cells_are, st.kinds_fit)
 
-  pub values-fit : n * s ≤ length values
-  values-fit = omega (arith, cells_are, st.values-fit)
+  pub values_fit : n * s ≤ length values
+  values_fit = omega (arith, cells_are, st.values_fit)
 
-  slots-are : take s slots ≡ a.slots
-  slots-are = ap (λ (m : ℕ). take m slots) many ∙ st.slots-are
+  slots_are : take s slots ≡ a.slots
+  slots_are = ap (λ (m : ℕ). take m slots) many ∙ st.slots_are
 
-  pub stored-ended : EndedRows (take s slots) a.rows (tableSlices (take n present) (take (n * s) kinds) (take (n * s) values))
-  stored-ended = rw (slots-are, cells_are, all, st.lie.present-are, st.lie.kinds-are, st.lie.values-are) (record {
+  pub stored_ended : EndedRows (take s slots) a.rows (table_slices (take n present) (take (n * s) kinds) (take (n * s) values))
+  stored_ended = rw (slots_are, cells_are, all, st.lie.present_are, st.lie.kinds_are, st.lie.values_are) (record {
     ascending = st.ascending;
-    lie = record { sized = st.lie.sized; present-are = refl; kinds-are = refl; values-are = refl };
+    lie = record { sized = st.lie.sized; present_are = refl; kinds_are = refl; values_are = refl };
   })
 
   -- what was stored, by the analysis
   pub lengthened : {lk lv lk' lv' : List ℕ}
-      → ((rows : List (Option Row)) → EndedRows (take s slots) rows (tableSlices (take n present) (take (n * s) kinds) (take (n * s) values))
-      → (lk' ≡ lengthKinds sheet (take s slots) rows lk) × (lv' ≡ lengthValues sheet (take s slots) rows lv))
-      → ((constants : Analysed) → constants.slots ≡ take s slots → EndedRows (take s slots) constants.rows (tableSlices (take n present) (take (n * s) kinds) (take (n * s) values))
-      → (pc : ℕ) → pc < codeCount sheet → (instruction sheet pc).op ≡ 121 → checkedFrom (lengthTable lk' lv' pc) ≡ checkedFrom (lengthFacts sheet constants pc))
+      → ((rows : List (Option Row)) → EndedRows (take s slots) rows (table_slices (take n present) (take (n * s) kinds) (take (n * s) values))
+      → (lk' ≡ length_kinds sheet (take s slots) rows lk) × (lv' ≡ length_values sheet (take s slots) rows lv))
+      → ((constants : Analysed) → constants.slots ≡ take s slots → EndedRows (take s slots) constants.rows (table_slices (take n present) (take (n * s) kinds) (take (n * s) values))
+      → (pc : ℕ) → pc < code_count sheet → (instruction sheet pc).op ≡ 121 → checked_from (length_table lk' lv' pc) ≡ checked_from (length_facts sheet constants pc))
       → Lengthened sheet a lk lv lk' lv'
   lengthened {lk} {lv} stores reads = record {
-    kinds-are = (stores a.rows stored-ended).0 ∙ ap (λ (xs : List ℕ). lengthKinds sheet xs a.rows lk) slots-are;
-    values-are = (stores a.rows stored-ended).1 ∙ ap (λ (xs : List ℕ). lengthValues sheet xs a.rows lv) slots-are;
-    read = λ pc below op. reads a (sym slots-are) stored-ended pc below op;
+    kinds_are = (stores a.rows stored_ended).0 ∙ ap (λ (xs : List ℕ). length_kinds sheet xs a.rows lk) slots_are;
+    values_are = (stores a.rows stored_ended).1 ∙ ap (λ (xs : List ℕ). length_values sheet xs a.rows lv) slots_are;
+    read = λ pc below op. reads a (sym slots_are) stored_ended pc below op;
   }
 
-pub stored-cells-fit : (n s : ℕ) → n ≤ 4096 → s ≤ 65535 → n * s < 2 ^ 64
-stored-cells-fit n s h k = omega (arith, mul-le-mul_right s h)
+pub stored_cells_fit : (n s : ℕ) → n ≤ 4096 → s ≤ 65535 → n * s < 2 ^ 64
+stored_cells_fit n s h k = omega (arith, mul-le-mul_right s h)

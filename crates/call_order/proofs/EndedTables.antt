@@ -11,68 +11,68 @@ use lib.Seq.{get_or-take, get_or-drop}
 use Rattle.model.specs.Fact.{Fact, unknown, kind, value, Row}
 use Rattle.model.specs.Run.{row_at}
 use Rattle.model.specs.Lookup.{place}
-use Rattle.model.specs.Tables.{presentByte, rowCells, cells, cell_of, tableSlices}
-use Rattle.model.specs.Analyses.{rowFact}
+use Rattle.model.specs.Tables.{present_byte, row_cells, cells, cell_of, table_slices}
+use Rattle.model.specs.Analyses.{row_fact}
 use Rattle.model.specs.declared.FactCell.{FactCell}
-use Rattle.finality.proofs.Cells.{length-present, present-at, length-cells, cells-part}
-use Rattle.fact_row.proofs.Facts.{factCell}
-use Rattle.fact_row.proofs.Places.{fact-placed, fact-untracked, place_inside}
+use Rattle.finality.proofs.Cells.{length_present, present_at, length_cells, cells_part}
+use Rattle.fact_row.proofs.Facts.{fact_cell}
+use Rattle.fact_row.proofs.Places.{fact_placed, fact_untracked, place_inside}
 use Rattle.call_order.specs.Lengths.{EndedRows}
 
-module _ {slots : List ℕ} {rows : List (Option Row)} {present kinds values : List ℕ} (e : EndedRows slots rows (tableSlices present kinds values)) where
+module _ {slots : List ℕ} {rows : List (Option Row)} {present kinds values : List ℕ} (e : EndedRows slots rows (table_slices present kinds values)) where
   pub rows_long : length rows ≡ length present
-  rows_long = sym (length-present rows) ∙ ap length (sym e.lie.present-are)
+  rows_long = sym (length_present rows) ∙ ap length (sym e.lie.present_are)
 
-  table-long : (f : Fact → ℕ) → length (cells f (length slots) rows) ≡ length present * length slots
-  table-long f = length-cells f (length slots) rows e.lie.sized ∙ ap (λ (n : ℕ). n * length slots) rows_long
+  table_long : (f : Fact → ℕ) → length (cells f (length slots) rows) ≡ length present * length slots
+  table_long f = length_cells f (length slots) rows e.lie.sized ∙ ap (λ (n : ℕ). n * length slots) rows_long
 
   -- a place of a row lies in both tables
-  pub table-inside : (pc slot : ℕ) {j : ℕ} → pc < length present → place slots slot ≡ some j
+  pub table_inside : (pc slot : ℕ) {j : ℕ} → pc < length present → place slots slot ≡ some j
       → (pc * length slots + j < length kinds) × (pc * length slots + j < length values)
-  table-inside pc slot {j} h p =
+  table_inside pc slot {j} h p =
       let l : suc pc * length slots ≤ length present * length slots = mul-le-mul_right (length slots) h in
       let k : j < length slots = place_inside slots slot p in
-      (omega (arith, ap length e.lie.kinds-are, table-long kind), omega (arith, ap length e.lie.values-are, table-long value))
+      (omega (arith, ap length e.lie.kinds_are, table_long kind), omega (arith, ap length e.lie.values_are, table_long value))
 
   -- the cell at place j of a present row
   cell_at : (f : Fact → ℕ) → f unknown ≡ 0 → (pc j : ℕ) (r : Row) → pc < length present → j < length slots → row_at rows pc ≡ some r
       → get_or (cells f (length slots) rows) (pc * length slots + j) 0 ≡ f (get_or r j unknown)
-  unfolding rowCells
+  unfolding row_cells
   cell_at f z pc j r h k q =
       sym (get_or-take (length slots) (drop (pc * length slots) (cells f (length slots) rows)) j 0 k ∙ get_or-drop (pc * length slots) (cells f (length slots) rows) j 0)
-      ∙ ap (λ (l : List ℕ). get_or l j 0) (cells-part f (length slots) rows pc e.lie.sized (omega (arith, rows_long)) ∙ ap (rowCells f (length slots)) q)
+      ∙ ap (λ (l : List ℕ). get_or l j 0) (cells_part f (length slots) rows pc e.lie.sized (omega (arith, rows_long)) ∙ ap (row_cells f (length slots)) q)
       ∙ ap (λ (d : ℕ). get_or (map f r) j d) (sym z)
       ∙ get_or-map f r j unknown
 
   module _ (pc slot : ℕ) where
-    pub absent-fact : get_or present pc 0 ≡ 0 → {r : FactCell} → r ≡ cell_of unknown → r ≡ cell_of (rowFact slots (row_at rows pc) slot)
-    unfolding presentByte rowFact
-    absent-fact h {r} u = go (row_at rows pc) (sym (present-at rows pc) ∙ ap (λ (l : List ℕ). get_or l pc 0) (sym e.lie.present-are) ∙ h)
+    pub absent_fact : get_or present pc 0 ≡ 0 → {r : FactCell} → r ≡ cell_of unknown → r ≡ cell_of (row_fact slots (row_at rows pc) slot)
+    unfolding present_byte row_fact
+    absent_fact h {r} u = go (row_at rows pc) (sym (present_at rows pc) ∙ ap (λ (l : List ℕ). get_or l pc 0) (sym e.lie.present_are) ∙ h)
       where
-        go : (o : Option Row) → presentByte o ≡ 0 → r ≡ cell_of (rowFact slots o slot)
+        go : (o : Option Row) → present_byte o ≡ 0 → r ≡ cell_of (row_fact slots o slot)
         go none p = u
         go (some row) p = let z : ◌≡◌ {A = ℕ} 0 1 = sym p in absurd (omega arith)
 
-    pub untracked-fact : place slots slot ≡ none → {r : FactCell} → r ≡ cell_of unknown → r ≡ cell_of (rowFact slots (row_at rows pc) slot)
-    unfolding rowFact
-    untracked-fact h {r} u = go (row_at rows pc)
+    pub untracked_fact : place slots slot ≡ none → {r : FactCell} → r ≡ cell_of unknown → r ≡ cell_of (row_fact slots (row_at rows pc) slot)
+    unfolding row_fact
+    untracked_fact h {r} u = go (row_at rows pc)
       where
-        go : (o : Option Row) → r ≡ cell_of (rowFact slots o slot)
+        go : (o : Option Row) → r ≡ cell_of (row_fact slots o slot)
         go none = u
-        go (some row) = rw (fact-untracked slots row slot h) u
+        go (some row) = rw (fact_untracked slots row slot h) u
 
-    pub tracked-fact : pc < length present → (get_or present pc 0 ≡ 0 → ⊥) → {j : ℕ} → place slots slot ≡ some j
-        → factCell (get_or kinds (pc * length slots + j) 0) (get_or values (pc * length slots + j) 0) ≡ cell_of (rowFact slots (row_at rows pc) slot)
-    unfolding presentByte rowFact cell_of kind value
-    tracked-fact h there {j} p = go (row_at rows pc) refl
+    pub tracked_fact_lem : pc < length present → (get_or present pc 0 ≡ 0 → ⊥) → {j : ℕ} → place slots slot ≡ some j
+        → fact_cell (get_or kinds (pc * length slots + j) 0) (get_or values (pc * length slots + j) 0) ≡ cell_of (row_fact slots (row_at rows pc) slot)
+    unfolding present_byte row_fact cell_of kind value
+    tracked_fact_lem h there {j} p = go (row_at rows pc) refl
       where
-        go : (o : Option Row) → row_at rows pc ≡ o → factCell (get_or kinds (pc * length slots + j) 0) (get_or values (pc * length slots + j) 0) ≡ cell_of (rowFact slots o slot)
-        go none q = absurd (there (ap (λ (l : List ℕ). get_or l pc 0) e.lie.present-are ∙ present-at rows pc ∙ ap presentByte q))
+        go : (o : Option Row) → row_at rows pc ≡ o → fact_cell (get_or kinds (pc * length slots + j) 0) (get_or values (pc * length slots + j) 0) ≡ cell_of (row_fact slots o slot)
+        go none q = absurd (there (ap (λ (l : List ℕ). get_or l pc 0) e.lie.present_are ∙ present_at rows pc ∙ ap present_byte q))
         go (some row) q =
             rw (
-              fact-placed slots row slot e.ascending (e.lie.sized pc row q) p,
-              e.lie.kinds-are,
-              e.lie.values-are,
+              fact_placed slots row slot e.ascending (e.lie.sized pc row q) p,
+              e.lie.kinds_are,
+              e.lie.values_are,
               cell_at kind refl pc j row h (place_inside slots slot p) q,
               cell_at value refl pc j row h (place_inside slots slot p) q,
             )

@@ -6,47 +6,47 @@ use mathlib.Core.List.{List}
 use Prim.Native.Nat.{ℕ, ◌<◌}
 use native.Mathlib.Omega.{arith}
 use lib.ListN.{length}
-use Rattle.model.specs.Sheet.{codeCount, instruction}
+use Rattle.model.specs.Sheet.{code_count, instruction}
 use Rattle.model.specs.Charges.{Metered, ◌>>=◌, ◌>>◌}
-use Rattle.model.specs.Closure.{trackedSlots}
+use Rattle.model.specs.Closure.{tracked_slots}
 use Rattle.model.specs.Fact.{Fact, Row}
 use Rattle.model.specs.Run.{RunEnd, run}
-use Rattle.model.specs.Transfer.{checkedFrom}
-use Rattle.model.specs.Analyses.{Analysed, analysis, askRoom, chargeMatrix, firstRow, ranTo, propagate, stage}
+use Rattle.model.specs.Transfer.{checked_from}
+use Rattle.model.specs.Analyses.{Analysed, analysis, ask_room, charge_matrix, first_row, ran_to, propagate, stage}
 use Rattle.model.specs.Call.{Table, Scratch, room_for}
 use Rattle.model.specs.declared.AnalysisKind.{AnalysisKind}
 use Rattle.model.specs.declared.AnalysisKind.TheVariants.{Constant, IndexCheck, Container}
-use Rattle.finality.proofs.Lengths.{zeros-length}
-use Rattle.stage_memory.specs.Stage.{zeroScratch}
-use Rattle.call_order.proofs.IndexRuns.{same-run, other-run}
+use Rattle.finality.proofs.Lengths.{zeros_length}
+use Rattle.stage_memory.specs.Stage.{zero_scratch}
+use Rattle.call_order.proofs.IndexRuns.{same_run, other_run}
 
 -- question 8 with a scratch that was cleared
-pub room-cleared : (n : ℕ) (t : Table) (W : Scratch) {w : Scratch} → w ≡ zeroScratch W
-    → room_for n t w.rowKinds w.rowValues w.workList ≡ room_for n t W.rowKinds W.rowValues W.workList
-unfolding zeroScratch room_for
-room-cleared n t W e = fun_ext (λ s. rw (e, zeros-length W.rowKinds, zeros-length W.rowValues, zeros-length W.workList))
+pub room_cleared : (n : ℕ) (t : Table) (W : Scratch) {w : Scratch} → w ≡ zero_scratch W
+    → room_for n t w.row_kinds w.row_values w.work_list ≡ room_for n t W.row_kinds W.row_values W.work_list
+unfolding zero_scratch room_for
+room_cleared n t W e = fun_ext (λ s. rw (e, zeros_length W.row_kinds, zeros_length W.row_values, zeros_length W.work_list))
 
 module _ (which : AnalysisKind) (sheet : List ℕ) {enough enough' : ℕ → Bool} (room : enough ≡ enough') (f g : ℕ → Fact)
     (runs : (slots : List ℕ) (entry : Row) (left : ℕ) → run (analysis which sheet slots f entry) left ≡ run (analysis which sheet slots g entry) left) where
-  stage-same : stage which sheet enough f ≡ stage which sheet enough' g
+  stage_same : stage which sheet enough f ≡ stage which sheet enough' g
   unfolding stage propagate
-  stage-same =
+  stage_same =
       ap (λ (e : ℕ → Bool). stage which sheet e f) room
-      ∙ ap (λ (p : List ℕ → Row → Metered Analysed). trackedSlots which sheet >>= λ slots. askRoom (enough' (length slots)) >> (chargeMatrix which sheet slots >> (firstRow which sheet slots >>= p slots)))
-      (fun_ext (λ slots. fun_ext (λ entry. fun_ext (λ left. ap (λ (e : RunEnd). ranTo e which slots entry left) (runs slots entry left.work)))))
+      ∙ ap (λ (p : List ℕ → Row → Metered Analysed). tracked_slots which sheet >>= λ slots. ask_room (enough' (length slots)) >> (charge_matrix which sheet slots >> (first_row which sheet slots >>= p slots)))
+      (fun_ext (λ slots. fun_ext (λ entry. fun_ext (λ left. ap (λ (e : RunEnd). ran_to e which slots entry left) (runs slots entry left.work)))))
 
 module _ (sheet : List ℕ) {enough enough' : ℕ → Bool} (room : enough ≡ enough') (f g : ℕ → Fact) where
   -- the constant and the container analysis read no length fact
-  pub other-same : (which : AnalysisKind) → (which ≡ IndexCheck → ⊥) → stage which sheet enough f ≡ stage which sheet enough' g
-  other-same which other = stage-same which sheet room f g (λ slots entry left. other-run which sheet slots f g entry other left)
+  pub other_same : (which : AnalysisKind) → (which ≡ IndexCheck → ⊥) → stage which sheet enough f ≡ stage which sheet enough' g
+  other_same which other = stage_same which sheet room f g (λ slots entry left. other_run which sheet slots f g entry other left)
 
-  pub constants-same : stage Constant sheet enough f ≡ stage Constant sheet enough' g
-  constants-same = other-same Constant (λ e. let z : ◌≡◌ {A = ℕ} 0 1 = cc in absurd (omega arith))
+  pub constants_same : stage Constant sheet enough f ≡ stage Constant sheet enough' g
+  constants_same = other_same Constant (λ e. let z : ◌≡◌ {A = ℕ} 0 1 = cc in absurd (omega arith))
 
-  pub containers-same : stage Container sheet enough f ≡ stage Container sheet enough' g
-  containers-same = other-same Container (λ e. let z : ◌≡◌ {A = ℕ} 0 1 = cc in absurd (omega arith))
+  pub containers_same : stage Container sheet enough f ≡ stage Container sheet enough' g
+  containers_same = other_same Container (λ e. let z : ◌≡◌ {A = ℕ} 0 1 = cc in absurd (omega arith))
 
   -- the index analysis reads them at each IndexCheck
-  pub index_same : ((pc : ℕ) → pc < codeCount sheet → (instruction sheet pc).op ≡ 121 → checkedFrom (f pc) ≡ checkedFrom (g pc))
+  pub index_same : ((pc : ℕ) → pc < code_count sheet → (instruction sheet pc).op ≡ 121 → checked_from (f pc) ≡ checked_from (g pc))
       → stage IndexCheck sheet enough f ≡ stage IndexCheck sheet enough' g
-  index_same h = stage-same IndexCheck sheet room f g (λ slots entry left. same-run IndexCheck sheet slots f g entry h left)
+  index_same h = stage_same IndexCheck sheet room f g (λ slots entry left. same_run IndexCheck sheet slots f g entry h left)

@@ -6,12 +6,12 @@ use Rattle.model.specs.declared.Answer.{Answer}
 use Rattle.model.specs.declared.Answer.TheVariants as A
 use Rattle.budget.specs.declared.Outcome.{Outcome}
 use Rattle.budget.specs.declared.Outcome.TheVariants.{Covered, Refused, NoRoom}
-use Rattle.stage_memory.specs.Staged.{noCounts}
+use Rattle.stage_memory.specs.Staged.{no_counts}
 
 -- no counts where an analysis was refused
-unfoldable pub countsUnless : Bool → Counts → Counts
-countsUnless true counts = noCounts
-countsUnless false counts = counts
+unfoldable pub counts_unless : Bool → Counts → Counts
+counts_unless true counts = no_counts
+counts_unless false counts = counts
 
 -- "answers s and the pop count of each analysis and the budget"; 7; 8
 unfoldable pub answer_of : Outcome → Counts → Counts → Counts → Answer

@@ -2,13 +2,13 @@
 ghost use Rattle.std.specs.Prelude.{◌≡◌, List, ℕ, ◌<◌, ◌≤◌, length};
 ghost use Rattle.std.proofs.Math.Option.{Option};
 ghost use Rattle.model.specs.Fact.{Row};
-ghost use Rattle.model.specs.Sheet.{codeCount, instruction};
+ghost use Rattle.model.specs.Sheet.{code_count, instruction};
 ghost use Rattle.model.specs.Run.{row_at};
-ghost use Rattle.model.specs.Tables.{cell_of, lengthTable, tableSlices};
-ghost use Rattle.model.specs.Transfer.{checkedFrom};
-ghost use Rattle.model.specs.Analyses.{Analysed, rowFact, lengthFacts};
+ghost use Rattle.model.specs.Tables.{cell_of, length_table, table_slices};
+ghost use Rattle.model.specs.Transfer.{checked_from};
+ghost use Rattle.model.specs.Analyses.{Analysed, row_fact, length_facts};
 ghost use Rattle.sheet.specs.Measured.{Measured};
-ghost use Rattle.call_order.specs.Lengths.{EndedRows, lengthFact, lengthKinds, lengthValues};
+ghost use Rattle.call_order.specs.Lengths.{EndedRows, length_fact, length_kinds, length_values};
 
 use crate::INDEX_CHECK;
 use fact_row::{Place, checked_cell, find, unknown_cell, wide};
@@ -24,9 +24,9 @@ fn row_fact(
     pc: usize,
     slot: usize,
 ) -> FactCell
-    requires { ((rows : List (Option Row)) × EndedRows slots.now rows (tableSlices present.now kinds.now values.now)) × (pc < length present.now) }
-    ensures { (rows : List (Option Row)) → EndedRows slots.now rows (tableSlices present.now kinds.now values.now)
-        → result ≡ cell_of (rowFact slots.now (row_at rows pc) slot) }
+    requires { ((rows : List (Option Row)) × EndedRows slots.now rows (table_slices present.now kinds.now values.now)) × (pc < length present.now) }
+    ensures { (rows : List (Option Row)) → EndedRows slots.now rows (table_slices present.now kinds.now values.now)
+        → result ≡ cell_of (row_fact slots.now (row_at rows pc) slot) }
 {
     if present[pc] == 0 {
         return unknown_cell();
@@ -51,10 +51,10 @@ fn length_fact(
     values: &[u64],
     pc: usize,
 ) -> FactCell
-    requires measured { Measured sheet.now sizes × ((rows : List (Option Row)) × EndedRows slots.now rows (tableSlices present.now kinds.now values.now)) }
+    requires measured { Measured sheet.now sizes × ((rows : List (Option Row)) × EndedRows slots.now rows (table_slices present.now kinds.now values.now)) }
     requires pc_bound { (pc < sizes.code_count) × (length present.now ≡ sizes.code_count) }
-    ensures { (rows : List (Option Row)) → EndedRows slots.now rows (tableSlices present.now kinds.now values.now)
-        → result ≡ cell_of (lengthFact sheet.now slots.now rows pc) }
+    ensures { (rows : List (Option Row)) → EndedRows slots.now rows (table_slices present.now kinds.now values.now)
+        → result ≡ cell_of (length_fact sheet.now slots.now rows pc) }
 {
     let inst = sheet_fields::instruction_at(sheet, pc);
     if inst.op == INDEX_CHECK {
@@ -63,7 +63,7 @@ fn length_fact(
     unknown_cell()
 }
 
-// For each instruction the fact that `lengthFact` names, in the first n places of two tables: at each IndexCheck what it makes of the
+// For each instruction the fact that `length_fact` names, in the first n places of two tables: at each IndexCheck what it makes of the
 // ended constant run's fact of b, which is all that the index analysis reads. So a value is a length of 16 bits.
 pub fn length_facts(
     sheet: &[u8],
@@ -75,15 +75,15 @@ pub fn length_facts(
     out_kinds: &mut [u8],
     out_values: &mut [u16],
 )
-    requires measured { Measured sheet.now sizes × ((rows : List (Option Row)) × EndedRows slots.now rows (tableSlices present.now kinds.now values.now)) }
+    requires measured { Measured sheet.now sizes × ((rows : List (Option Row)) × EndedRows slots.now rows (table_slices present.now kinds.now values.now)) }
     requires present_len { (length present.now ≡ sizes.code_count) × (sizes.code_count ≤ length out_kinds.old) × (sizes.code_count ≤ length out_values.old) }
-    ensures stored { (rows : List (Option Row)) → EndedRows slots.now rows (tableSlices present.now kinds.now values.now)
-        → (out_kinds.new ≡ lengthKinds sheet.now slots.now rows out_kinds.old)
-        × (out_values.new ≡ lengthValues sheet.now slots.now rows out_values.old) }
+    ensures stored { (rows : List (Option Row)) → EndedRows slots.now rows (table_slices present.now kinds.now values.now)
+        → (out_kinds.new ≡ length_kinds sheet.now slots.now rows out_kinds.old)
+        × (out_values.new ≡ length_values sheet.now slots.now rows out_values.old) }
     ensures read { (constants : Analysed) → constants.slots ≡ slots.now
-        → EndedRows slots.now constants.rows (tableSlices present.now kinds.now values.now)
-        → (pc : ℕ) → pc < codeCount sheet.now → (instruction sheet.now pc).op ≡ 121
-        → checkedFrom (lengthTable out_kinds.new out_values.new pc) ≡ checkedFrom (lengthFacts sheet.now constants pc) }
+        → EndedRows slots.now constants.rows (table_slices present.now kinds.now values.now)
+        → (pc : ℕ) → pc < code_count sheet.now → (instruction sheet.now pc).op ≡ 121
+        → checked_from (length_table out_kinds.new out_values.new pc) ≡ checked_from (length_facts sheet.now constants pc) }
 {
     let n = sizes.code_count;
     let mut pc = 0;

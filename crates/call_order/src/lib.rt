@@ -1,5 +1,7 @@
 // "for index, the ended constant run": what each IndexCheck makes of its fact of b, found once, before the index run.
 // "Order: flow graph, dependencies, constants, index, containers.": the three analyses one after the other, as laws, and their answer.
+#![tactic(auto)]
+
 mod facts;
 mod order;
 mod tables;

@@ -1,13 +1,13 @@
 // "Order: flow graph, dependencies, constants, index, containers.": the three analyses one after the other, as laws, and their answer.
 ghost use Rattle.std.specs.Prelude.{◌≡◌};
-ghost use Rattle.call_order.specs.Answer.{countsUnless, answer_of};
+ghost use Rattle.call_order.specs.Answer.{counts_unless, answer_of};
 
 use budget::Outcome;
 use model::{Answer, Counts};
 
 // The counts of an analysis: none where a later one was refused.
 pub fn counts_unless(refused: bool, counts: Counts) -> Counts
-    ensures { result ≡ countsUnless refused counts }
+    ensures { result ≡ counts_unless refused counts }
 {
     if refused {
         return Counts {

@@ -25,7 +25,7 @@ pub fn store_lengths(
     length_values: &mut [u16],
 )
     requires measured { Measured sheet.now sizes × (sizes.code_count ≤ length length_kinds.old) × (sizes.code_count ≤ length length_values.old) }
-    requires stored_2 { refusing before ≡ false
+    requires constants_stored { refusing before ≡ false
         → (a : Analysed) × Stored sheet.now a constant (table slots.now present.now kinds.now values.now) }
     ensures stored { refusing before ≡ false
         → (a : Analysed) → Stored sheet.now a constant (table slots.now present.now kinds.now values.now)

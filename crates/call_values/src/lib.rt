@@ -1,14 +1,16 @@
 // The first two analyses in sequence: constants, then index, which reads the constants.
+#![tactic(auto)]
+
 ghost use Rattle.std.specs.Prelude.{◌≡◌, Bool, ℕ, ◌≤◌, length};
 ghost use Rattle.std.proofs.Math.Option.{some};
-ghost use Rattle.model.specs.Sheet.{codeCount, firstRange, localSlots};
+ghost use Rattle.model.specs.Sheet.{code_count, first_range, local_slots};
 ghost use Rattle.memory.specs.Front.{Holds};
 ghost use Rattle.sheet_layouts.specs.Classes.{Classes};
 ghost use Rattle.model.specs.Call.{Table, room_for};
-ghost use Rattle.model.specs.Promise.{lentTable, lentScratch};
+ghost use Rattle.model.specs.Promise.{lent_table, lent_scratch};
 ghost use Rattle.sheet.specs.Measured.{Accepted};
-ghost use Rattle.budget.specs.Outcome.{leaves, leavesOf};
-ghost use Rattle.call_order.specs.Values.{values, valued, valuedBy, noValues};
+ghost use Rattle.budget.specs.Outcome.{leaves, leaves_of};
+ghost use Rattle.call_order.specs.Values.{values, valued, valued_by, no_values};
 
 use budget::{Outcome, refuses};
 use call_order::{counts_unless, store_lengths};
@@ -20,7 +22,7 @@ use stage::analyze_stage;
 use stage_memory::{clear_scratch, clear_table_if};
 
 // What the first two come to: s and the pop count of each, none after a refusal, and the outcome.
-#[derive(Drop)]
+#[derive(Clone, Copy)]
 pub struct Values {
     pub constant: Counts,
     pub index: Counts,
@@ -48,15 +50,15 @@ pub fn analyze_values(
     row_values: &mut [u64],
     work_list: &mut [u16],
 ) -> Values
-    requires { Accepted sheet.now sizes × Holds (firstRange sheet.now) (codeCount sheet.now) firsts.now × Classes sheet.now classes.now
-        × (localSlots sheet.now ≤ length marks.old) × (localSlots sheet.now ≤ length stack.old) }
+    requires { Accepted sheet.now sizes × Holds (first_range sheet.now) (code_count sheet.now) firsts.now × Classes sheet.now classes.now
+        × (local_slots sheet.now ≤ length marks.old) × (local_slots sheet.now ≤ length stack.old) }
     ensures { (
-        let c = lentTable constant_slots constant_present constant_kinds constant_values in
-        let i = lentTable index_slots index_present index_kinds index_values in
-        let w = lentScratch marks stack row_kinds row_values work_list in
-        let room : Table → ℕ → Bool = λ t. room_for (codeCount sheet.now) t w.entry.rowKinds w.entry.rowValues w.entry.workList in
+        let c = lent_table constant_slots constant_present constant_kinds constant_values in
+        let i = lent_table index_slots index_present index_kinds index_values in
+        let w = lent_scratch marks stack row_kinds row_values work_list in
+        let room : Table → ℕ → Bool = λ t. room_for (code_count sheet.now) t w.entry.row_kinds w.entry.row_values w.entry.work_list in
         some (leaves result.outcome (valued result.constant result.index c.exit i.exit w.exit))
-        ≡ leavesOf (valuedBy c.entry i.entry w.entry) (noValues c.entry i.entry w.entry)
+        ≡ leaves_of (valued_by c.entry i.entry w.entry) (no_values c.entry i.entry w.entry)
         (values sheet.now (room c.entry) (room i.entry) resources)
         ) }
 {

@@ -12,13 +12,13 @@ use mir.Syntax.{Width, w64}
 use mir.Val.{SFits, sel, to_z, of_z, bits, hbits}
 use mir.ValLaws.{to_z_pos, to_z-of_z}
 
-sel-cond : (b : Bool) (y z : ℤ) → sel b y z ≡ cond b y z
-sel-cond true y z = refl
-sel-cond false y z = refl
+sel_cond : (b : Bool) (y z : ℤ) → sel b y z ≡ cond b y z
+sel_cond true y z = refl
+sel_cond false y z = refl
 
 -- the bits x, read as signed
-pub signed-read : (w : Width) (x : ℕ) → to_z w x ≡ cond (ltb x (2 ^ hbits w)) (pos x) (negsuc (2 ^ bits w - suc x))
-signed-read w x = sel-cond (ltb x (2 ^ hbits w)) (pos x) (negsuc (2 ^ bits w - suc x))
+pub signed_read : (w : Width) (x : ℕ) → to_z w x ≡ cond (ltb x (2 ^ hbits w)) (pos x) (negsuc (2 ^ bits w - suc x))
+signed_read w x = sel_cond (ltb x (2 ^ hbits w)) (pos x) (negsuc (2 ^ bits w - suc x))
 
 -- ---- bits of the upper half, less the whole: the code finds the number that they stand for at 64 bits, and takes it back to its width
 
@@ -29,14 +29,14 @@ module _ (w : Width) (m x : ℕ) (low : x < suc m) (small : m < 4294967296) (hal
   is : difference ≡ negsuc (suc m - suc x)
   is = rw (to_z_pos w64 x (omega arith), lt-ltb x (suc m) low)
 
-  pub difference-fits : SFits w64 difference
-  difference-fits = rw is record { sfits = omega arith }
+  pub difference_fits : SFits w64 difference
+  difference_fits = rw is record { sfits = omega arith }
 
-  pub narrow-fits : SFits w (to_z w64 (of_z w64 difference))
-  narrow-fits = rw (to_z-of_z w64 difference difference-fits, is) record { sfits = half }
+  pub narrow_fits : SFits w (to_z w64 (of_z w64 difference))
+  narrow_fits = rw (to_z-of_z w64 difference difference_fits, is) record { sfits = half }
 
-  pub narrow-is : to_z w (of_z w (to_z w64 (of_z w64 difference))) ≡ negsuc (suc m - suc x)
-  narrow-is = to_z-of_z w _ narrow-fits ∙ to_z-of_z w64 difference difference-fits ∙ is
+  pub narrow_is : to_z w (of_z w (to_z w64 (of_z w64 difference))) ≡ negsuc (suc m - suc x)
+  narrow_is = to_z-of_z w _ narrow_fits ∙ to_z-of_z w64 difference difference_fits ∙ is
 
 -- ---- the sum of a small number and an offset of the width w
 

@@ -10,7 +10,7 @@ use borrow.Author.Tests.{eq-eqb, ne_eqb, lt-ltb, le-ltb, ltb-true}
 use lib.IntN.{ℤ, pos, negsuc, nat_abs}
 use lib.Signed.{lt_z}
 use lib.ListN.{get_or}
-use Rattle.model.specs.Successors.{contains, push, pushValid, asRecord}
+use Rattle.model.specs.Successors.{contains, push, push_valid, as_record}
 use Rattle.model.specs.declared.InstructionSuccessors.{InstructionSuccessors}
 
 abbrev two : ℕ → ℕ → ℕ → InstructionSuccessors
@@ -18,43 +18,43 @@ two p q len = record { pcs = p ∷ q ∷ []; len = len }
 
 module _ (s : InstructionSuccessors) (pc : ℕ) where
   -- the first one
-  pub push-first : s.len ≡ 0 → (targets : List ℕ) → s ≡ asRecord targets → two pc 0 1 ≡ asRecord (push targets pc)
-  unfolding push contains asRecord
-  push-first h [] e = refl
-  push-first h (t ∷ ts) e = absurd (omega (arith, ap (λ (x : InstructionSuccessors). x.len) e))
+  pub push_first : s.len ≡ 0 → (targets : List ℕ) → s ≡ as_record targets → two pc 0 1 ≡ as_record (push targets pc)
+  unfolding push contains as_record
+  push_first h [] e = refl
+  push_first h (t ∷ ts) e = absurd (omega (arith, ap (λ (x : InstructionSuccessors). x.len) e))
 
   module _ (room : s.len < 2) (some : s.len ≢ 0) where
     -- an equal second one
-    pub push-equal : pc ≡ get_or s.pcs 0 0 → (targets : List ℕ) → s ≡ asRecord targets → s ≡ asRecord (push targets pc)
-    unfolding push contains asRecord
-    push-equal h [] e = absurd (some (ap (λ (x : InstructionSuccessors). x.len) e))
-    push-equal h (t ∷ ts) e =
+    pub push_equal : pc ≡ get_or s.pcs 0 0 → (targets : List ℕ) → s ≡ as_record targets → s ≡ as_record (push targets pc)
+    unfolding push contains as_record
+    push_equal h [] e = absurd (some (ap (λ (x : InstructionSuccessors). x.len) e))
+    push_equal h (t ∷ ts) e =
         let q : pc ≡ t = h ∙ ap (λ (x : InstructionSuccessors). get_or x.pcs 0 0) e in
         rw (eq-eqb pc t q) e
 
     -- another second one
-    pub push-second : pc ≢ get_or s.pcs 0 0 → (targets : List ℕ) → s ≡ asRecord targets → two (get_or s.pcs 0 0) pc 2 ≡ asRecord (push targets pc)
-    unfolding push contains asRecord
-    push-second h [] e = absurd (some (ap (λ (x : InstructionSuccessors). x.len) e))
-    push-second h (t ∷ []) e =
+    pub push_second : pc ≢ get_or s.pcs 0 0 → (targets : List ℕ) → s ≡ as_record targets → two (get_or s.pcs 0 0) pc 2 ≡ as_record (push targets pc)
+    unfolding push contains as_record
+    push_second h [] e = absurd (some (ap (λ (x : InstructionSuccessors). x.len) e))
+    push_second h (t ∷ []) e =
         let q : get_or s.pcs 0 0 ≡ t = ap (λ (x : InstructionSuccessors). get_or x.pcs 0 0) e in
         rw (q, ne_eqb pc t (λ p. h (p ∙ sym q)))
-    push-second h (t ∷ (u ∷ us)) e = absurd (omega (arith, ap (λ (x : InstructionSuccessors). x.len) e))
+    push_second h (t ∷ (u ∷ us)) e = absurd (omega (arith, ap (λ (x : InstructionSuccessors). x.len) e))
 
 -- ---- "Targets outside 0..n−1 are dropped"
 
 module _ (n : ℕ) (targets : List ℕ) where
-  pub below-zero : (z : ℤ) → lt_z z (pos 0) ≡ true → pushValid n targets z ≡ targets
-  unfolding pushValid
-  below-zero (pos k) e = absurd (omega (arith, ltb-true k 0 e))
-  below-zero (negsuc k) e = refl
+  pub below_zero : (z : ℤ) → lt_z z (pos 0) ≡ true → push_valid n targets z ≡ targets
+  unfolding push_valid
+  below_zero (pos k) e = absurd (omega (arith, ltb-true k 0 e))
+  below_zero (negsuc k) e = refl
 
-  pub past_end : (z : ℤ) → n ≤ nat_abs z → pushValid n targets z ≡ targets
-  unfolding pushValid
+  pub past_end : (z : ℤ) → n ≤ nat_abs z → push_valid n targets z ≡ targets
+  unfolding push_valid
   past_end (pos k) h = rw (le-ltb k n h)
   past_end (negsuc k) h = refl
 
-  pub valid-inside : (z : ℤ) → lt_z z (pos 0) ≡ false → nat_abs z < n → pushValid n targets z ≡ push targets (nat_abs z)
-  unfolding pushValid
-  valid-inside (pos k) e h = rw (lt-ltb k n h)
-  valid-inside (negsuc k) e h = absurd (let z : ◌≡◌ {A = ℕ} 0 1 = cc in omega arith)
+  pub valid_inside : (z : ℤ) → lt_z z (pos 0) ≡ false → nat_abs z < n → push_valid n targets z ≡ push targets (nat_abs z)
+  unfolding push_valid
+  valid_inside (pos k) e h = rw (lt-ltb k n h)
+  valid_inside (negsuc k) e h = absurd (let z : ◌≡◌ {A = ℕ} 0 1 = cc in omega arith)

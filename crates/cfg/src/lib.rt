@@ -1,9 +1,11 @@
 // "Successors": what `FunctionCfg::build` finds for one instruction.
+#![tactic(auto)]
+
 mod offsets;
 
 ghost use Rattle.std.specs.Prelude.{◌≡◌, List, ℕ, ◌<◌, ◌≤◌};
-ghost use Rattle.model.specs.Successors.{branch, push, pushValid, pushFallthrough, successors, asRecord};
-ghost use Rattle.cfg.specs.Flow.{asBranch};
+ghost use Rattle.model.specs.Successors.{branch, push, push_valid, push_fallthrough, successors, as_record};
+ghost use Rattle.cfg.specs.Flow.{as_branch};
 
 use model::{Instruction, InstructionSuccessors};
 pub use offsets::imm32;
@@ -23,7 +25,7 @@ const PANIC: u8 = 111;
 const FOR_LOOP: u8 = 124;
 
 // The ways in which an instruction goes on.
-#[derive(Drop)]
+#[derive(Clone, Copy)]
 enum Flow {
     FallThrough,
     Jump,
@@ -34,7 +36,7 @@ enum Flow {
 
 // "Jump", "JumpIf and JumpIfNot", "ForLoop"; "Return and Panic have none"; "others only fall through"
 fn flow_of(op: u8) -> Flow
-    ensures { asBranch result ≡ branch op }
+    ensures { as_branch result ≡ branch op }
 {
     if op == JUMP {
         return Flow::Jump;
@@ -60,7 +62,7 @@ fn flow_of(op: u8) -> Flow
 // One more successor, unless it is one already: "an equal second one too" is dropped.
 fn push(successors: InstructionSuccessors, pc: usize) -> InstructionSuccessors
     requires { successors.len < 2 }
-    ensures { (targets : List ℕ) → successors ≡ asRecord targets → result ≡ asRecord (push targets pc) }
+    ensures { (targets : List ℕ) → successors ≡ as_record targets → result ≡ as_record (push targets pc) }
 {
     let pcs = successors.pcs;
     let first = pcs[0];
@@ -86,7 +88,7 @@ fn push_valid_successor(
     target: i64,
 ) -> InstructionSuccessors
     requires { successors.len < 2 }
-    ensures { (targets : List ℕ) → successors ≡ asRecord targets → result ≡ asRecord (pushValid n targets target) }
+    ensures { (targets : List ℕ) → successors ≡ as_record targets → result ≡ as_record (push_valid n targets target) }
 {
     if target < 0 {
         return successors;
@@ -105,7 +107,7 @@ fn push_fallthrough_successor(
     successors: InstructionSuccessors,
 ) -> InstructionSuccessors
     requires { (successors.len < 2) × (pc < 4096) }
-    ensures { (targets : List ℕ) → successors ≡ asRecord targets → result ≡ asRecord (pushFallthrough n pc targets) }
+    ensures { (targets : List ℕ) → successors ≡ as_record targets → result ≡ as_record (push_fallthrough n pc targets) }
 {
     let next = pc + 1;
     if n <= next {
@@ -117,7 +119,7 @@ fn push_fallthrough_successor(
 // The successors in order, for an instruction of a code of n.
 pub fn instruction_successors(n: usize, pc: usize, inst: Instruction) -> InstructionSuccessors
     requires { (n ≤ 4096) × (pc < n) }
-    ensures { result ≡ asRecord (successors n pc inst) }
+    ensures { result ≡ as_record (successors n pc inst) }
 {
     let none = InstructionSuccessors {
         pcs: [0, 0],

@@ -10,5 +10,5 @@ unfoldable pub head_of : List ℕ → Head
 head_of b = record { name = byte b 0; questions = u16 b 2; sheet = u32 b 4 }
 
 -- a question, in 16 bytes
-unfoldable pub questionOf : List ℕ → Question
-questionOf b = record { asks = byte b 0; pc = u16 b 2; slot = u16 b 4; before = record { kind = byte b 1; value = u64 b 8 } }
+unfoldable pub question_of : List ℕ → Question
+question_of b = record { asks = byte b 0; pc = u16 b 2; slot = u16 b 4; before = record { kind = byte b 1; value = u64 b 8 } }

@@ -5,33 +5,33 @@ use Rattle.model.specs.Listing.{ascii}
 use Rattle.model.specs.declared.FactCell.{FactCell}
 use Rattle.model.specs.declared.InstructionSuccessors.{InstructionSuccessors}
 use Rattle.sheet.specs.declared.Sizes.{Sizes}
-use Rattle.text_lines.specs.Text.{numbered, numberedLine}
+use Rattle.text_lines.specs.Text.{numbered, numbered_line}
 
 -- the number of the question that refuses a sheet
-unfoldable pub refusedCornerLine : ℕ → List ℕ
-refusedCornerLine number = numberedLine (ascii ": refused") (number ∷ [])
+unfoldable pub refused_corner_line : ℕ → List ℕ
+refused_corner_line number = numbered_line (ascii ": refused") (number ∷ [])
 
 -- the ten sizes of a sheet that is accepted
-unfoldable pub acceptedLine : Sizes → List ℕ
-acceptedLine s =
-    numberedLine (ascii ": accepted")
+unfoldable pub accepted_line : Sizes → List ℕ
+accepted_line s =
+    numbered_line (ascii ": accepted")
     (s.code_count ∷ s.range_count ∷ s.constant_count ∷ s.param_count ∷ s.layout_count
     ∷ s.slot_kind_count ∷ s.local_slots ∷ s.param_slots ∷ s.recv_slots ∷ s.is_closure ∷ [])
 
 -- the successors of the instruction at pc: how many, and both entries of the record
-unfoldable pub successorsLine : ℕ → InstructionSuccessors → List ℕ
-successorsLine pc s = numbered (ascii "successors") (pc ∷ []) ++ numberedLine (ascii ":") (s.len ∷ get_or s.pcs 0 0 ∷ get_or s.pcs 1 0 ∷ [])
+unfoldable pub successors_line : ℕ → InstructionSuccessors → List ℕ
+successors_line pc s = numbered (ascii "successors") (pc ∷ []) ++ numbered_line (ascii ":") (s.len ∷ get_or s.pcs 0 0 ∷ get_or s.pcs 1 0 ∷ [])
 
 -- the answer at the end of a line
-unfoldable pub yesOrNo : Bool → List ℕ
-yesOrNo true = ascii ": yes\n"
-yesOrNo false = ascii ": no\n"
+unfoldable pub yes_or_no : Bool → List ℕ
+yes_or_no true = ascii ": yes\n"
+yes_or_no false = ascii ": no\n"
 
 -- whether the instruction at pc writes the slot
-unfoldable pub writesLine : ℕ → ℕ → Bool → List ℕ
-writesLine pc slot written = numbered (ascii "writes") (pc ∷ slot ∷ []) ++ yesOrNo written
+unfoldable pub writes_line : ℕ → ℕ → Bool → List ℕ
+writes_line pc slot written = numbered (ascii "writes") (pc ∷ slot ∷ []) ++ yes_or_no written
 
 -- the same in the index analysis, with the fact in b
-unfoldable pub indexWritesLine : ℕ → FactCell → ℕ → Bool → List ℕ
-indexWritesLine pc before slot written =
-    numbered (ascii "index writes") (pc ∷ before.kind ∷ before.value ∷ slot ∷ []) ++ yesOrNo written
+unfoldable pub index_writes_line : ℕ → FactCell → ℕ → Bool → List ℕ
+index_writes_line pc before slot written =
+    numbered (ascii "index writes") (pc ∷ before.kind ∷ before.value ∷ slot ∷ []) ++ yes_or_no written

@@ -1,6 +1,6 @@
 // What a case is made of.
 ghost use Rattle.std.specs.Prelude.{◌≡◌};
-ghost use Rattle.check_corner_text.specs.Heads.{head_of, questionOf};
+ghost use Rattle.check_corner_text.specs.Heads.{head_of, question_of};
 
 use crate::{Head, Question};
 use model::FactCell;
@@ -17,7 +17,7 @@ pub fn head_of(b: &[u8; 8]) -> Head
 }
 
 pub fn question_of(b: &[u8; 16]) -> Question
-    ensures { result ≡ questionOf b.now }
+    ensures { result ≡ question_of b.now }
 {
     Question {
         asks: byte_at(b, 0),

@@ -1,4 +1,6 @@
 // What a case is made of, and the lines that are printed of it.
+#![tactic(auto)]
+
 mod cases;
 mod lines;
 mod text;
@@ -9,7 +11,7 @@ use model::FactCell;
 pub use text::answer_line;
 
 // What comes first in a case, in 8 bytes: the length of its name (8-bit), 0, how many questions it asks (16-bit), the length of its sheet (32-bit).
-#[derive(Drop)]
+#[derive(Clone, Copy)]
 pub struct Head {
     pub name: usize,
     pub questions: u16,
@@ -18,7 +20,7 @@ pub struct Head {
 
 // A question about a sheet, in 16 bytes: what is asked, the kind of the fact (8-bit each), the instruction, the slot, 0 (16-bit each), the value of
 // the fact (64-bit).
-#[derive(Drop)]
+#[derive(Clone, Copy)]
 pub struct Question {
     pub asks: u8,
     pub pc: usize,

@@ -1,7 +1,7 @@
 // The lines that are printed, each at the front of a lent buffer. The answer is its length.
 ghost use Rattle.std.specs.Prelude.{◌+◌, ◌≤◌, length};
 ghost use Rattle.text_lines.specs.Text.{Added};
-ghost use Rattle.check_corner_text.specs.Lines.{refusedCornerLine, acceptedLine, successorsLine, yesOrNo, writesLine, indexWritesLine};
+ghost use Rattle.check_corner_text.specs.Lines.{refused_corner_line, accepted_line, successors_line, yes_or_no, writes_line, index_writes_line};
 
 use model::{FactCell, InstructionSuccessors};
 use sheet::Sizes;
@@ -10,7 +10,7 @@ use text_lines::{put, put_numbered, put_numbered_line};
 // The number of the question that refuses a sheet.
 pub fn refused_corner_line(question: u8, out: &mut [u8]) -> usize
     requires { 31 ≤ length out.old }
-    ensures { Added 31 (refusedCornerLine question) 0 out.old result out.new }
+    ensures { Added 31 (refused_corner_line question) 0 out.old result out.new }
 {
     let numbers = [question as u64];
     put_numbered_line(b": refused", &numbers, 0, out)
@@ -19,7 +19,7 @@ pub fn refused_corner_line(question: u8, out: &mut [u8]) -> usize
 // The ten sizes of a sheet that is accepted.
 pub fn accepted_line(sizes: Sizes, out: &mut [u8]) -> usize
     requires { 221 ≤ length out.old }
-    ensures { Added 221 (acceptedLine sizes) 0 out.old result out.new }
+    ensures { Added 221 (accepted_line sizes) 0 out.old result out.new }
 {
     let numbers = [
         sizes.code_count as u64,
@@ -39,7 +39,7 @@ pub fn accepted_line(sizes: Sizes, out: &mut [u8]) -> usize
 // The successors of the instruction at pc, in order, and how the record is filled behind them.
 pub fn successors_line(pc: usize, successors: InstructionSuccessors, out: &mut [u8]) -> usize
     requires { 96 ≤ length out.old }
-    ensures { Added 96 (successorsLine pc successors) 0 out.old result out.new }
+    ensures { Added 96 (successors_line pc successors) 0 out.old result out.new }
 {
     let pcs = successors.pcs;
     let place = [pc as u64];
@@ -51,7 +51,7 @@ pub fn successors_line(pc: usize, successors: InstructionSuccessors, out: &mut [
 // The answer at the end of a line.
 fn put_yes_or_no(answer: bool, at: usize, out: &mut [u8]) -> usize
     requires { at + 6 ≤ length out.old }
-    ensures { Added 6 (yesOrNo answer) at out.old result out.new }
+    ensures { Added 6 (yes_or_no answer) at out.old result out.new }
 {
     if answer {
         return put(b": yes\n", at, out);
@@ -62,7 +62,7 @@ fn put_yes_or_no(answer: bool, at: usize, out: &mut [u8]) -> usize
 // Whether the instruction at pc writes the slot.
 pub fn writes_line(pc: usize, slot: u16, is_written: bool, out: &mut [u8]) -> usize
     requires { 54 ≤ length out.old }
-    ensures { Added 54 (writesLine pc slot is_written) 0 out.old result out.new }
+    ensures { Added 54 (writes_line pc slot is_written) 0 out.old result out.new }
 {
     let numbers = [pc as u64, slot as u64];
     let a = put_numbered(b"writes", &numbers, 0, out);
@@ -78,7 +78,7 @@ pub fn index_writes_line(
     out: &mut [u8],
 ) -> usize
     requires { 102 ≤ length out.old }
-    ensures { Added 102 (indexWritesLine pc before slot is_written) 0 out.old result out.new }
+    ensures { Added 102 (index_writes_line pc before slot is_written) 0 out.old result out.new }
 {
     let numbers = [pc as u64, before.kind as u64, before.value, slot as u64];
     let a = put_numbered(b"index writes", &numbers, 0, out);

@@ -1,10 +1,10 @@
 // The line that answers a question about a sheet.
 ghost use Rattle.std.specs.Prelude.{◌<◌, ◌≤◌, length};
-ghost use Rattle.model.specs.Sheet.{codeCount, firstRange};
+ghost use Rattle.model.specs.Sheet.{code_count, first_range};
 ghost use Rattle.memory.specs.Front.{Holds};
 ghost use Rattle.sheet.specs.Measured.{Accepted};
 ghost use Rattle.text_lines.specs.Text.{Added};
-ghost use Rattle.check_corner_text.specs.Answers.{answerLine};
+ghost use Rattle.check_corner_text.specs.Answers.{answer_line};
 
 use crate::lines::{index_writes_line, successors_line, writes_line};
 use crate::{INDEX_WRITES, Question, SUCCESSORS, WRITES};
@@ -19,8 +19,8 @@ pub fn answer_line(
     question: Question,
     out: &mut [u8],
 ) -> usize
-    requires { Accepted sheet.now sizes × Holds (firstRange sheet.now) (codeCount sheet.now) firsts.now × (question.pc < sizes.code_count) × (102 ≤ length out.old) }
-    ensures { Added 102 (answerLine sheet.now question) 0 out.old result out.new }
+    requires { Accepted sheet.now sizes × Holds (first_range sheet.now) (code_count sheet.now) firsts.now × (question.pc < sizes.code_count) × (102 ≤ length out.old) }
+    ensures { Added 102 (answer_line sheet.now question) 0 out.old result out.new }
 {
     let pc = question.pc;
     let slot = question.slot;

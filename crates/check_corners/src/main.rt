@@ -3,8 +3,10 @@
 //
 // A case is a name, a sheet, and questions about it. Every function that reads or writes answers whether to go on: not after the last case, not
 // where the input is none, and not after a read or a write that failed, so that nothing is printed behind a gap.
+#![tactic(auto)]
+
 ghost use Rattle.std.specs.Prelude.{◌≡◌, ◌≤◌, length};
-ghost use Rattle.model.specs.Sheet.{codeCount, firstRange};
+ghost use Rattle.model.specs.Sheet.{code_count, first_range};
 ghost use Rattle.memory.specs.Front.{Holds};
 ghost use Rattle.sheet.specs.Measured.{Accepted};
 
@@ -122,7 +124,7 @@ fn answer_accepted(sheet: &[u8], sizes: Sizes, questions: u16) -> bool
 }
 
 fn answer_questions(sheet: &[u8], sizes: Sizes, firsts: &[u16], questions: u16) -> bool
-    requires { Accepted sheet.now sizes × Holds (firstRange sheet.now) (codeCount sheet.now) firsts.now }
+    requires { Accepted sheet.now sizes × Holds (first_range sheet.now) (code_count sheet.now) firsts.now }
 {
     let mut left = questions;
     while left > 0 && answer_next(sheet, sizes, firsts) {
@@ -133,7 +135,7 @@ fn answer_questions(sheet: &[u8], sizes: Sizes, firsts: &[u16], questions: u16) 
 
 // Reads a question and prints its answer, if the instruction is one of the code.
 fn answer_next(sheet: &[u8], sizes: Sizes, firsts: &[u16]) -> bool
-    requires { Accepted sheet.now sizes × Holds (firstRange sheet.now) (codeCount sheet.now) firsts.now }
+    requires { Accepted sheet.now sizes × Holds (first_range sheet.now) (code_count sheet.now) firsts.now }
 {
     let mut bytes = [0u8; 16];
     if io::read_full(STDIN_FILENO, &mut bytes) < 16 {

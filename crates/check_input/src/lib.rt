@@ -2,16 +2,18 @@
 // tells only how many bytes it may have moved. So the contracts here determine what lies behind the bytes that came, what is made of an answer of
 // `read` (`input_from`) and of several (`so_far`), and that a read fails only where there was room for more. That the count, the failure and the bytes are
 // those of the calls of `read` is to be read in the bodies of `read_to`, `read_input` and `read_front`.
+#![tactic(auto)]
+
 ghost use Rattle.std.specs.Prelude.{◌≡◌, true, ◌+◌, ◌<◌, ◌≤◌, min, length, take, drop};
 ghost use Rattle.io.specs.Counts.{IsPrefixLen};
-ghost use Rattle.check_input.specs.Answered.{answeredOf};
+ghost use Rattle.check_input.specs.Answered.{answered_of};
 
 use libc::STDIN_FILENO;
 pub use sheet::{u16_of, u32_of, u64_of};
 use text_lines::put;
 
 // What came: count bytes, and then the input's end or a failed read, unless there was no room for more.
-#[derive(Drop)]
+#[derive(Clone, Copy)]
 pub struct Input {
     pub count: usize,
     pub failed: bool,
@@ -26,7 +28,7 @@ fn least(a: usize, b: usize) -> usize
 // What `read` answered: how many bytes came, 0 at the end of the input; below 0 it failed. A call that a signal interrupts before it moves a byte
 // counts as one that failed.
 fn input_from(got: isize, most: usize) -> Input
-    ensures { (result ≡ answeredOf got most) × (result.count ≤ most) }
+    ensures { (result ≡ answered_of got most) × (result.count ≤ most) }
 {
     if got < 0 {
         return Input {

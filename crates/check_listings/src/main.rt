@@ -1,5 +1,7 @@
 // Writes the listing of each sheet on standard input, as `facts` writes it for one, with its name above it. oracle/listings.py makes the sheets and
 // the lines that must come out.
+#![tactic(auto)]
+
 use check_input::{read_front, u16_of, u32_of};
 use facts_report::list;
 use libc::{STDIN_FILENO, STDOUT_FILENO};

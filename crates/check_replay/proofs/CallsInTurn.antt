@@ -6,35 +6,35 @@ use mathlib.Core.Option.{some}
 use Prim.Native.Nat.{ℕ, suc, ◌+◌}
 use native.Mathlib.Numerals.{add-one}
 use native.Mathlib.Omega.{arith}
-use Rattle.model.specs.Call.{answerNumbered}
+use Rattle.model.specs.Call.{answer_numbered}
 use Rattle.model.specs.Interface.{twelve}
 use Rattle.model.specs.Listing.{ascii}
 use Rattle.model.specs.declared.Answer.{Answer}
-use Rattle.check_replay_lent.specs.Checksum.{checksumStart, checksumNumber}
-use Rattle.check_replay.specs.Calls.{called, calledIn, withFirst, calledAgain, replayed}
-use Rattle.check_replay.specs.Line.{calledLine, line_of, replayLine}
+use Rattle.check_replay_lent.specs.Checksum.{checksum_start, checksum_number}
+use Rattle.check_replay.specs.Calls.{called, called_in, with_first, called_again, replayed}
+use Rattle.check_replay.specs.Line.{called_line, line_of, replay_line}
 use Rattle.check_replay_lent.specs.declared.Checksum.{Checksum}
 use Rattle.check_replay.specs.declared.call.Called.{Called}
-use Rattle.text_lines.specs.Text.{Added, ShowsText, numbered, numberedLine}
+use Rattle.text_lines.specs.Text.{Added, ShowsText, numbered, numbered_line}
 use Rattle.text_lines.proofs.TextWritten.{reword, shows}
 
 module _ (head sheet : List ℕ) where
-  pub first : (call : Called) → some call ≡ calledIn head sheet 0 checksumStart → some (called call.answer call.checksum) ≡ replayed head sheet 0
+  pub first : (call : Called) → some call ≡ called_in head sheet 0 checksum_start → some (called call.answer call.checksum) ≡ replayed head sheet 0
   unfolding replayed
   first call e = e
 
   pub again : (i : ℕ) (answer : Answer) {done : Checksum} (next : Called) → some (called answer done) ≡ replayed head sheet i
-      → some next ≡ calledIn head sheet (i + 1) done → some (called answer next.checksum) ≡ replayed head sheet (i + 1)
-  unfolding replayed calledAgain withFirst
-  again i answer {done} next e k = rw (add-one i) (ap (withFirst (called answer done)) (rw (add-one i) at k) ∙ ap (calledAgain head sheet (suc i)) e)
+      → some next ≡ called_in head sheet (i + 1) done → some (called answer next.checksum) ≡ replayed head sheet (i + 1)
+  unfolding replayed called_again with_first
+  again i answer {done} next e k = rw (add-one i) (ap (with_first (called answer done)) (rw (add-one i) at k) ∙ ap (called_again head sheet (suc i)) e)
 
   -- the text that is written is the sheet's line
-  pub line-shown : (all : Called) {numbers old new : List ℕ} {sum most next : ℕ} → some all ≡ replayed head sheet 18
-      → numbers ≡ twelve (answerNumbered all.answer) ++ [] → sum ≡ checksumNumber all.checksum
-      → Added most (numbered (ascii "answer") numbers ++ numberedLine (ascii " checksum") (sum ∷ [])) 0 old next new
-      → ShowsText (replayLine head sheet) old next new
-  unfolding replayLine line_of calledLine
-  line-shown all {most} e n c w =
-      let line : List ℕ → ℕ → List ℕ = λ xs x. numbered (ascii "answer") xs ++ numberedLine (ascii " checksum") (x ∷ []) in
+  pub line_shown : (all : Called) {numbers old new : List ℕ} {sum most next : ℕ} → some all ≡ replayed head sheet 18
+      → numbers ≡ twelve (answer_numbered all.answer) ++ [] → sum ≡ checksum_number all.checksum
+      → Added most (numbered (ascii "answer") numbers ++ numbered_line (ascii " checksum") (sum ∷ [])) 0 old next new
+      → ShowsText (replay_line head sheet) old next new
+  unfolding replay_line line_of called_line
+  line_shown all {most} e n c w =
+      let line : List ℕ → ℕ → List ℕ = λ xs x. numbered (ascii "answer") xs ++ numbered_line (ascii " checksum") (x ∷ []) in
       let s = shows (reword {k = most} (omega arith) (ap₂ line (n ∙ append-nil _) c) w) in
       record { within = s.within; front = ap line_of (sym e) ∙ s.front; rest = s.rest }

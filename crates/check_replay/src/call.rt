@@ -1,7 +1,7 @@
 // One call of a recorded sheet, with every buffer as long as that call lends it, and filled.
 ghost use Rattle.std.specs.Prelude.{◌≡◌};
 ghost use Rattle.std.proofs.Math.Option.{some};
-ghost use Rattle.check_replay.specs.Calls.{calledIn};
+ghost use Rattle.check_replay.specs.Calls.{called_in};
 
 use check_replay_lent::{
     Checksum, budget_of, front_u8, front_u16, front_u64, with_answer, with_scratch, with_table,
@@ -22,7 +22,7 @@ const LOCALS: usize = 65600;
 const ENTRIES: usize = 16384;
 
 // What a call answered, and the checksum behind it.
-#[derive(Drop)]
+#[derive(Clone, Copy)]
 pub struct Called {
     pub answer: Answer,
     pub checksum: Checksum,
@@ -30,7 +30,7 @@ pub struct Called {
 
 // Call number `call` of a recorded sheet, whose head says what it is lent. No other function holds all 17 buffers.
 pub fn call(head: &[u8; 88], sheet: &[u8], call: usize, checksum: Checksum) -> Called
-    ensures { some result ≡ calledIn head.now sheet.now call checksum }
+    ensures { some result ≡ called_in head.now sheet.now call checksum }
 {
     let mut constant_slots_room = [0u16; SLOTS];
     let constant_slots = front_u16(&mut constant_slots_room, SLOTS, head, call, 0);

@@ -1,6 +1,8 @@
 // Calls `analyze` on every recorded sheet and budget, with buffers that are as long as needed, longer, and each one short, and prints a line for each:
 // the numbers of its first answer, and a checksum over all that its calls answer and leave. The file stdout has the lines that the Rust gives;
 // oracle/README.md describes the input and the lines, and the command that tells where a line differs.
+#![tactic(auto)]
+
 use check_input::read_front;
 use libc::{STDIN_FILENO, STDOUT_FILENO};
 use line::put_line;

@@ -8,15 +8,15 @@ abbrev pub needed : List ℕ → ℕ → ℕ
 needed head which = u32 head (20 + 4 * which)
 
 -- one short, or one longer where nothing is needed
-abbrev pub oneOff : ℕ → ℕ
-oneOff count = (count - 1) + (1 - count)
+abbrev pub one_off : ℕ → ℕ
+one_off count = (count - 1) + (1 - count)
 
 -- Is it the call with longer buffers, each by another number, so that an exchange of two shows? Is it the one with this buffer one off?
 unfoldable pub changed : Bool → Bool → ℕ → ℕ → ℕ
 changed true off which count = count + which + 1
-changed false true which count = oneOff count
+changed false true which count = one_off count
 changed false false which count = count
 
 -- Call 0 lends what is needed, call 1 longer buffers, call 2 + which has that one off; at most as much as there is room for.
-unfoldable pub lentLength : List ℕ → ℕ → ℕ → ℕ → ℕ
-lentLength head call which room = min room (changed (eqb call 1) (eqb call (which + 2)) which (needed head which))
+unfoldable pub lent_length : List ℕ → ℕ → ℕ → ℕ → ℕ
+lent_length head call which room = min room (changed (eqb call 1) (eqb call (which + 2)) which (needed head which))

@@ -1,6 +1,6 @@
 // Numbers put into a checksum. No sum wraps: a remainder is below 2^32, and so is a factor.
 ghost use Rattle.std.specs.Prelude.{◌≡◌};
-ghost use Rattle.check_replay_lent.specs.Checksum.{with_number, withBuffer};
+ghost use Rattle.check_replay_lent.specs.Checksum.{with_number, with_buffer};
 
 use crate::Checksum;
 
@@ -30,7 +30,7 @@ fn wide_u16(x: u16) -> u64
 
 // With a buffer more: its length, and every element.
 pub fn with_u8(checksum: Checksum, buffer: &[u8]) -> Checksum
-    ensures { result ≡ withBuffer checksum buffer.now }
+    ensures { result ≡ with_buffer checksum buffer.now }
 {
     let mut sum = with_number(checksum, buffer.len() as u64);
     let mut i = 0;
@@ -42,7 +42,7 @@ pub fn with_u8(checksum: Checksum, buffer: &[u8]) -> Checksum
 }
 
 pub fn with_u16(checksum: Checksum, buffer: &[u16]) -> Checksum
-    ensures { result ≡ withBuffer checksum buffer.now }
+    ensures { result ≡ with_buffer checksum buffer.now }
 {
     let mut sum = with_number(checksum, buffer.len() as u64);
     let mut i = 0;
@@ -54,7 +54,7 @@ pub fn with_u16(checksum: Checksum, buffer: &[u16]) -> Checksum
 }
 
 pub fn with_u64(checksum: Checksum, buffer: &[u64]) -> Checksum
-    ensures { result ≡ withBuffer checksum buffer.now }
+    ensures { result ≡ with_buffer checksum buffer.now }
 {
     let mut sum = with_number(checksum, buffer.len() as u64);
     let mut i = 0;

@@ -1,7 +1,7 @@
 // The front of a room, as long as a call of the recorded sheet lends the buffer, and filled with the pattern: a byte from 1 to 128, by the place, as often as an
 // element has bytes. Where there is too little room all of it is lent, and the line differs.
 ghost use Rattle.std.specs.Prelude.{◌≡◌, ◌<◌, ◌≤◌, length};
-ghost use Rattle.check_replay_lent.specs.Lent.{bytesIn, pairsIn, words_in};
+ghost use Rattle.check_replay_lent.specs.Lent.{bytes_in, pairs_in, words_in};
 
 use crate::lengths::lent_length;
 
@@ -13,7 +13,7 @@ pub fn front_u8<'a>(
     which: usize,
 ) -> &'a mut [u8]
     requires { (size ≤ length room.old) × (which < 17) }
-    ensures { result.now ≡ bytesIn head.now call which size }
+    ensures { result.now ≡ bytes_in head.now call which size }
 {
     let end = lent_length(head, call, which, size);
     let mut i = 0;
@@ -32,7 +32,7 @@ pub fn front_u16<'a>(
     which: usize,
 ) -> &'a mut [u16]
     requires { (size ≤ length room.old) × (which < 17) }
-    ensures { result.now ≡ pairsIn head.now call which size }
+    ensures { result.now ≡ pairs_in head.now call which size }
 {
     let end = lent_length(head, call, which, size);
     let mut i = 0;

@@ -1,7 +1,7 @@
 // The lengths of the 17 buffers, in the order of the call's parameters: slots, present, kinds and values of each analysis; marks, stack, row kinds,
 // row values, work list. The head of a recorded sheet says how long each must be, and each of its calls changes that in another way.
 ghost use Rattle.std.specs.Prelude.{◌≡◌, ◌+◌, ◌<◌, ◌≤◌, eqb};
-ghost use Rattle.check_replay_lent.specs.Lengths.{changed, lentLength};
+ghost use Rattle.check_replay_lent.specs.Lengths.{changed, lent_length};
 
 use sheet::u32_in;
 
@@ -25,7 +25,7 @@ fn changed_length(call: usize, which: usize, count: usize) -> usize
 // The length of a buffer in a call, at most as long as there is room.
 pub fn lent_length(head: &[u8; 88], call: usize, which: usize, room: usize) -> usize
     requires { which < 17 }
-    ensures { (result ≤ room) × (result ≡ lentLength head.now call which room) }
+    ensures { (result ≤ room) × (result ≡ lent_length head.now call which room) }
 {
     let length = changed_length(call, which, u32_in(head, 20, which) as usize);
     if room < length {

@@ -1,8 +1,8 @@
 // The checksum of what a call answers, and of the buffers of an analysis and of the scratch.
 ghost use Rattle.std.specs.Prelude.{◌≡◌};
-ghost use Rattle.model.specs.Call.{answerNumbered, table, scratch};
+ghost use Rattle.model.specs.Call.{answer_numbered, table, scratch};
 ghost use Rattle.model.specs.Interface.{twelve};
-ghost use Rattle.check_replay_lent.specs.Checksum.{withBuffer, withTable, withScratch};
+ghost use Rattle.check_replay_lent.specs.Checksum.{with_buffer, with_table, with_scratch};
 
 use crate::Checksum;
 use crate::buffers::{with_u8, with_u16, with_u64};
@@ -11,7 +11,7 @@ use model::Answer;
 
 // With the twelve numbers of an answer more.
 pub fn with_answer(checksum: Checksum, answer: Answer) -> Checksum
-    ensures { result ≡ withBuffer checksum (twelve (answerNumbered answer)) }
+    ensures { result ≡ with_buffer checksum (twelve (answer_numbered answer)) }
 {
     let mut numbers = [0u64; 12];
     put_answer(answer, &mut numbers);
@@ -26,7 +26,7 @@ pub fn with_table(
     kinds: &[u8],
     values: &[u64],
 ) -> Checksum
-    ensures { result ≡ withTable checksum (table slots.now present.now kinds.now values.now) }
+    ensures { result ≡ with_table checksum (table slots.now present.now kinds.now values.now) }
 {
     let a = with_u16(checksum, slots);
     let b = with_u8(a, present);
@@ -44,7 +44,7 @@ pub fn with_scratch(
     work_list: &[u16],
 ) -> Checksum
     ensures { let lent = scratch marks.now stack.now row_kinds.now row_values.now work_list.now in
-        result ≡ withScratch checksum lent }
+        result ≡ with_scratch checksum lent }
 {
     let a = with_u8(checksum, marks);
     let b = with_u16(a, stack);

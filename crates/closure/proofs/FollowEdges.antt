@@ -3,105 +3,105 @@
 use Rattle.std.proofs.Common.{◌≡◌, ℕ, zero, suc, ◌+◌, ◌-◌, ◌*◌, ◌%◌, ◌^◌, ◌<◌, ◌≤◌, Bool, true, false, ◌&&◌, ltb, ◌⊎◌, List, [], ◌∷◌, ◌++◌, length, get_or, sym, refl, ap, ◌∙◌, inl, inr, append_assoc, append-nil, eq-or-lt_of_le, add-one, arith, length-append, lt-ltb, eq-eqb, ne_eqb}
 use lib.Bits.{bit_and}
 use Rattle.model.specs.Count.{collect}
-use Rattle.model.specs.Sheet.{codeCount, localSlots, instruction}
-use Rattle.model.specs.Dependencies.{FactDependency, edgeIf, edge, Depends, depends, instructionEdges, keepIf, edges_into, edges_to}
-use Rattle.model.specs.Closure.{Marked, mark, followUnless, follow}
+use Rattle.model.specs.Sheet.{code_count, local_slots, instruction}
+use Rattle.model.specs.Dependencies.{FactDependency, edge_if, edge, Depends, depends, instruction_edges, keep_if, edges_into, edges_to}
+use Rattle.model.specs.Closure.{Marked, mark, follow_unless, follow}
 use Rattle.model.specs.Opcode.{select}
 use Rattle.model.specs.declared.Instruction.{Instruction}
-use Rattle.closure_edges.specs.Rows.{row, edgeRowIf, rows, dependenceBy, dependence}
-use Rattle.closure_marks.specs.Marks.{Goes, Holding, slotsIn, markAll}
-use Rattle.closure.specs.Sources.{edgesFrom, edgesIn, only_if, Follows}
+use Rattle.closure_edges.specs.Rows.{row, edge_row_if, rows, dependence_by, dependence}
+use Rattle.closure_marks.specs.Marks.{Goes, Holding, slots_in, mark_all}
+use Rattle.closure.specs.Sources.{edges_from, edges_in, only_if, Follows}
 use Rattle.closure_edges.specs.declared.Dependence.{Dependence}
 use Rattle.closure.specs.declared.Followed.{Followed}
 use Rattle.closure.specs.declared.follow.SlotEdges.{SlotEdges}
-use Rattle.closure_edges.proofs.EdgeRows.{below_or_not, by-rule}
-use Rattle.closure_edges.proofs.EdgesToSlot.{into-append, edge_other, row-misses, misses, span-misses}
+use Rattle.closure_edges.proofs.EdgeRows.{below_or_not, by_rule}
+use Rattle.closure_edges.proofs.EdgesToSlot.{into_append, edge_other, row_misses, misses, span_misses}
 use Rattle.closure_edges.specs.Links.{bucket}
 use Rattle.closure_edges.specs.Chain.{edges_at, Silent, Chain, ended, linked, Chained}
-use Rattle.closure_marks.proofs.Marks.{goes_self, goes_on, goes-as}
+use Rattle.closure_marks.proofs.Marks.{goes_self, goes_on, goes_as}
 
 -- ---- those of a row that lead to d
 
 module _ (l d kinds : ℕ) where
-  edge_same : (s : ℕ) → d < l → edges_into d (edge l d s kinds) ≡ edgesFrom d kinds (only_if (ltb s l) s)
-  unfolding edge edgeIf edges_into keepIf edgesFrom only_if
+  edge_same : (s : ℕ) → d < l → edges_into d (edge l d s kinds) ≡ edges_from d kinds (only_if (ltb s l) s)
+  unfolding edge edge_if edges_into keep_if edges_from only_if
   edge_same s h = rw (lt-ltb d l h) (go (ltb s l))
     where
-      go : (t : Bool) → edges_into d (edgeIf t d s kinds) ≡ edgesFrom d kinds (only_if t s)
+      go : (t : Bool) → edges_into d (edge_if t d s kinds) ≡ edges_from d kinds (only_if t s)
       go true = rw (eq-eqb d d refl)
       go false = refl
 
-  row-hits : (a b span i : ℕ) → d ≡ a + i → i < span → d < l → edges_into d (row l a b kinds span) ≡ edgesFrom d kinds (only_if (ltb (b + i) l) (b + i))
+  row_hits : (a b span i : ℕ) → d ≡ a + i → i < span → d < l → edges_into d (row l a b kinds span) ≡ edges_from d kinds (only_if (ltb (b + i) l) (b + i))
   unfolding row collect
-  row-hits a b zero i e h k = let never : ⊥ = omega arith in absurd never
-  row-hits a b (suc j) i e h k = into-append d (row l a b kinds j) (edge l (a + j) (b + j) kinds) ∙ go (eq-or-lt_of_le h) (λ m. row-hits a b j i e m k)
+  row_hits a b zero i e h k = let never : ⊥ = omega arith in absurd never
+  row_hits a b (suc j) i e h k = into_append d (row l a b kinds j) (edge l (a + j) (b + j) kinds) ∙ go (eq-or-lt_of_le h) (λ m. row_hits a b j i e m k)
     where
-      go : (suc i ≡ suc j) ⊎ (suc i < suc j) → (i < j → edges_into d (row l a b kinds j) ≡ edgesFrom d kinds (only_if (ltb (b + i) l) (b + i)))
-          → edges_into d (row l a b kinds j) ++ edges_into d (edge l (a + j) (b + j) kinds) ≡ edgesFrom d kinds (only_if (ltb (b + i) l) (b + i))
+      go : (suc i ≡ suc j) ⊎ (suc i < suc j) → (i < j → edges_into d (row l a b kinds j) ≡ edges_from d kinds (only_if (ltb (b + i) l) (b + i)))
+          → edges_into d (row l a b kinds j) ++ edges_into d (edge l (a + j) (b + j) kinds) ≡ edges_from d kinds (only_if (ltb (b + i) l) (b + i))
       go (inl w) before =
           let p : a + j ≡ d = omega arith in
           let q : b + i ≡ b + j = omega arith in
-          rw (row-misses l d kinds a b j (inr (omega arith)), p, q) (edge_same (b + j) k)
-      go (inr m) before = rw (before (omega arith), edge_other l d kinds (a + j) (b + j) (λ w. omega arith)) (append-nil (edgesFrom d kinds (only_if (ltb (b + i) l) (b + i))))
+          rw (row_misses l d kinds a b j (inr (omega arith)), p, q) (edge_same (b + j) k)
+      go (inr m) before = rw (before (omega arith), edge_other l d kinds (a + j) (b + j) (λ w. omega arith)) (append-nil (edges_from d kinds (only_if (ltb (b + i) l) (b + i))))
 
 -- ---- those of an instruction
 
-from-append : (d kinds : ℕ) (xs ys : List ℕ) → edgesFrom d kinds (xs ++ ys) ≡ edgesFrom d kinds xs ++ edgesFrom d kinds ys
-unfolding edgesFrom
-from-append d kinds [] ys = refl
-from-append d kinds (x ∷ xs) ys = ap (λ (es : List FactDependency). record { destination = d; source = x; kinds = kinds } ∷ es) (from-append d kinds xs ys)
+from_append : (d kinds : ℕ) (xs ys : List ℕ) → edges_from d kinds (xs ++ ys) ≡ edges_from d kinds xs ++ edges_from d kinds ys
+unfolding edges_from
+from_append d kinds [] ys = refl
+from_append d kinds (x ∷ xs) ys = ap (λ (es : List FactDependency). record { destination = d; source = x; kinds = kinds } ∷ es) (from_append d kinds xs ys)
 
-length_from : (d kinds : ℕ) (ss : List ℕ) → length (edgesFrom d kinds ss) ≡ length ss
-unfolding edgesFrom
+length_from : (d kinds : ℕ) (ss : List ℕ) → length (edges_from d kinds ss) ≡ length ss
+unfolding edges_from
 length_from d kinds [] = refl
 length_from d kinds (s ∷ ss) = ap suc (length_from d kinds ss)
 
-module _ (l d : ℕ) (inst : Instruction) (r : Dependence) (are : rows r l inst ≡ instructionEdges l inst) (e : SlotEdges) (mask : e.kinds ≡ r.kinds) where
-  met : (ss : List ℕ) → Holding e.sources ss → edges_into d (rows r l inst) ≡ edgesFrom d r.kinds ss
-      → (edgesIn d e ≡ edges_into d (instructionEdges l inst)) × (e.sources.len ≡ length (edges_into d (instructionEdges l inst)))
-  unfolding edgesIn
+module _ (l d : ℕ) (inst : Instruction) (r : Dependence) (are : rows r l inst ≡ instruction_edges l inst) (e : SlotEdges) (mask : e.kinds ≡ r.kinds) where
+  met : (ss : List ℕ) → Holding e.sources ss → edges_into d (rows r l inst) ≡ edges_from d r.kinds ss
+      → (edges_in d e ≡ edges_into d (instruction_edges l inst)) × (e.sources.len ≡ length (edges_into d (instruction_edges l inst)))
+  unfolding edges_in
   met ss h k = (
     rw (mask, h.are) (sym k ∙ ap (edges_into d) are),
     h.many ∙ sym (length_from d r.kinds ss) ∙ ap length (sym k ∙ ap (edges_into d) are),
   )
 
   hits : (i : ℕ) → d ≡ inst.a + i → i < r.span → d < l
-      → edges_into d (rows r l inst) ≡ edgesFrom d r.kinds (only_if (ltb (inst.b + i) l) (inst.b + i) ++ only_if (r.fold && ltb (inst.c + i) l) (inst.c + i))
-  unfolding rows edgeRowIf edgesFrom edges_into only_if
+      → edges_into d (rows r l inst) ≡ edges_from d r.kinds (only_if (ltb (inst.b + i) l) (inst.b + i) ++ only_if (r.fold && ltb (inst.c + i) l) (inst.c + i))
+  unfolding rows edge_row_if edges_from edges_into only_if
   hits i p h k =
-      into-append d (row l inst.a inst.b r.kinds r.span) _
-      ∙ rw (row-hits l d r.kinds inst.a inst.b r.span i p h k, from-append d r.kinds (only_if (ltb (inst.b + i) l) (inst.b + i)) (only_if (r.fold && ltb (inst.c + i) l) (inst.c + i)), go r.fold)
+      into_append d (row l inst.a inst.b r.kinds r.span) _
+      ∙ rw (row_hits l d r.kinds inst.a inst.b r.span i p h k, from_append d r.kinds (only_if (ltb (inst.b + i) l) (inst.b + i)) (only_if (r.fold && ltb (inst.c + i) l) (inst.c + i)), go r.fold)
     where
-      go : (t : Bool) → edges_into d (edgeRowIf t l inst.a inst.c r.kinds r.span) ≡ edgesFrom d r.kinds (only_if (t && ltb (inst.c + i) l) (inst.c + i))
-      go true = row-hits l d r.kinds inst.a inst.c r.span i p h k
+      go : (t : Bool) → edges_into d (edge_row_if t l inst.a inst.c r.kinds r.span) ≡ edges_from d r.kinds (only_if (t && ltb (inst.c + i) l) (inst.c + i))
+      go true = row_hits l d r.kinds inst.a inst.c r.span i p h k
       go false = refl
 
-  pub met-none : (d < inst.a) ⊎ (inst.a + r.span ≤ d) → Holding e.sources []
-      → (edgesIn d e ≡ edges_into d (instructionEdges l inst)) × (e.sources.len ≡ length (edges_into d (instructionEdges l inst)))
-  unfolding edgesFrom
-  met-none h k = met [] k (misses l d inst r h)
+  pub met_none : (d < inst.a) ⊎ (inst.a + r.span ≤ d) → Holding e.sources []
+      → (edges_in d e ≡ edges_into d (instruction_edges l inst)) × (e.sources.len ≡ length (edges_into d (instruction_edges l inst)))
+  unfolding edges_from
+  met_none h k = met [] k (misses l d inst r h)
 
   pub met_some : (i : ℕ) → d ≡ inst.a + i → i < r.span → d < l
       → Holding e.sources (only_if (ltb (inst.b + i) l) (inst.b + i) ++ only_if (r.fold && ltb (inst.c + i) l) (inst.c + i))
-      → (edgesIn d e ≡ edges_into d (instructionEdges l inst)) × (e.sources.len ≡ length (edges_into d (instructionEdges l inst)))
+      → (edges_in d e ≡ edges_into d (instruction_edges l inst)) × (e.sources.len ≡ length (edges_into d (instruction_edges l inst)))
   met_some i p h k w = met _ w (hits i p h k)
 
 -- ---- how far they lead
 
 -- CopyN's edges to c slots
-pub copy-n-reach : (inst : Instruction) → inst.op ≡ 4 → (dependence inst).span ≤ inst.c
-unfolding depends select dependenceBy
-copy-n-reach inst e = rw e (omega arith)
+pub copy_n_reach : (inst : Instruction) → inst.op ≡ 4 → (dependence inst).span ≤ inst.c
+unfolding depends select dependence_by
+copy_n_reach inst e = rw e (omega arith)
 
 -- and the others' to one
-pub other-reach : (inst : Instruction) → (inst.op ≡ 4 → ⊥) → (dependence inst).span ≤ 1
-unfolding dependenceBy
-other-reach inst h = by-rule (λ (r : Depends). (dependenceBy r inst).span ≤ 1) inst.op h (omega arith) (omega arith) (omega arith) (omega arith)
+pub other_reach : (inst : Instruction) → (inst.op ≡ 4 → ⊥) → (dependence inst).span ≤ 1
+unfolding dependence_by
+other_reach inst h = by_rule (λ (r : Depends). (dependence_by r inst).span ≤ 1) inst.op h (omega arith) (omega arith) (omega arith) (omega arith)
 
 -- the test of the code: `past` is d less a, modulo 2^64
-pub outside-reach : (inst : Instruction) {count past : ℕ} → (dependence inst).span ≤ count → (l d : ℕ) → (past + inst.a) % 2 ^ 64 ≡ d → past < 2 ^ 64 → inst.a ≤ 65535 → count ≤ past
-    → edges_into d (instructionEdges l inst) ≡ []
-outside-reach inst {count} {past} r l d e fits small h = span-misses l d inst (go (below_or_not (past + inst.a) (2 ^ 64)))
+pub outside_reach : (inst : Instruction) {count past : ℕ} → (dependence inst).span ≤ count → (l d : ℕ) → (past + inst.a) % 2 ^ 64 ≡ d → past < 2 ^ 64 → inst.a ≤ 65535 → count ≤ past
+    → edges_into d (instruction_edges l inst) ≡ []
+outside_reach inst {count} {past} r l d e fits small h = span_misses l d inst (go (below_or_not (past + inst.a) (2 ^ 64)))
   where
     go : (past + inst.a < 2 ^ 64) ⊎ (2 ^ 64 ≤ past + inst.a) → (d < inst.a) ⊎ (inst.a + (dependence inst).span ≤ d)
     go (inl k) = inr (omega arith)
@@ -110,44 +110,44 @@ outside-reach inst {count} {past} r l d e fits small h = span-misses l d inst (g
 -- ---- following
 
 module _ (bit : ℕ) where
-  follow-append : (xs ys : List FactDependency) (m : Marked) → follow bit (xs ++ ys) m ≡ follow bit ys (follow bit xs m)
+  follow_append : (xs ys : List FactDependency) (m : Marked) → follow bit (xs ++ ys) m ≡ follow bit ys (follow bit xs m)
   unfolding follow
-  follow-append [] ys m = refl
-  follow-append (x ∷ xs) ys m = follow-append xs ys _
+  follow_append [] ys m = refl
+  follow_append (x ∷ xs) ys m = follow_append xs ys _
 
   module _ (d kinds : ℕ) where
     -- edges of another mask
-    passed_over : bit_and kinds bit ≡ 0 → (ss : List ℕ) (m : Marked) → follow bit (edgesFrom d kinds ss) m ≡ m
-    unfolding follow followUnless edgesFrom
+    passed_over : bit_and kinds bit ≡ 0 → (ss : List ℕ) (m : Marked) → follow bit (edges_from d kinds ss) m ≡ m
+    unfolding follow follow_unless edges_from
     passed_over h [] m = refl
-    passed_over h (s ∷ ss) m = ap (λ (t : Bool). follow bit (edgesFrom d kinds ss) (followUnless t s m)) (eq-eqb (bit_and kinds bit) 0 h) ∙ passed_over h ss m
+    passed_over h (s ∷ ss) m = ap (λ (t : Bool). follow bit (edges_from d kinds ss) (follow_unless t s m)) (eq-eqb (bit_and kinds bit) 0 h) ∙ passed_over h ss m
 
     -- and of this one
-    marks-all : (bit_and kinds bit ≡ 0 → ⊥) → (ss : List ℕ) (m : Marked) → follow bit (edgesFrom d kinds ss) m ≡ markAll ss m
-    unfolding follow followUnless edgesFrom markAll
-    marks-all h [] m = refl
-    marks-all h (s ∷ ss) m = ap (λ (t : Bool). follow bit (edgesFrom d kinds ss) (followUnless t s m)) (ne_eqb (bit_and kinds bit) 0 h) ∙ marks-all h ss (mark s m)
+    marks_all : (bit_and kinds bit ≡ 0 → ⊥) → (ss : List ℕ) (m : Marked) → follow bit (edges_from d kinds ss) m ≡ mark_all ss m
+    unfolding follow follow_unless edges_from mark_all
+    marks_all h [] m = refl
+    marks_all h (s ∷ ss) m = ap (λ (t : Bool). follow bit (edges_from d kinds ss) (follow_unless t s m)) (ne_eqb (bit_and kinds bit) 0 h) ∙ marks_all h ss (mark s m)
 
   -- no edge at all
-  pub followed-nothing : {es : List FactDependency} {marks stack : List ℕ} {from : Followed} → es ≡ [] → Follows bit es marks stack from marks stack from
+  pub followed_nothing : {es : List FactDependency} {marks stack : List ℕ} {from : Followed} → es ≡ [] → Follows bit es marks stack from marks stack from
   unfolding follow
-  followed-nothing e = rw e (record { counts = omega arith; goes = goes_self (λ m. refl) })
+  followed_nothing e = rw e (record { counts = omega arith; goes = goes_self (λ m. refl) })
 
-  module _ (d : ℕ) (e : SlotEdges) {es : List FactDependency} (is : edgesIn d e ≡ es) (many : e.sources.len ≡ length es) (from : Followed) where
-    pub followed-none : {marks stack : List ℕ} → bit_and e.kinds bit ≡ 0
+  module _ (d : ℕ) (e : SlotEdges) {es : List FactDependency} (is : edges_in d e ≡ es) (many : e.sources.len ≡ length es) (from : Followed) where
+    pub followed_none : {marks stack : List ℕ} → bit_and e.kinds bit ≡ 0
         → Follows bit es marks stack from marks stack (record { top = from.top; count = from.count + e.sources.len })
-    unfolding edgesIn
-    followed-none h = record {
+    unfolding edges_in
+    followed_none h = record {
       counts = ap (λ (k : ℕ). from.count + k) many;
-      goes = goes_self (λ m. ap (λ (fs : List FactDependency). follow bit fs m) (sym is) ∙ passed_over d e.kinds h (slotsIn e.sources) m);
+      goes = goes_self (λ m. ap (λ (fs : List FactDependency). follow bit fs m) (sym is) ∙ passed_over d e.kinds h (slots_in e.sources) m);
     }
 
-    pub followed-some : {marks stack marks' stack' : List ℕ} {top : ℕ} → (bit_and e.kinds bit ≡ 0 → ⊥) → Goes (markAll (slotsIn e.sources)) marks stack from.top marks' stack' top
+    pub followed_some : {marks stack marks' stack' : List ℕ} {top : ℕ} → (bit_and e.kinds bit ≡ 0 → ⊥) → Goes (mark_all (slots_in e.sources)) marks stack from.top marks' stack' top
         → Follows bit es marks stack from marks' stack' (record { top = top; count = from.count + e.sources.len })
-    unfolding edgesIn
-    followed-some h g = record {
+    unfolding edges_in
+    followed_some h g = record {
       counts = ap (λ (k : ℕ). from.count + k) many;
-      goes = goes-as g (follow bit es) (λ m. ap (λ (fs : List FactDependency). follow bit fs m) (sym is) ∙ marks-all d e.kinds h (slotsIn e.sources) m);
+      goes = goes_as g (follow bit es) (λ m. ap (λ (fs : List FactDependency). follow bit fs m) (sym is) ∙ marks_all d e.kinds h (slots_in e.sources) m);
     }
 
   -- one list of edges after another
@@ -155,31 +155,31 @@ module _ (bit : ℕ) where
       → Follows bit xs marks stack a marks' stack' b → Follows bit ys marks' stack' b marks'' stack'' c → Follows bit (xs ++ ys) marks stack a marks'' stack'' c
   follows_on xs ys p q = record {
     counts = omega (arith, p.counts, q.counts, length-append xs ys);
-    goes = goes_on p.goes (follow bit (xs ++ ys)) q.goes (λ m. follow-append xs ys m);
+    goes = goes_on p.goes (follow bit (xs ++ ys)) q.goes (λ m. follow_append xs ys m);
   }
 
 -- ---- the instructions one after the other
 
-pub follows-none : (bit : ℕ) (sheet : List ℕ) (d : ℕ) (marks stack : List ℕ) (from : Followed) → Follows bit (collect (edges_at sheet d) 0) marks stack from marks stack from
+pub follows_none : (bit : ℕ) (sheet : List ℕ) (d : ℕ) (marks stack : List ℕ) (from : Followed) → Follows bit (collect (edges_at sheet d) 0) marks stack from marks stack from
 unfolding collect follow
-follows-none bit sheet d marks stack from = record { counts = omega arith; goes = goes_self (λ m. refl) }
+follows_none bit sheet d marks stack from = record { counts = omega arith; goes = goes_self (λ m. refl) }
 
-pub follows-more : (bit : ℕ) (sheet : List ℕ) (d pc l : ℕ) (inst : Instruction) {marks stack marks' stack' marks'' stack'' : List ℕ} {a b c : Followed}
-    → Follows bit (collect (edges_at sheet d) pc) marks stack a marks' stack' b → inst ≡ instruction sheet pc → l ≡ localSlots sheet
-    → Follows bit (edges_into d (instructionEdges l inst)) marks' stack' b marks'' stack'' c
+pub follows_more : (bit : ℕ) (sheet : List ℕ) (d pc l : ℕ) (inst : Instruction) {marks stack marks' stack' marks'' stack'' : List ℕ} {a b c : Followed}
+    → Follows bit (collect (edges_at sheet d) pc) marks stack a marks' stack' b → inst ≡ instruction sheet pc → l ≡ local_slots sheet
+    → Follows bit (edges_into d (instruction_edges l inst)) marks' stack' b marks'' stack'' c
     → Follows bit (collect (edges_at sheet d) (pc + 1)) marks stack a marks'' stack'' c
 unfolding collect edges_at
-follows-more bit sheet d pc l inst p e k q = rw add-one (follows_on bit (collect (edges_at sheet d) pc) (edges_at sheet d pc) p (rw (e, k) at q))
+follows_more bit sheet d pc l inst p e k q = rw add-one (follows_on bit (collect (edges_at sheet d) pc) (edges_at sheet d pc) p (rw (e, k) at q))
 
-pub follows-below : (bit : ℕ) (sheet : List ℕ) (d : ℕ) {pc end : ℕ} {marks stack marks' stack' : List ℕ} {a b : Followed} → pc ≤ end → end ≤ pc → b.count ≤ pc * 255
+pub follows_below : (bit : ℕ) (sheet : List ℕ) (d : ℕ) {pc end : ℕ} {marks stack marks' stack' : List ℕ} {a b : Followed} → pc ≤ end → end ≤ pc → b.count ≤ pc * 255
     → Follows bit (collect (edges_at sheet d) pc) marks stack a marks' stack' b → (b.count ≤ end * 255) × Follows bit (collect (edges_at sheet d) end) marks stack a marks' stack' b
-follows-below bit sheet d {pc} {end} h k small p = let e : end ≡ pc = omega arith in (rw e small, rw e p)
+follows_below bit sheet d {pc} {end} h k small p = let e : end ≡ pc = omega arith in (rw e small, rw e p)
 
-pub follows-all : (which-bit bit : ℕ) (sheet : List ℕ) (d : ℕ) {n from : ℕ} {marks stack marks' stack' : List ℕ} {a b : Followed}
-    → bit ≡ which-bit → from ≤ codeCount sheet → n ≤ from → n ≡ codeCount sheet → Follows bit (collect (edges_at sheet d) from) marks stack a marks' stack' b
+pub follows_all : (which-bit bit : ℕ) (sheet : List ℕ) (d : ℕ) {n from : ℕ} {marks stack marks' stack' : List ℕ} {a b : Followed}
+    → bit ≡ which-bit → from ≤ code_count sheet → n ≤ from → n ≡ code_count sheet → Follows bit (collect (edges_at sheet d) from) marks stack a marks' stack' b
     → Follows which-bit (edges_to sheet d) marks stack a marks' stack' b
 unfolding edges_to edges_at
-follows-all which-bit bit sheet d {n} {from} w h k e p = let q : from ≡ codeCount sheet = omega arith in rw (w, q) at p
+follows_all which-bit bit sheet d {n} {from} w h k e p = let q : from ≡ code_count sheet = omega arith in rw (w, q) at p
 
 -- ---- the instructions of a chain
 
@@ -199,10 +199,10 @@ module _ (sheet : List ℕ) (d : ℕ) where
 
   -- what a link tells
   pub record NextLink (nexts pcs : List ℕ) (link lo : ℕ) : Type 0 where
-    pub in-nexts : link - 1 < length nexts
+    pub in_nexts : link - 1 < length nexts
     pub back : get_or nexts (link - 1) 0 < link
     pub later : lo ≤ get_or pcs (link - 1) 0
-    pub code : get_or pcs (link - 1) 0 < codeCount sheet
+    pub code : get_or pcs (link - 1) 0 < code_count sheet
     pub silent : Silent sheet d lo (get_or pcs (link - 1) 0)
     pub rest : Chain sheet nexts pcs d (get_or nexts (link - 1) 0) (get_or pcs (link - 1) 0 + 1)
 
@@ -210,26 +210,26 @@ module _ (sheet : List ℕ) (d : ℕ) where
   next some (ended e s) = absurd (omega arith)
   next {link = link} some (linked {i = i} e inside back later code s rest) =
       let k : link - 1 ≡ i = omega arith in
-      record { in-nexts = rw k inside; back = rw k (omega arith); later = rw k later; code = rw k code; silent = rw k s; rest = rw k rest }
+      record { in_nexts = rw k inside; back = rw k (omega arith); later = rw k later; code = rw k code; silent = rw k s; rest = rw k rest }
 
-  chain-end : {nexts pcs : List ℕ} {link lo : ℕ} → link ≤ 0 → Chain sheet nexts pcs d link lo → Silent sheet d lo (codeCount sheet)
-  chain-end none (ended e s) = s
-  chain-end none (linked e inside back later code s rest) = absurd (omega arith)
+  chain_end : {nexts pcs : List ℕ} {link lo : ℕ} → link ≤ 0 → Chain sheet nexts pcs d link lo → Silent sheet d lo (code_count sheet)
+  chain_end none (ended e s) = s
+  chain_end none (linked e inside back later code s rest) = absurd (omega arith)
 
   -- The edges of the instructions below lo are followed, and the chain tells the others. `es` are those from `from` on.
   pub record ChainWalked (nexts pcs : List ℕ) (from bit : ℕ) (marks₀ stack₀ : List ℕ) (followed₀ : Followed) (marks stack : List ℕ) (followed : Followed) (link : ℕ) : Type 0 where
     pub lo : ℕ
-    pub inside : lo ≤ codeCount sheet
+    pub inside : lo ≤ code_count sheet
     pub chain : Chain sheet nexts pcs d link lo
     pub small : followed.count ≤ lo * 255
     pub es : List FactDependency
     pub follows : Follows bit es marks₀ stack₀ followed₀ marks stack followed
     pub are : collect (edges_at sheet d) from ++ es ≡ collect (edges_at sheet d) lo
 
-  pub chain-walked-none : {nexts pcs : List ℕ} {from bit : ℕ} {marks stack : List ℕ} {followed : Followed} {link : ℕ} → from ≤ codeCount sheet → Chain sheet nexts pcs d link from
+  pub chain_walked_none : {nexts pcs : List ℕ} {from bit : ℕ} {marks stack : List ℕ} {followed : Followed} {link : ℕ} → from ≤ code_count sheet → Chain sheet nexts pcs d link from
       → followed.count ≤ from * 255 → ChainWalked nexts pcs from bit marks stack followed marks stack followed link
   unfolding follow
-  chain-walked-none {from = from} h c k = record {
+  chain_walked_none {from = from} h c k = record {
     lo = from;
     inside = h;
     chain = c;
@@ -244,11 +244,11 @@ module _ (sheet : List ℕ) (d : ℕ) where
     pub walked_next : 0 < link → NextLink nexts pcs link w.lo
     walked_next some = next some w.chain
 
-    pub chain-walked-more : (some : 0 < link) {inst : Instruction} {l : ℕ} {marks' stack' : List ℕ} {r : Followed} → inst ≡ instruction sheet (get_or pcs (link - 1) 0) → l ≡ localSlots sheet
-        → r.count ≤ followed.count + 255 → Follows bit (edges_into d (instructionEdges l inst)) marks stack followed marks' stack' r
+    pub chain_walked_more : (some : 0 < link) {inst : Instruction} {l : ℕ} {marks' stack' : List ℕ} {r : Followed} → inst ≡ instruction sheet (get_or pcs (link - 1) 0) → l ≡ local_slots sheet
+        → r.count ≤ followed.count + 255 → Follows bit (edges_into d (instruction_edges l inst)) marks stack followed marks' stack' r
         → ChainWalked nexts pcs from bit marks₀ stack₀ followed₀ marks' stack' r (get_or nexts (link - 1) 0)
     unfolding collect edges_at
-    chain-walked-more some e k small f =
+    chain_walked_more some e k small f =
         let n = walked_next some in
         let p = get_or pcs (link - 1) 0 in
         record {
@@ -265,14 +265,14 @@ module _ (sheet : List ℕ) (d : ℕ) where
         }
 
     -- with those below `from`
-    pub walked-done : link ≤ 0 → {which-bit : ℕ} {marks₁ stack₁ : List ℕ} {start : Followed} → bit ≡ which-bit
+    pub walked_done : link ≤ 0 → {which-bit : ℕ} {marks₁ stack₁ : List ℕ} {start : Followed} → bit ≡ which-bit
         → Follows bit (collect (edges_at sheet d) from) marks₁ stack₁ start marks₀ stack₀ followed₀ → Follows which-bit (edges_to sheet d) marks₁ stack₁ start marks stack followed
     unfolding edges_to edges_at
-    walked-done none e p =
-        let all = w.are ∙ sym (skipped w.lo (codeCount sheet) w.inside (chain-end none w.chain)) in
+    walked_done none e p =
+        let all = w.are ∙ sym (skipped w.lo (code_count sheet) w.inside (chain_end none w.chain)) in
         rw (e, all) at (follows_on bit (collect (edges_at sheet d) from) w.es p w.follows)
 
 -- the chain of a slot's bucket
-pub chain-of : {sheet heads nexts pcs : List ℕ} {from : ℕ} → Chained sheet heads nexts pcs from → (d : ℕ) {l k : ℕ} → l ≡ localSlots sheet → d < l → k ≡ bucket d
+pub chain_of : {sheet heads nexts pcs : List ℕ} {from : ℕ} → Chained sheet heads nexts pcs from → (d : ℕ) {l k : ℕ} → l ≡ local_slots sheet → d < l → k ≡ bucket d
     → Chain sheet nexts pcs d (get_or heads k 0) from
-chain-of c d e h k = rw k (c.chain d (rw e at h))
+chain_of c d e h k = rw k (c.chain d (rw e at h))

@@ -2,20 +2,20 @@
 -- Assumes nothing.
 use Rattle.std.proofs.Common.{◌≡◌, ℕ, zero, suc, ◌≤◌, List, [], ◌∷◌, ◌++◌, length, take, drop, replicate, sym, refl, ap, ◌∙◌, arith, take-append-drop, length-take-le}
 use mathlib.Core.Option.{some}
-use Rattle.model.specs.Sheet.{localSlots}
+use Rattle.model.specs.Sheet.{local_slots}
 use Rattle.model.specs.Charges.{Spent, ok, stop, unfinished, Metered, give, continue, ◌>>=◌, ◌>>◌}
-use Rattle.model.specs.Closure.{Marked, seeded, expand, places, trackedSlots, stageNumber}
+use Rattle.model.specs.Closure.{Marked, seeded, expand, places, tracked_slots, stage_number}
 use Rattle.model.specs.Call.{zeros}
 use Rattle.model.specs.declared.AnalysisKind.{AnalysisKind}
 use Rattle.model.specs.declared.VerifierResources.{VerifierResources}
-use Rattle.budget.specs.Outcome.{asSpent, leaves, leavesOf}
+use Rattle.budget.specs.Outcome.{as_spent, leaves, leaves_of}
 use Rattle.budget.specs.declared.Outcome.{Outcome}
 use Rattle.budget.specs.declared.Outcome.TheVariants.{Covered}
-use Rattle.budget.proofs.Outcomes.{NotCovered, covered-leaves, stopped-then, stopped-leaves, spent-stopped, left-covered, left-stopped}
-use Rattle.budget.proofs.Spending.{covered, then-covered}
+use Rattle.budget.proofs.Outcomes.{NotCovered, covered_leaves, stopped_then, stopped_leaves, spent_stopped, left_covered, left_stopped}
+use Rattle.budget.proofs.Spending.{covered, then_covered}
 use Rattle.closure_marks.specs.Slots.{fitted}
 use Rattle.closure.specs.Expanded.{MarksZero}
-use Rattle.closure.specs.Closed.{scratchCharges, Closed, closed, closedBy}
+use Rattle.closure.specs.Closed.{scratch_charges, Closed, closed, closed_by}
 
 -- ---- the parts of the whole
 
@@ -30,67 +30,67 @@ regroup {A} one two rest budget = go (one budget)
 
 -- the slots that are marked, where these are the closure's marks
 closed_is : (slots : List ℕ) {marks marked slots' : List ℕ} {s : ℕ} → marks ≡ marked → s ≡ length (places 0 marks) → slots' ≡ fitted (places 0 marks) slots
-    → closed s slots' ≡ closedBy slots (places 0 marked)
+    → closed s slots' ≡ closed_by slots (places 0 marked)
 closed_is slots e p q = rw (p, q, e)
 
-module _ (which : AnalysisKind) (sheet : List ℕ) (l : ℕ) (all : l ≡ localSlots sheet) where
+module _ (which : AnalysisKind) (sheet : List ℕ) (l : ℕ) (all : l ≡ local_slots sheet) where
   -- the loop, and the slots it marked
   closing : Metered (List ℕ)
-  closing = expand which sheet (localSlots sheet) (seeded which sheet) >>= (λ m. give (places 0 m.marks))
+  closing = expand which sheet (local_slots sheet) (seeded which sheet) >>= (λ m. give (places 0 m.marks))
 
-  parts : (budget : VerifierResources) → trackedSlots which sheet budget ≡ (scratchCharges (stageNumber which) l >> closing) budget
-  unfolding trackedSlots scratchCharges closing
+  parts : (budget : VerifierResources) → tracked_slots which sheet budget ≡ (scratch_charges (stage_number which) l >> closing) budget
+  unfolding tracked_slots scratch_charges closing
   parts budget = rw all (regroup _ _ _ budget)
 
   -- the whole closure, as the code leaves it
   abbrev Tracks : VerifierResources → List ℕ → Outcome → Closed → Type 0
-  Tracks budget slots outcome memory = some (leaves outcome memory) ≡ leavesOf (closedBy slots) (closed 0 slots) (trackedSlots which sheet budget)
+  Tracks budget slots outcome memory = some (leaves outcome memory) ≡ leaves_of (closed_by slots) (closed 0 slots) (tracked_slots which sheet budget)
 
-  module _ (budget : VerifierResources) (slots : List ℕ) (scratch : Outcome) (charged : asSpent scratch ≡ scratchCharges (stageNumber which) l budget) where
+  module _ (budget : VerifierResources) (slots : List ℕ) (scratch : Outcome) (charged : as_spent scratch ≡ scratch_charges (stage_number which) l budget) where
     -- a charge before the loop is refused
-    pub scratch-refused : NotCovered scratch → Tracks budget slots scratch (closed 0 slots)
+    pub scratch_refused : NotCovered scratch → Tracks budget slots scratch (closed 0 slots)
     unfolding ◌>>◌
-    scratch-refused h = rw (parts budget) (stopped-leaves (stopped-then (spent-stopped scratch charged h) _) _ refl)
+    scratch_refused h = rw (parts budget) (stopped_leaves (stopped_then (spent_stopped scratch charged h) _) _ refl)
 
     module _ {left : VerifierResources} (left_is : scratch ≡ Covered left) where
-      whole : trackedSlots which sheet budget ≡ closing left
-      whole = parts budget ∙ then-covered (scratchCharges (stageNumber which) l) closing budget (covered charged left_is)
+      whole : tracked_slots which sheet budget ≡ closing left
+      whole = parts budget ∙ then_covered (scratch_charges (stage_number which) l) closing budget (covered charged left_is)
 
       module _ (old : List ℕ) {ended : Outcome} {marks : List ℕ}
-          (came : some (leaves ended marks) ≡ leavesOf (λ (m : Marked). m.marks) (zeros old) (expand which sheet (localSlots sheet) (seeded which sheet) left)) where
+          (came : some (leaves ended marks) ≡ leaves_of (λ (m : Marked). m.marks) (zeros old) (expand which sheet (local_slots sheet) (seeded which sheet) left)) where
         -- a charge of the loop is refused
-        pub refused-closed : NotCovered ended → Tracks budget slots ended (closed 0 slots) × (marks ≡ zeros old)
+        pub refused_closed : NotCovered ended → Tracks budget slots ended (closed 0 slots) × (marks ≡ zeros old)
         unfolding closing ◌>>=◌
-        refused-closed h = let u = left-stopped _ _ _ came h in (rw whole (stopped-leaves (stopped-then u.0 _) _ refl), u.1)
+        refused_closed h = let u = left_stopped _ _ _ came h in (rw whole (stopped_leaves (stopped_then u.0 _) _ refl), u.1)
 
         -- the loop ends
-        pub done-closed : {rest : VerifierResources} {s : ℕ} {slots' : List ℕ} → ended ≡ Covered rest → s ≡ length (places 0 marks) → slots' ≡ fitted (places 0 marks) slots
+        pub done_closed : {rest : VerifierResources} {s : ℕ} {slots' : List ℕ} → ended ≡ Covered rest → s ≡ length (places 0 marks) → slots' ≡ fitted (places 0 marks) slots
             → Tracks budget slots ended (closed s slots')
         unfolding closing ◌>>=◌ continue give
-        done-closed e p q =
-            let d = left-covered _ _ _ came e in
-            covered-leaves _ _ (whole ∙ ap (continue (λ m. give (places 0 m.marks))) d.1) e (closed_is slots d.2 p q)
+        done_closed e p q =
+            let d = left_covered _ _ _ came e in
+            covered_leaves _ _ (whole ∙ ap (continue (λ m. give (places 0 m.marks))) d.1) e (closed_is slots d.2 p q)
 
 -- ---- the marks that are lent
 
-pub take-zeros : (l : ℕ) (xs : List ℕ) → xs ≡ replicate (length xs) 0 → take l xs ≡ replicate (length (take l xs)) 0
-take-zeros zero xs e = refl
-take-zeros (suc l) [] e = refl
-take-zeros (suc l) (x ∷ xs) e =
+pub take_zeros : (l : ℕ) (xs : List ℕ) → xs ≡ replicate (length xs) 0 → take l xs ≡ replicate (length (take l xs)) 0
+take_zeros zero xs e = refl
+take_zeros (suc l) [] e = refl
+take_zeros (suc l) (x ∷ xs) e =
     let p : x ≡ 0 = cc in
     let q : xs ≡ replicate (length xs) 0 = cc in
-    rw (p, ← (take-zeros l xs q))
+    rw (p, ← (take_zeros l xs q))
 
-module _ (sheet : List ℕ) {l : ℕ} (marks stack : List ℕ) (all : l ≡ localSlots sheet) (wide : l ≤ length marks) (deep : l ≤ length stack) (no-marks : marks ≡ zeros marks) (no-entries : stack ≡ zeros stack) where
+module _ (sheet : List ℕ) {l : ℕ} (marks stack : List ℕ) (all : l ≡ local_slots sheet) (wide : l ≤ length marks) (deep : l ≤ length stack) (no_marks : marks ≡ zeros marks) (no_entries : stack ≡ zeros stack) where
   pub blank : MarksZero sheet (take l marks) stack
   unfolding zeros
   blank = record {
     wide = length-take-le l marks wide ∙ all;
     deep = omega arith;
-    no-marks = take-zeros l marks no-marks;
-    no-entries = no-entries;
+    no_marks = take_zeros l marks no_marks;
+    no_entries = no_entries;
   }
 
   -- the first L cleared, and the others as they were
-  pub marks-clear : {part : List ℕ} → part ≡ zeros (take l marks) → part ++ drop l marks ≡ zeros marks
-  marks-clear e = ap (λ (p : List ℕ). p ++ drop l marks) (e ∙ sym blank.no-marks) ∙ take-append-drop l marks ∙ no-marks
+  pub marks_clear : {part : List ℕ} → part ≡ zeros (take l marks) → part ++ drop l marks ≡ zeros marks
+  marks_clear e = ap (λ (p : List ℕ). p ++ drop l marks) (e ∙ sym blank.no_marks) ∙ take-append-drop l marks ∙ no_marks

@@ -2,18 +2,18 @@
 -- Assumes nothing.
 use Rattle.std.specs.Prelude.{◌≡◌, ℕ, ◌*◌, List, length}
 use Rattle.std.proofs.Math.Option.{some}
-use Rattle.model.specs.Charges.{units, Metered, ◌>>◌, spendBytes}
-use Rattle.model.specs.Closure.{trackedSlots}
+use Rattle.model.specs.Charges.{units, Metered, ◌>>◌, spend_bytes}
+use Rattle.model.specs.Closure.{tracked_slots}
 use Rattle.model.specs.Call.{zeros}
 use Rattle.model.specs.declared.AnalysisKind.{AnalysisKind}
 use Rattle.model.specs.declared.VerifierResources.{VerifierResources}
-use Rattle.budget.specs.Outcome.{leaves, leavesOf}
+use Rattle.budget.specs.Outcome.{leaves, leaves_of}
 use Rattle.closure_marks.specs.Slots.{fitted}
 use Rattle.closure.specs.declared.Tracked.{Tracked}
 
 -- "mark 1, work slot 2" for each of L
-unfoldable pub scratchCharges : ℕ → ℕ → Metered (Unit {0})
-scratchCharges stage l = spendBytes stage (l * units.mark) >> spendBytes stage (l * units.workSlot)
+unfoldable pub scratch_charges : ℕ → ℕ → Metered (Unit {0})
+scratch_charges stage l = spend_bytes stage (l * units.mark) >> spend_bytes stage (l * units.work_slot)
 
 -- How many slots are tracked, and the slots that are lent.
 pub record Closed : Type 0 where
@@ -24,11 +24,11 @@ abbrev pub closed : ℕ → List ℕ → Closed
 closed s slots = record { s = s; slots = slots }
 
 -- the tracked slots in those that are lent, where they fit
-abbrev pub closedBy : List ℕ → List ℕ → Closed
-closedBy lent tracked = closed (length tracked) (fitted tracked lent)
+abbrev pub closed_by : List ℕ → List ℕ → Closed
+closed_by lent tracked = closed (length tracked) (fitted tracked lent)
 
 -- the tracked slots, or nothing after a refusal; marks and stack are zero again
 pub record TrackEnsures (which : AnalysisKind) (sheet : List ℕ) (budget : VerifierResources) (marks stack slots : List ℕ) (r : Tracked) (marks' stack' slots' : List ℕ) : Type 0 where
-  pub closes : some (leaves r.outcome (closed r.s slots')) ≡ leavesOf (closedBy slots) (closed 0 slots) (trackedSlots which sheet budget)
-  pub no-marks : marks' ≡ zeros marks
-  pub no-entries : stack' ≡ zeros stack
+  pub closes : some (leaves r.outcome (closed r.s slots')) ≡ leaves_of (closed_by slots) (closed 0 slots) (tracked_slots which sheet budget)
+  pub no_marks : marks' ≡ zeros marks
+  pub no_entries : stack' ≡ zeros stack

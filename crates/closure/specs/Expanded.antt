@@ -2,22 +2,22 @@
 -- Assumes nothing.
 use Rattle.std.specs.Prelude.{◌≡◌, ℕ, ◌≤◌, List, length}
 use Rattle.std.proofs.Math.Option.{some}
-use Rattle.model.specs.Sheet.{localSlots}
+use Rattle.model.specs.Sheet.{local_slots}
 use Rattle.model.specs.Closure.{Marked, seeded, expand}
 use Rattle.model.specs.Call.{zeros}
 use Rattle.model.specs.declared.AnalysisKind.{AnalysisKind}
 use Rattle.model.specs.declared.VerifierResources.{VerifierResources}
-use Rattle.budget.specs.Outcome.{leaves, leavesOf}
+use Rattle.budget.specs.Outcome.{leaves, leaves_of}
 use Rattle.budget.specs.declared.Outcome.{Outcome}
 
 -- L marks and a stack of at least L entries, all zero
 pub record MarksZero (sheet marks stack : List ℕ) : Type 0 where
-  pub wide : length marks ≡ localSlots sheet
-  pub deep : localSlots sheet ≤ length stack
-  pub no-marks : marks ≡ zeros marks
-  pub no-entries : stack ≡ zeros stack
+  pub wide : length marks ≡ local_slots sheet
+  pub deep : local_slots sheet ≤ length stack
+  pub no_marks : marks ≡ zeros marks
+  pub no_entries : stack ≡ zeros stack
 
 -- the marks of the closure, or zeros after a refusal; the stack is zero again
 pub record ExpandEnsures (which : AnalysisKind) (sheet : List ℕ) (budget : VerifierResources) (marks stack : List ℕ) (outcome : Outcome) (marks' stack' : List ℕ) : Type 0 where
-  pub closes : some (leaves outcome marks') ≡ leavesOf (λ (m : Marked). m.marks) (zeros marks) (expand which sheet (localSlots sheet) (seeded which sheet) budget)
-  pub no-entries : stack' ≡ zeros stack
+  pub closes : some (leaves outcome marks') ≡ leaves_of (λ (m : Marked). m.marks) (zeros marks) (expand which sheet (local_slots sheet) (seeded which sheet) budget)
+  pub no_entries : stack' ≡ zeros stack

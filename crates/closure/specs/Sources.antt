@@ -3,18 +3,18 @@
 use Rattle.std.specs.Prelude.{◌≡◌, ℕ, ◌+◌, Bool, true, false, List, [], ◌∷◌, length}
 use Rattle.model.specs.Dependencies.{FactDependency}
 use Rattle.model.specs.Closure.{follow}
-use Rattle.closure_marks.specs.Marks.{Goes, slotsIn}
+use Rattle.closure_marks.specs.Marks.{Goes, slots_in}
 use Rattle.closure.specs.declared.follow.SlotEdges.{SlotEdges}
 use Rattle.closure.specs.declared.Followed.{Followed}
 
 -- edges to d from the sources, all of one mask
-unfoldable pub edgesFrom : ℕ → ℕ → List ℕ → List FactDependency
-edgesFrom d kinds [] = []
-edgesFrom d kinds (source ∷ sources) = record { destination = d; source = source; kinds = kinds } ∷ edgesFrom d kinds sources
+unfoldable pub edges_from : ℕ → ℕ → List ℕ → List FactDependency
+edges_from d kinds [] = []
+edges_from d kinds (source ∷ sources) = record { destination = d; source = source; kinds = kinds } ∷ edges_from d kinds sources
 
 -- the edges of a value
-unfoldable pub edgesIn : ℕ → SlotEdges → List FactDependency
-edgesIn d e = edgesFrom d e.kinds (slotsIn e.sources)
+unfoldable pub edges_in : ℕ → SlotEdges → List FactDependency
+edges_in d e = edges_from d e.kinds (slots_in e.sources)
 
 -- a slot, where the test holds
 unfoldable pub only_if : Bool → ℕ → List ℕ

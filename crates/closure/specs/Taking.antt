@@ -1,7 +1,7 @@
 -- A slot is taken from the stack.
 -- Assumes nothing.
 use Rattle.std.specs.Prelude.{◌≡◌, ℕ, List, [], ◌∷◌, length}
-use Rattle.model.specs.Dependencies.{dependencyBit, edges_to}
+use Rattle.model.specs.Dependencies.{dependency_bit, edges_to}
 use Rattle.model.specs.Closure.{Marked, follow}
 use Rattle.model.specs.declared.AnalysisKind.{AnalysisKind}
 use Rattle.closure_marks.specs.Marks.{MarkedLies}
@@ -14,16 +14,16 @@ pub record Standing (sheet marks stack : List ℕ) (top : ℕ) : Type 0 where
   pub lies : MarkedLies sheet room m marks stack top
 
 -- how many edges the slot on top has
-unfoldable pub topEdges : List ℕ → List ℕ → ℕ
-topEdges sheet [] = 0
-topEdges sheet (d ∷ ds) = length (edges_to sheet d)
+unfoldable pub top_edges : List ℕ → List ℕ → ℕ
+top_edges sheet [] = 0
+top_edges sheet (d ∷ ds) = length (edges_to sheet d)
 
 -- with the slot on top taken, and its edges followed
-unfoldable pub topTaken : AnalysisKind → List ℕ → List ℕ → Marked → Marked
-topTaken which sheet [] m = m
-topTaken which sheet (d ∷ ds) m = follow (dependencyBit which) (edges_to sheet d) (record { marks = m.marks; stack = ds })
+unfoldable pub top_taken : AnalysisKind → List ℕ → List ℕ → Marked → Marked
+top_taken which sheet [] m = m
+top_taken which sheet (d ∷ ds) m = follow (dependency_bit which) (edges_to sheet d) (record { marks = m.marks; stack = ds })
 
 -- The slot on top is taken from whatever state lies there, and its edges are counted.
 pub record Takes (which : AnalysisKind) (sheet marks stack : List ℕ) (top : ℕ) (marks' stack' : List ℕ) (r : Followed) : Type 0 where
-  pub counts : {room : ℕ} {m : Marked} → MarkedLies sheet room m marks stack top → r.count ≡ topEdges sheet m.stack
-  pub lies : {room : ℕ} {m : Marked} → MarkedLies sheet room m marks stack top → MarkedLies sheet room (topTaken which sheet m.stack m) marks' stack' r.top
+  pub counts : {room : ℕ} {m : Marked} → MarkedLies sheet room m marks stack top → r.count ≡ top_edges sheet m.stack
+  pub lies : {room : ℕ} {m : Marked} → MarkedLies sheet room m marks stack top → MarkedLies sheet room (top_taken which sheet m.stack m) marks' stack' r.top

@@ -1,12 +1,12 @@
 // The edges to one slot, counted and followed in one pass over the instructions that may have them.
 ghost use Rattle.std.specs.Prelude.{◌≡◌, ◌+◌, ◌*◌, ◌<◌, ◌≤◌, ◌&&◌, ◌++◌, length, nat_lt};
-ghost use Rattle.model.specs.Dependencies.{dependencyBit, instructionEdges, edges_into, edges_to};
+ghost use Rattle.model.specs.Dependencies.{dependency_bit, instruction_edges, edges_into, edges_to};
 ghost use Rattle.sheet.specs.Measured.{Measured};
 ghost use Rattle.closure_marks.specs.Marks.{Lain, Holding};
 ghost use Rattle.model.specs.Count.{collect};
 ghost use Rattle.closure_edges.specs.Chain.{edges_at, Chained};
 ghost use Rattle.closure_edges.specs.Rows.{dependence};
-ghost use Rattle.closure.specs.Sources.{edgesIn, only_if, Follows};
+ghost use Rattle.closure.specs.Sources.{edges_in, only_if, Follows};
 
 use crate::Followed;
 use closure_edges::{CONSTANT, CONTAINER, COPY_N, INDEX_CHECK, bucket_of, dependence_of};
@@ -16,7 +16,7 @@ use sheet::Sizes;
 use sheet_fields::instruction_at;
 
 // The edges of an instruction to one slot: their sources, and the mask of the analyses that follow them.
-#[derive(Drop)]
+#[derive(Clone, Copy)]
 struct SlotEdges {
     sources: Candidates,
     kinds: u8,
@@ -24,7 +24,7 @@ struct SlotEdges {
 
 // "bit 0 constant, bit 1 index, bit 2 container"
 fn dependency_bit(which: AnalysisKind) -> u8
-    ensures { result ≡ dependencyBit which }
+    ensures { result ≡ dependency_bit which }
 {
     match which {
         AnalysisKind::Constant => CONSTANT,
@@ -52,7 +52,7 @@ fn sources_below(l: usize, first: usize, fold: bool, second: usize) -> Candidate
 // The edges of one instruction to slot d. A CopyN has one where a ≤ d < a + c and the source is below L, in whole numbers.
 fn edges_to(inst: Instruction, l: usize, d: usize) -> SlotEdges
     requires { (d < l) × (l ≤ 65535) }
-    ensures { (edgesIn d result ≡ edges_into d (instructionEdges l inst)) × (result.sources.len ≡ length (edges_into d (instructionEdges l inst))) }
+    ensures { (edges_in d result ≡ edges_into d (instruction_edges l inst)) × (result.sources.len ≡ length (edges_into d (instruction_edges l inst))) }
 {
     let rule = dependence_of(inst);
     let kinds = rule.kinds;
@@ -97,7 +97,7 @@ fn follow_instruction(
 ) -> Followed
     requires { (d < l) × (l ≤ 65535) × (from.count < 4294967296) × Lain marks.old stack.old from.top }
     ensures { (result.count ≤ from.count + 255)
-        × Follows bit (edges_into d (instructionEdges l inst)) marks.old stack.old from marks.new stack.new result }
+        × Follows bit (edges_into d (instruction_edges l inst)) marks.old stack.old from marks.new stack.new result }
 {
     let a = inst.a as usize;
     // most instructions are passed over by this test alone: below a the difference wraps and is larger than any reach
@@ -157,7 +157,7 @@ pub fn follow_edges(
     top: usize,
 ) -> Followed
     requires { Measured sheet.now sizes × Chained sheet.now heads.now nexts.now pcs.now from × (d < sizes.local_slots) × Lain marks.old stack.old top }
-    ensures { Follows (dependencyBit which) (edges_to sheet.now d) marks.old stack.old (record { top = top; count = 0 }) marks.new
+    ensures { Follows (dependency_bit which) (edges_to sheet.now d) marks.old stack.old (record { top = top; count = 0 }) marks.new
         stack.new result }
 {
     let l = sizes.local_slots;

@@ -1,10 +1,10 @@
 // The three `tracked_..._slots`, once for the three analyses.
 ghost use Rattle.std.specs.Prelude.{◌≡◌, ◌≤◌, length};
 ghost use Rattle.model.specs.Call.{zeros};
-ghost use Rattle.budget.specs.Outcome.{asSpent};
+ghost use Rattle.budget.specs.Outcome.{as_spent};
 ghost use Rattle.sheet.specs.Measured.{Measured};
 ghost use Rattle.closure.specs.Expanded.{MarksZero};
-ghost use Rattle.closure.specs.Closed.{scratchCharges, TrackEnsures};
+ghost use Rattle.closure.specs.Closed.{scratch_charges, TrackEnsures};
 
 use crate::Tracked;
 use crate::expansion::expand;
@@ -17,7 +17,7 @@ use sheet::Sizes;
 // "mark 1, work slot 2": two charges, for each of L.
 fn charge_scratch(stage: u8, l: usize, resources: VerifierResources) -> Outcome
     requires { l ≤ 65535 }
-    ensures { asSpent result ≡ scratchCharges stage l resources }
+    ensures { as_spent result ≡ scratch_charges stage l resources }
 {
     let count = l as u64;
     let marks = metered(stage, resources, charge_bytes(resources, count));

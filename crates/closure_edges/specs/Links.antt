@@ -1,7 +1,7 @@
 -- The instructions that have edges, in a chain for each bucket of slots: how the tables are filled.
 -- Assumes nothing.
 use Rattle.std.specs.Prelude.{Bool, true, false, cond, List, ℕ, zero, suc, ◌+◌, ◌-◌, ◌/◌, min, leb, ltb, length, get_or, set}
-use Rattle.model.specs.Sheet.{codeCount, localSlots, instruction}
+use Rattle.model.specs.Sheet.{code_count, local_slots, instruction}
 use Rattle.model.specs.Call.{zeros}
 use Rattle.model.specs.declared.Instruction.{Instruction}
 use Rattle.closure_edges.specs.Rows.{dependence}
@@ -10,26 +10,26 @@ use Rattle.closure_edges.specs.declared.Buckets.{Buckets}
 -- ---- buckets
 
 -- one for each slot, or one for 64 of them
-unfoldable pub bucketIf : Bool → ℕ → ℕ
-bucketIf true slot = slot
-bucketIf false slot = 1008 + slot / 64
+unfoldable pub bucket_if : Bool → ℕ → ℕ
+bucket_if true slot = slot
+bucket_if false slot = 1008 + slot / 64
 
 -- the bucket of a slot: each of the first 1,024 has its own, and there are less than 2,048
 unfoldable pub bucket : ℕ → ℕ
-bucket slot = bucketIf (ltb slot 1024) slot
+bucket slot = bucket_if (ltb slot 1024) slot
 
 -- the buckets of the slots from a up to but not including end, where there are any
-unfoldable pub bucketsIf : Bool → ℕ → ℕ → Buckets
-bucketsIf true a end = record { first = bucket a; count = bucket (end - 1) + 1 - bucket a }
-bucketsIf false a end = record { first = 0; count = 0 }
+unfoldable pub buckets_if : Bool → ℕ → ℕ → Buckets
+buckets_if true a end = record { first = bucket a; count = bucket (end - 1) + 1 - bucket a }
+buckets_if false a end = record { first = 0; count = 0 }
 
 -- where the slots below l end that an instruction's edges may lead to
 abbrev pub end_of : ℕ → Instruction → ℕ
 end_of l inst = min (inst.a + (dependence inst).span) l
 
 -- the buckets that an instruction's edges may lead to
-unfoldable pub bucketsOf : ℕ → Instruction → Buckets
-bucketsOf l inst = bucketsIf (ltb inst.a (end_of l inst)) inst.a (end_of l inst)
+unfoldable pub buckets_of : ℕ → Instruction → Buckets
+buckets_of l inst = buckets_if (ltb inst.a (end_of l inst)) inst.a (end_of l inst)
 
 -- ---- links
 
@@ -48,9 +48,9 @@ unfoldable pub link : ℕ → ℕ → Links → Links
 link pc k t = links (set t.heads k (t.used + 1)) (set t.nexts t.used (get_or t.heads k 0)) (set t.pcs t.used pc) (t.used + 1)
 
 -- one from each of count buckets
-unfoldable pub linkEach : ℕ → ℕ → ℕ → Links → Links
-linkEach pc first zero t = t
-linkEach pc first (suc i) t = link pc (first + i) (linkEach pc first i t)
+unfoldable pub link_each : ℕ → ℕ → ℕ → Links → Links
+link_each pc first zero t = t
+link_each pc first (suc i) t = link pc (first + i) (link_each pc first i t)
 
 -- ---- all instructions
 
@@ -65,17 +65,17 @@ abbrev pub graph : List ℕ → List ℕ → List ℕ → ℕ → Graph
 graph heads nexts pcs from = record { heads = heads; nexts = nexts; pcs = pcs; from = from }
 
 module _ (sheet : List ℕ) where
-  abbrev pub bucketsAt : ℕ → Buckets
-  bucketsAt pc = bucketsOf (localSlots sheet) (instruction sheet pc)
+  abbrev pub buckets_at : ℕ → Buckets
+  buckets_at pc = buckets_of (local_slots sheet) (instruction sheet pc)
 
   -- the instructions below the count, the last first, as long as there is room for an instruction's links
-  unfoldable pub linkDown : ℕ → Links → Graph
-  linkDown zero t = graph t.heads t.nexts t.pcs 0
-  linkDown (suc pc) t =
-      cond (leb (t.used + (bucketsAt pc).count) (length t.nexts))
-      (linkDown pc (linkEach pc (bucketsAt pc).first (bucketsAt pc).count t))
+  unfoldable pub link_down : ℕ → Links → Graph
+  link_down zero t = graph t.heads t.nexts t.pcs 0
+  link_down (suc pc) t =
+      cond (leb (t.used + (buckets_at pc).count) (length t.nexts))
+      (link_down pc (link_each pc (buckets_at pc).first (buckets_at pc).count t))
       (graph t.heads t.nexts t.pcs (suc pc))
 
   -- all of them, into tables of any content
   unfoldable pub graph_of : List ℕ → List ℕ → List ℕ → Graph
-  graph_of heads nexts pcs = linkDown (codeCount sheet) (links (zeros heads) nexts pcs 0)
+  graph_of heads nexts pcs = link_down (code_count sheet) (links (zeros heads) nexts pcs 0)

@@ -1,10 +1,10 @@
 // "Order: flow graph, dependencies, ..": the charges of `FunctionCfg::build` and of `FactDependencyGraph::build`.
 ghost use Rattle.std.specs.Prelude.{◌≡◌, ◌≤◌};
 ghost use Rattle.model.specs.Analyses.{flow_of};
-ghost use Rattle.model.specs.Dependencies.{chargeInstruction, chargeDependencies};
-ghost use Rattle.budget.specs.Outcome.{asSpent};
+ghost use Rattle.model.specs.Dependencies.{charge_instruction, charge_dependencies};
+ghost use Rattle.budget.specs.Outcome.{as_spent};
 ghost use Rattle.sheet.specs.Measured.{Measured};
-ghost use Rattle.closure_edges.specs.GraphCharges.{chargeGraph};
+ghost use Rattle.closure_edges.specs.GraphCharges.{charge_graph};
 
 use crate::edges::{copy_work, edge_count};
 use budget::{Outcome, charge_bytes, charge_edges, charge_work, metered};
@@ -15,7 +15,7 @@ use sheet_fields::instruction_at;
 // "successor record 24": bytes 24 × n, then work n.
 fn charge_flow(sizes: Sizes, resources: VerifierResources) -> Outcome
     requires { sizes.code_count ≤ 4096 }
-    ensures { asSpent result ≡ flow_of sizes.code_count resources }
+    ensures { as_spent result ≡ flow_of sizes.code_count resources }
 {
     let n = sizes.code_count as u64;
     let records = metered(1, resources, charge_bytes(resources, n * 24));
@@ -27,7 +27,7 @@ fn charge_flow(sizes: Sizes, resources: VerifierResources) -> Outcome
 
 // A CopyN's work, in full, then its edges: "dependency 4".
 fn charge_instruction(inst: Instruction, l: usize, resources: VerifierResources) -> Outcome
-    ensures { asSpent result ≡ chargeInstruction l inst resources }
+    ensures { as_spent result ≡ charge_instruction l inst resources }
 {
     let copied = metered(2, resources, charge_work(resources, copy_work(inst)));
     let Outcome::Covered { left } = copied else {
@@ -39,7 +39,7 @@ fn charge_instruction(inst: Instruction, l: usize, resources: VerifierResources)
 // The charges of all instructions, in code order.
 fn charge_dependencies(sheet: &[u8], sizes: Sizes, resources: VerifierResources) -> Outcome
     requires { Measured sheet.now sizes }
-    ensures { asSpent result ≡ chargeDependencies sheet.now resources }
+    ensures { as_spent result ≡ charge_dependencies sheet.now resources }
 {
     let n = sizes.code_count;
     let l = sizes.local_slots;
@@ -59,7 +59,7 @@ fn charge_dependencies(sheet: &[u8], sizes: Sizes, resources: VerifierResources)
 // Both, before any analysis: "Order: flow graph, dependencies"
 pub fn charge_graph(sheet: &[u8], sizes: Sizes, resources: VerifierResources) -> Outcome
     requires { Measured sheet.now sizes }
-    ensures { asSpent result ≡ chargeGraph sheet.now resources }
+    ensures { as_spent result ≡ charge_graph sheet.now resources }
 {
     let flow = charge_flow(sizes, resources);
     let Outcome::Covered { left } = flow else {

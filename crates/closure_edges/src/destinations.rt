@@ -1,6 +1,6 @@
 // Buckets of slots.
 ghost use Rattle.std.specs.Prelude.{◌≡◌, ◌+◌, ◌<◌, ◌≤◌, min};
-ghost use Rattle.closure_edges.specs.Links.{bucket, bucketsOf};
+ghost use Rattle.closure_edges.specs.Links.{bucket, buckets_of};
 
 use crate::Buckets;
 use crate::edges::dependence_of;
@@ -29,7 +29,7 @@ fn reached_end(l: usize, a: usize, span: usize) -> usize
 // The buckets that an instruction's edges may lead to.
 pub fn buckets_of(inst: Instruction, l: usize) -> Buckets
     requires { l ≤ 65535 }
-    ensures { (result ≡ bucketsOf l inst) × (result.first + result.count ≤ 2048) }
+    ensures { (result ≡ buckets_of l inst) × (result.first + result.count ≤ 2048) }
 {
     let a = inst.a as usize;
     let rule = dependence_of(inst);

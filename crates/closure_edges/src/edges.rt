@@ -1,6 +1,6 @@
 // The edges of one instruction, by its opcode.
 ghost use Rattle.std.specs.Prelude.{◌≡◌, ◌+◌, ◌-◌, ◌≤◌, min, length};
-ghost use Rattle.model.specs.Dependencies.{depends, copyWork, instructionEdges};
+ghost use Rattle.model.specs.Dependencies.{depends, copy_work, instruction_edges};
 ghost use Rattle.closure_edges.specs.Rows.{dependence};
 
 use crate::Dependence;
@@ -75,7 +75,7 @@ pub fn dependence_of(inst: Instruction) -> Dependence
 
 // The work of a CopyN is its whole count.
 pub fn copy_work(inst: Instruction) -> u64
-    ensures { result ≡ copyWork (depends inst.op) inst }
+    ensures { result ≡ copy_work (depends inst.op) inst }
 {
     let op = inst.op;
     if op == COPY_N {
@@ -107,7 +107,7 @@ fn row_length(l: usize, a: u16, b: u16, span: u16) -> u64
 
 // How many edges an instruction has.
 pub fn edge_count(inst: Instruction, l: usize) -> u64
-    ensures { result ≡ length (instructionEdges l inst) }
+    ensures { result ≡ length (instruction_edges l inst) }
 {
     let d = dependence_of(inst);
     let first = row_length(l, inst.a, inst.b, d.span);

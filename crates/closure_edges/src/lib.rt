@@ -1,6 +1,8 @@
 // "Order: flow graph, dependencies, ..": the edges of one instruction, and what the flow graph and the dependencies cost.
 // `FactDependencyGraph` without a heap: the instructions that have edges, in a chain for each bucket of destinations, found once a
 // closure. A slot that is taken then costs the instructions of its bucket alone.
+#![tactic(auto)]
+
 mod charges;
 mod destinations;
 mod edges;
@@ -13,7 +15,7 @@ pub use links::build;
 
 // How the slots that an instruction sets depend on others: slot a + i on b + i for i below span, and with fold on c + i too, in the
 // analyses of the mask.
-#[derive(Drop)]
+#[derive(Clone, Copy)]
 pub struct Dependence {
     pub span: u16,
     pub fold: bool,
@@ -21,7 +23,7 @@ pub struct Dependence {
 }
 
 // Buckets that follow each other.
-#[derive(Drop)]
+#[derive(Clone, Copy)]
 pub struct Buckets {
     pub first: usize,
     pub count: usize,

@@ -1,7 +1,7 @@
 // The chains, built from the last instruction to the first, so that each begins with its first one.
 ghost use Rattle.std.specs.Prelude.{◌≡◌, ◌+◌, ◌≤◌, length};
 ghost use Rattle.sheet.specs.Measured.{Measured};
-ghost use Rattle.closure_edges.specs.Links.{links, linkEach, graph, graph_of};
+ghost use Rattle.closure_edges.specs.Links.{links, link_each, graph, graph_of};
 
 use crate::Buckets;
 use crate::destinations::buckets_of;
@@ -24,7 +24,7 @@ fn link_each(
         × (length nexts.old ≤ 65535)
         × (pc ≤ 65535) }
     ensures { links heads.new nexts.new pcs.new result
-        ≡ linkEach pc buckets.first buckets.count (links heads.old nexts.old pcs.old used) }
+        ≡ link_each pc buckets.first buckets.count (links heads.old nexts.old pcs.old used) }
 {
     let first = buckets.first;
     let count = buckets.count;

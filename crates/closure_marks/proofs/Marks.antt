@@ -8,35 +8,35 @@ use native.Mathlib.Omega.{arith}
 use lib.Dec.{eqb}
 use lib.ListN.{length, get_or, set, length-set, get_or-eq_default}
 use borrow.Author.Tests.{eq-eqb, ne_eqb}
-use Rattle.model.specs.Sheet.{localSlots}
+use Rattle.model.specs.Sheet.{local_slots}
 use Rattle.model.specs.Closure.{Marked, marked, mark}
 use Rattle.model.specs.CallDemand.{marking}
-use Rattle.finality.proofs.Marks.{same-below, stack-room}
-use Rattle.finality.proofs.Cells.{stacked-push}
-use Rattle.closure_marks.specs.Marks.{MarkedLies, Lain, Goes, candidates, Holding, firstSlots, slotsIn, markAll}
+use Rattle.finality.proofs.Marks.{same_below, stack_room}
+use Rattle.finality.proofs.Cells.{stacked_push}
+use Rattle.closure_marks.specs.Marks.{MarkedLies, Lain, Goes, candidates, Holding, first_slots, slots_in, mark_all}
 use Rattle.closure_marks.specs.declared.Candidates.{Candidates}
 
-pub some-lain : {sheet : List ℕ} {room : ℕ} {m : Marked} {marks stack : List ℕ} {top : ℕ} → MarkedLies sheet room m marks stack top → Lain marks stack top
-some-lain {sheet} {room} {m} l = record { sheet = sheet; room = room; m = m; lies = l }
+pub some_lain : {sheet : List ℕ} {room : ℕ} {m : Marked} {marks stack : List ℕ} {top : ℕ} → MarkedLies sheet room m marks stack top → Lain marks stack top
+some_lain {sheet} {room} {m} l = record { sheet = sheet; room = room; m = m; lies = l }
 
 -- ---- one slot
 
 module _ (slot : ℕ) (marks stack : List ℕ) (top : ℕ) where
   module _ (inside : slot < length marks) (free : get_or marks slot 0 ≡ 0) where
     module _ {sheet : List ℕ} {room : ℕ} {m : Marked} (l : MarkedLies sheet room m marks stack top) where
-      no-mark : eqb (get_or m.marks slot 1) 0 ≡ true
-      no-mark = let e : get_or m.marks slot 1 ≡ 0 = rw l.marks-are at (sym (same-below marks slot inside) ∙ free) in eq-eqb (get_or m.marks slot 1) 0 e
+      no_mark : eqb (get_or m.marks slot 1) 0 ≡ true
+      no_mark = let e : get_or m.marks slot 1 ≡ 0 = rw l.marks_are at (sym (same_below marks slot inside) ∙ free) in eq-eqb (get_or m.marks slot 1) 0 e
 
-      has_room : length m.stack < localSlots sheet
-      has_room = stack-room sheet m slot l.passed no-mark
+      has_room : length m.stack < local_slots sheet
+      has_room = stack_room sheet m slot l.passed no_mark
 
-      lies-new : MarkedLies sheet room (mark slot m) (set marks slot 1) (set stack top slot) (top + 1)
+      lies_new : MarkedLies sheet room (mark slot m) (set marks slot 1) (set stack top slot) (top + 1)
       unfolding mark marked
-      lies-new = record {
+      lies_new = record {
         passed = marking l.passed slot refl;
-        marks-are = rw (no-mark, l.marks-are);
-        stack_is = rw (no-mark, l.stack_is, l.top-is) (stacked-push room m.stack slot (omega (arith, has_room, l.deep)));
-        top-is = rw no-mark (omega (arith, l.top-is));
+        marks_are = rw (no_mark, l.marks_are);
+        stack_is = rw (no_mark, l.stack_is, l.top_is) (stacked_push room m.stack slot (omega (arith, has_room, l.deep)));
+        top_is = rw no_mark (omega (arith, l.top_is));
         wide = length-set marks slot 1 ∙ l.wide;
         long = length-set stack top slot ∙ l.long;
         deep = l.deep;
@@ -44,37 +44,37 @@ module _ (slot : ℕ) (marks stack : List ℕ) (top : ℕ) where
       }
 
     -- there is room on the stack
-    pub push-room : Lain marks stack top → top < length stack
-    push-room w = omega (arith, has_room w.lies, w.lies.deep, w.lies.long, w.lies.top-is)
+    pub push_room : Lain marks stack top → top < length stack
+    push_room w = omega (arith, has_room w.lies, w.lies.deep, w.lies.long, w.lies.top_is)
 
-    pub mark-new : Goes (mark slot) marks stack top (set marks slot 1) (set stack top slot) (top + 1)
-    mark-new = record { on = λ l. lies-new l }
+    pub mark_new : Goes (mark slot) marks stack top (set marks slot 1) (set stack top slot) (top + 1)
+    mark_new = record { on = λ l. lies_new l }
 
   -- a mark that is set, or none from L up
   old : eqb (get_or marks slot 1) 0 ≡ false → Goes (mark slot) marks stack top marks stack top
   unfolding mark marked
-  old e = record { on = λ {sheet} {room} {m} l. let p : eqb (get_or m.marks slot 1) 0 ≡ false = (rw l.marks-are at e) in rw p l }
+  old e = record { on = λ {sheet} {room} {m} l. let p : eqb (get_or m.marks slot 1) 0 ≡ false = (rw l.marks_are at e) in rw p l }
 
-  pub mark-old : slot < length marks → (get_or marks slot 0 ≡ 0 → ⊥) → Goes (mark slot) marks stack top marks stack top
-  mark-old h k = old (ne_eqb (get_or marks slot 1) 0 (λ e. k (same-below marks slot h ∙ e)))
+  pub mark_old : slot < length marks → (get_or marks slot 0 ≡ 0 → ⊥) → Goes (mark slot) marks stack top marks stack top
+  mark_old h k = old (ne_eqb (get_or marks slot 1) 0 (λ e. k (same_below marks slot h ∙ e)))
 
-  pub mark-past : length marks ≤ slot → Goes (mark slot) marks stack top marks stack top
-  mark-past h = old (rw (get_or-eq_default marks 1 h))
+  pub mark_past : length marks ≤ slot → Goes (mark slot) marks stack top marks stack top
+  mark_past h = old (rw (get_or-eq_default marks 1 h))
 
 -- ---- the slots of a value
 
 module _ {c : Candidates} where
-  pub none-held : c ≡ candidates 0 0 0 → Holding c []
-  unfolding slotsIn firstSlots
-  none-held e = rw e (record { are = refl; many = refl })
+  pub none_held : c ≡ candidates 0 0 0 → Holding c []
+  unfolding slots_in first_slots
+  none_held e = rw e (record { are = refl; many = refl })
 
-  pub one-held : {slot : ℕ} → c ≡ candidates slot 0 1 → Holding c (slot ∷ [])
-  unfolding slotsIn firstSlots
-  one-held e = rw e (record { are = refl; many = refl })
+  pub one_held : {slot : ℕ} → c ≡ candidates slot 0 1 → Holding c (slot ∷ [])
+  unfolding slots_in first_slots
+  one_held e = rw e (record { are = refl; many = refl })
 
-  pub two-held : {first second : ℕ} → c ≡ candidates first second 2 → Holding c (first ∷ second ∷ [])
-  unfolding slotsIn firstSlots
-  two-held e = rw e (record { are = refl; many = refl })
+  pub two_held : {first second : ℕ} → c ≡ candidates first second 2 → Holding c (first ∷ second ∷ [])
+  unfolding slots_in first_slots
+  two_held e = rw e (record { are = refl; many = refl })
 
 -- ---- several
 
@@ -88,35 +88,35 @@ module _ {f : Marked → Marked} {marks stack marks' stack' : List ℕ} {top top
   goes_on h q e = record { on = λ {sheet} {room} {m} l. rw (e m) (q.on (p.on l)) }
 
   -- the same step by another name
-  pub goes-as : (h : Marked → Marked) → ((m : Marked) → h m ≡ f m) → Goes h marks stack top marks' stack' top'
-  goes-as h e = record { on = λ {sheet} {room} {m} l. rw (e m) (p.on l) }
+  pub goes_as : (h : Marked → Marked) → ((m : Marked) → h m ≡ f m) → Goes h marks stack top marks' stack' top'
+  goes_as h e = record { on = λ {sheet} {room} {m} l. rw (e m) (p.on l) }
 
-  pub lain-on : Lain marks stack top → Lain marks' stack' top'
-  lain-on w = some-lain (p.on w.lies)
+  pub lain_on : Lain marks stack top → Lain marks' stack' top'
+  lain_on w = some_lain (p.on w.lies)
 
   -- no length changes
-  pub goes-wide : Lain marks stack top → length marks' ≡ length marks
-  goes-wide w = (p.on w.lies).wide ∙ sym w.lies.wide
+  pub goes_wide : Lain marks stack top → length marks' ≡ length marks
+  goes_wide w = (p.on w.lies).wide ∙ sym w.lies.wide
 
-  pub goes-long : Lain marks stack top → length stack' ≡ length stack
-  goes-long w = (p.on w.lies).long ∙ sym w.lies.long
+  pub goes_long : Lain marks stack top → length stack' ≡ length stack
+  goes_long w = (p.on w.lies).long ∙ sym w.lies.long
 
 module _ (c : Candidates) {marks stack : List ℕ} {top : ℕ} where
-  pub none-marked : c.len ≡ 0 → Goes (markAll (slotsIn c)) marks stack top marks stack top
-  unfolding slotsIn firstSlots markAll
-  none-marked e = goes_self (λ m. rw e)
+  pub none_marked : c.len ≡ 0 → Goes (mark_all (slots_in c)) marks stack top marks stack top
+  unfolding slots_in first_slots mark_all
+  none_marked e = goes_self (λ m. rw e)
 
   module _ {marks' stack' : List ℕ} {top' : ℕ} (first : Goes (mark (get_or c.slots 0 0)) marks stack top marks' stack' top') where
-    pub one-marked : c.len ≡ 1 → Goes (markAll (slotsIn c)) marks stack top marks' stack' top'
-    unfolding slotsIn firstSlots markAll
-    one-marked e = goes-as first (markAll (slotsIn c)) (λ m. rw e)
+    pub one_marked : c.len ≡ 1 → Goes (mark_all (slots_in c)) marks stack top marks' stack' top'
+    unfolding slots_in first_slots mark_all
+    one_marked e = goes_as first (mark_all (slots_in c)) (λ m. rw e)
 
-    pub both-marked : (c.len ≡ 0 → ⊥) → (c.len ≡ 1 → ⊥) → {marks'' stack'' : List ℕ} {top'' : ℕ}
-        → Goes (mark (get_or c.slots 1 0)) marks' stack' top' marks'' stack'' top'' → Goes (markAll (slotsIn c)) marks stack top marks'' stack'' top''
-    unfolding slotsIn firstSlots markAll
-    both-marked p q second = goes_on first (markAll (slotsIn c)) second (λ m. go c.len m p q)
+    pub both_marked : (c.len ≡ 0 → ⊥) → (c.len ≡ 1 → ⊥) → {marks'' stack'' : List ℕ} {top'' : ℕ}
+        → Goes (mark (get_or c.slots 1 0)) marks' stack' top' marks'' stack'' top'' → Goes (mark_all (slots_in c)) marks stack top marks'' stack'' top''
+    unfolding slots_in first_slots mark_all
+    both_marked p q second = goes_on first (mark_all (slots_in c)) second (λ m. go c.len m p q)
       where
-        go : (n : ℕ) (m : Marked) → (n ≡ 0 → ⊥) → (n ≡ 1 → ⊥) → markAll (firstSlots n c.slots) m ≡ mark (get_or c.slots 1 0) (mark (get_or c.slots 0 0) m)
+        go : (n : ℕ) (m : Marked) → (n ≡ 0 → ⊥) → (n ≡ 1 → ⊥) → mark_all (first_slots n c.slots) m ≡ mark (get_or c.slots 1 0) (mark (get_or c.slots 0 0) m)
         go zero m h k = absurd (h refl)
         go (suc zero) m h k = absurd (k refl)
         go (suc (suc n)) m h k = refl

@@ -11,13 +11,13 @@ use lib.Dec.{T, eqb}
 use mir.Val.{has_key}
 use types.Run.{OneOf, hit}
 use borrow.Author.Tests.{ne_eqb}
-use Rattle.model.specs.Sheet.{codeCount, instruction}
-use Rattle.model.specs.Dependencies.{Field, field, seedFields}
-use Rattle.model.specs.Closure.{Marked, mark, markFields, markSeeds}
+use Rattle.model.specs.Sheet.{code_count, instruction}
+use Rattle.model.specs.Dependencies.{Field, field, seed_fields}
+use Rattle.model.specs.Closure.{Marked, mark, mark_fields, mark_seeds}
 use Rattle.model.specs.declared.Instruction.{Instruction}
 use Rattle.model.specs.declared.AnalysisKind.{AnalysisKind}
-use Rattle.closure_marks.specs.Marks.{Goes, Holding, slotsIn, markAll}
-use Rattle.closure_marks.specs.Fields.{fieldsIn}
+use Rattle.closure_marks.specs.Marks.{Goes, Holding, slots_in, mark_all}
+use Rattle.closure_marks.specs.Fields.{fields_in}
 use Rattle.closure_marks.specs.declared.Candidates.{Candidates}
 use Rattle.closure_marks.specs.declared.Fields.{Fields}
 use Rattle.closure_marks.proofs.Marks.{goes_self, goes_on}
@@ -37,34 +37,34 @@ other ks x k missed h = ne_eqb x k (λ e. missed (rw e (hit ks k h)))
 
 -- ---- fields as slots
 
-pub marks-fields : (inst : Instruction) (fs : List Field) (m : Marked) → markFields inst fs m ≡ markAll (map (field inst) fs) m
-unfolding markFields markAll
-marks-fields inst [] m = refl
-marks-fields inst (f ∷ fs) m = marks-fields inst fs (mark (field inst f) m)
+pub marks_fields : (inst : Instruction) (fs : List Field) (m : Marked) → mark_fields inst fs m ≡ mark_all (map (field inst) fs) m
+unfolding mark_fields mark_all
+marks_fields inst [] m = refl
+marks_fields inst (f ∷ fs) m = marks_fields inst fs (mark (field inst f) m)
 
 -- one more instruction
-pub seeds-more : (which : AnalysisKind) (sheet : List ℕ) (pc : ℕ) {inst : Instruction} {c : Candidates} {marks stack marks' stack' marks'' stack'' : List ℕ} {top top' top'' : ℕ}
-    → Goes (markSeeds which sheet pc) marks stack top marks' stack' top' → inst ≡ instruction sheet pc
-    → Holding c (map (field inst) (seedFields which inst.op)) → Goes (markAll (slotsIn c)) marks' stack' top' marks'' stack'' top''
-    → Goes (markSeeds which sheet (pc + 1)) marks stack top marks'' stack'' top''
-unfolding markSeeds
-seeds-more which sheet pc {inst} {c} p e h q = goes_on p (markSeeds which sheet (pc + 1)) q same
+pub seeds_more : (which : AnalysisKind) (sheet : List ℕ) (pc : ℕ) {inst : Instruction} {c : Candidates} {marks stack marks' stack' marks'' stack'' : List ℕ} {top top' top'' : ℕ}
+    → Goes (mark_seeds which sheet pc) marks stack top marks' stack' top' → inst ≡ instruction sheet pc
+    → Holding c (map (field inst) (seed_fields which inst.op)) → Goes (mark_all (slots_in c)) marks' stack' top' marks'' stack'' top''
+    → Goes (mark_seeds which sheet (pc + 1)) marks stack top marks'' stack'' top''
+unfolding mark_seeds
+seeds_more which sheet pc {inst} {c} p e h q = goes_on p (mark_seeds which sheet (pc + 1)) q same
   where
-    same : (m : Marked) → markSeeds which sheet (pc + 1) m ≡ markAll (slotsIn c) (markSeeds which sheet pc m)
-    same m = rw (add-one, h.are, e) (marks-fields (instruction sheet pc) (seedFields which (instruction sheet pc).op) (markSeeds which sheet pc m))
+    same : (m : Marked) → mark_seeds which sheet (pc + 1) m ≡ mark_all (slots_in c) (mark_seeds which sheet pc m)
+    same m = rw (add-one, h.are, e) (marks_fields (instruction sheet pc) (seed_fields which (instruction sheet pc).op) (mark_seeds which sheet pc m))
 
-pub seeds-none : (which : AnalysisKind) (sheet marks stack : List ℕ) (top : ℕ) → Goes (markSeeds which sheet 0) marks stack top marks stack top
-unfolding markSeeds
-seeds-none which sheet marks stack top = goes_self (λ m. refl)
+pub seeds_none : (which : AnalysisKind) (sheet marks stack : List ℕ) (top : ℕ) → Goes (mark_seeds which sheet 0) marks stack top marks stack top
+unfolding mark_seeds
+seeds_none which sheet marks stack top = goes_self (λ m. refl)
 
-pub seeds-all : (which : AnalysisKind) (sheet : List ℕ) (pc n : ℕ) {marks stack marks' stack' : List ℕ} {top top' : ℕ} → pc ≤ n → n ≤ pc → n ≡ codeCount sheet
-    → Goes (markSeeds which sheet pc) marks stack top marks' stack' top' → Goes (markSeeds which sheet (codeCount sheet)) marks stack top marks' stack' top'
-seeds-all which sheet pc n h k e p = let q : pc ≡ codeCount sheet = omega arith in rw q at p
+pub seeds_all : (which : AnalysisKind) (sheet : List ℕ) (pc n : ℕ) {marks stack marks' stack' : List ℕ} {top top' : ℕ} → pc ≤ n → n ≤ pc → n ≡ code_count sheet
+    → Goes (mark_seeds which sheet pc) marks stack top marks' stack' top' → Goes (mark_seeds which sheet (code_count sheet)) marks stack top marks' stack' top'
+seeds_all which sheet pc n h k e p = let q : pc ≡ code_count sheet = omega arith in rw q at p
 
 -- ---- as the code finds them
 
-pub for-kind : {which is : AnalysisKind} (op : ℕ) {fs : List Field} → fs ≡ seedFields is op → which ≡ is → fs ≡ seedFields which op
-for-kind op e w = rw w e
+pub for_kind : {which is : AnalysisKind} (op : ℕ) {fs : List Field} → fs ≡ seed_fields is op → which ≡ is → fs ≡ seed_fields which op
+for_kind op e w = rw w e
 
-pub fields-held : (inst : Instruction) (c : Candidates) (f g : Fields) {fs : List Field} → fieldsIn f ≡ fs → f ≡ g → Holding c (map (field inst) (fieldsIn g)) → Holding c (map (field inst) fs)
-fields-held inst c f g e w h = rw (← e, w) h
+pub fields_held : (inst : Instruction) (c : Candidates) (f g : Fields) {fs : List Field} → fields_in f ≡ fs → f ≡ g → Holding c (map (field inst) (fields_in g)) → Holding c (map (field inst) fs)
+fields_held inst c f g e w h = rw (← e, w) h

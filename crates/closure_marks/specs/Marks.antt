@@ -1,7 +1,7 @@
 -- How the marks and the stack of a closure lie in lent memory, and what a function makes of them.
 -- Assumes nothing.
 use Rattle.std.specs.Prelude.{◌≡◌, List, [], ◌∷◌, ℕ, zero, suc, ◌≤◌, length, get_or}
-use Rattle.model.specs.Sheet.{localSlots}
+use Rattle.model.specs.Sheet.{local_slots}
 use Rattle.model.specs.Closure.{Marked, mark}
 use Rattle.model.specs.CallDemand.{Passed}
 use Rattle.model.specs.Tables.{stacked}
@@ -11,13 +11,13 @@ use Rattle.closure_marks.specs.declared.Candidates.{Candidates}
 -- the contents.)
 pub record MarkedLies (sheet : List ℕ) (room : ℕ) (m : Marked) (marks stack : List ℕ) (top : ℕ) : Type 0 where
   pub passed : Passed sheet m
-  pub marks-are : marks ≡ m.marks
+  pub marks_are : marks ≡ m.marks
   pub stack_is : stack ≡ stacked room m.stack
-  pub top-is : top ≡ length m.stack
-  pub wide : length marks ≡ localSlots sheet
+  pub top_is : top ≡ length m.stack
+  pub wide : length marks ≡ local_slots sheet
   pub long : length stack ≡ room
-  pub deep : localSlots sheet ≤ room
-  pub small : localSlots sheet ≤ 65535
+  pub deep : local_slots sheet ≤ room
+  pub small : local_slots sheet ≤ 65535
 
 -- some state of a closure lies there
 pub record Lain (marks stack : List ℕ) (top : ℕ) : Type 0 where
@@ -31,14 +31,14 @@ pub record Goes (step : Marked → Marked) (marks stack : List ℕ) (top : ℕ) 
   pub on : {sheet : List ℕ} {room : ℕ} {m : Marked} → MarkedLies sheet room m marks stack top → MarkedLies sheet room (step m) marks' stack' top'
 
 -- the first of two slots
-unfoldable pub firstSlots : ℕ → List ℕ → List ℕ
-firstSlots zero slots = []
-firstSlots (suc zero) slots = get_or slots 0 0 ∷ []
-firstSlots (suc (suc n)) slots = get_or slots 0 0 ∷ get_or slots 1 0 ∷ []
+unfoldable pub first_slots : ℕ → List ℕ → List ℕ
+first_slots zero slots = []
+first_slots (suc zero) slots = get_or slots 0 0 ∷ []
+first_slots (suc (suc n)) slots = get_or slots 0 0 ∷ get_or slots 1 0 ∷ []
 
 -- the slots of a value
-unfoldable pub slotsIn : Candidates → List ℕ
-slotsIn c = firstSlots c.len c.slots
+unfoldable pub slots_in : Candidates → List ℕ
+slots_in c = first_slots c.len c.slots
 
 -- a value of two places
 abbrev pub candidates : ℕ → ℕ → ℕ → Candidates
@@ -46,10 +46,10 @@ candidates first second len = record { slots = first ∷ second ∷ []; len = le
 
 -- A value holds these slots. (Their number follows where it is at most two.)
 pub record Holding (c : Candidates) (slots : List ℕ) : Type 0 where
-  pub are : slotsIn c ≡ slots
+  pub are : slots_in c ≡ slots
   pub many : c.len ≡ length slots
 
 -- slots marked in order
-unfoldable pub markAll : List ℕ → Marked → Marked
-markAll [] m = m
-markAll (slot ∷ slots) m = markAll slots (mark slot m)
+unfoldable pub mark_all : List ℕ → Marked → Marked
+mark_all [] m = m
+mark_all (slot ∷ slots) m = mark_all slots (mark slot m)

@@ -1,5 +1,7 @@
 // "mark 1, work slot 2": the marks and the stack of a closure, and the marked slots.
 // "Seeds as in `tracked_constant_slots`, `tracked_index_check_slots`, `tracked_container_slots`": the seeds of an analysis, marked.
+#![tactic(auto)]
+
 mod mark;
 mod seeds;
 mod slots;
@@ -9,14 +11,14 @@ pub use seeds::seed_slots;
 pub use slots::list_slots;
 
 // At most two slots, in order: the first len.
-#[derive(Drop)]
+#[derive(Clone, Copy)]
 pub struct Candidates {
     pub slots: [usize; 2],
     pub len: u8,
 }
 
 // The fields of an instruction that are seeds, in the order of the Rust.
-#[derive(Drop)]
+#[derive(Clone, Copy)]
 enum Fields {
     None,
     A,

@@ -1,7 +1,7 @@
 // Marks and stack of the closure: "mark 1, work slot 2" for each of L.
 ghost use Rattle.std.specs.Prelude.{◌≡◌};
 ghost use Rattle.model.specs.Closure.{mark};
-ghost use Rattle.closure_marks.specs.Marks.{Lain, Goes, candidates, slotsIn, markAll};
+ghost use Rattle.closure_marks.specs.Marks.{Lain, Goes, candidates, slots_in, mark_all};
 
 use crate::Candidates;
 
@@ -50,7 +50,7 @@ fn mark_slot(slot: usize, marks: &mut [u8], stack: &mut [u16], top: usize) -> us
 // The candidates, in order.
 pub fn mark_slots(candidates: Candidates, marks: &mut [u8], stack: &mut [u16], top: usize) -> usize
     requires { Lain marks.old stack.old top }
-    ensures { Goes (markAll (slotsIn candidates)) marks.old stack.old top marks.new stack.new result }
+    ensures { Goes (mark_all (slots_in candidates)) marks.old stack.old top marks.new stack.new result }
 {
     let slots = candidates.slots;
     let len = candidates.len;

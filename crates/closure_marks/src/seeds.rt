@@ -1,11 +1,11 @@
 // "Seeds as in `tracked_constant_slots`, `tracked_index_check_slots`, `tracked_container_slots`": the seeds of an analysis, marked.
 ghost use Rattle.std.specs.Prelude.{◌≡◌, map};
-ghost use Rattle.model.specs.Sheet.{codeCount};
-ghost use Rattle.model.specs.Dependencies.{field, seedFields};
-ghost use Rattle.model.specs.Closure.{markSeeds};
+ghost use Rattle.model.specs.Sheet.{code_count};
+ghost use Rattle.model.specs.Dependencies.{field, seed_fields};
+ghost use Rattle.model.specs.Closure.{mark_seeds};
 ghost use Rattle.sheet.specs.Measured.{Measured};
 ghost use Rattle.closure_marks.specs.Marks.{Lain, Goes, Holding};
-ghost use Rattle.closure_marks.specs.Fields.{fieldsIn};
+ghost use Rattle.closure_marks.specs.Fields.{fields_in};
 
 use crate::mark::{mark_slots, none, one, two};
 use crate::{Candidates, Fields};
@@ -15,7 +15,7 @@ use sheet_fields::instruction_at;
 
 // `tracked_constant_slots`: MapNew; ArrayNew, SliceNew, PtrNew, QueueNew, IndexCheck; SliceAppend.
 fn constant_fields(op: u8) -> Fields
-    ensures { fieldsIn result ≡ seedFields AnalysisKind.Constant op }
+    ensures { fields_in result ≡ seed_fields AnalysisKind.Constant op }
 {
     match op {
         89 => Fields::BAndNext,
@@ -27,7 +27,7 @@ fn constant_fields(op: u8) -> Fields
 
 // `tracked_index_check_slots`: SlotGet, SlotGetN; SlotSet, SlotSetN.
 fn index_fields(op: u8) -> Fields
-    ensures { fieldsIn result ≡ seedFields AnalysisKind.IndexCheck op }
+    ensures { fields_in result ≡ seed_fields AnalysisKind.IndexCheck op }
 {
     match op {
         5 | 7 => Fields::C,
@@ -39,7 +39,7 @@ fn index_fields(op: u8) -> Fields
 // `tracked_container_slots`: MapNew, MapSet, QueueNew, QueueClose, SelectSend, MapDelete, QueueSend; MapIterInit; MapGet, MapLen,
 // MapIterNext, QueueRecv, QueueLen, SelectRecv, QueueCap. (Neighbours stand in two arms: in one they would be tested as a range.)
 fn container_fields(op: u8) -> Fields
-    ensures { fieldsIn result ≡ seedFields AnalysisKind.Container op }
+    ensures { fields_in result ≡ seed_fields AnalysisKind.Container op }
 {
     match op {
         89 | 91 | 96 | 99 | 103 => Fields::A,
@@ -52,7 +52,7 @@ fn container_fields(op: u8) -> Fields
 }
 
 fn fields_of(which: AnalysisKind, op: u8) -> Fields
-    ensures { fieldsIn result ≡ seedFields which op }
+    ensures { fields_in result ≡ seed_fields which op }
 {
     match which {
         AnalysisKind::Constant => constant_fields(op),
@@ -63,7 +63,7 @@ fn fields_of(which: AnalysisKind, op: u8) -> Fields
 
 // The seeds of an instruction, in the order of the Rust. b + 1 may be 65,536, which is from L up.
 fn seed_fields(which: AnalysisKind, inst: Instruction) -> Candidates
-    ensures { Holding result (map (field inst) (seedFields which inst.op)) }
+    ensures { Holding result (map (field inst) (seed_fields which inst.op)) }
 {
     let a = inst.a as usize;
     let b = inst.b as usize;
@@ -87,7 +87,7 @@ pub fn seed_slots(
     stack: &mut [u16],
 ) -> usize
     requires { Measured sheet.now sizes × Lain marks.old stack.old 0 }
-    ensures { Goes (markSeeds which sheet.now (codeCount sheet.now)) marks.old stack.old 0 marks.new stack.new result }
+    ensures { Goes (mark_seeds which sheet.now (code_count sheet.now)) marks.old stack.old 0 marks.new stack.new result }
 {
     let n = sizes.code_count;
     let mut top = 0;

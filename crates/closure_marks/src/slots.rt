@@ -1,11 +1,11 @@
 // The marked slots, counted and written: "The result ascends."
 ghost use Rattle.std.specs.Prelude.{◌≡◌, false, [], ◌++◌, ◌+◌, ◌<◌, ◌≤◌, eqb, length, drop};
-ghost use Rattle.model.specs.Closure.{listUnless, places};
-ghost use Rattle.closure_marks.specs.Slots.{storedUnless, fitted};
+ghost use Rattle.model.specs.Closure.{list_unless, places};
+ghost use Rattle.closure_marks.specs.Slots.{stored_unless, fitted};
 
 // 1 for a mark that is set.
 fn one_if_set(mark: u8) -> usize
-    ensures { (result ≡ length (listUnless (eqb mark 0) 0 [])) × (result ≤ 1) }
+    ensures { (result ≡ length (list_unless (eqb mark 0) 0 [])) × (result ≤ 1) }
 {
     if mark == 0 { 0 } else { 1 }
 }
@@ -26,7 +26,7 @@ fn count_marks(marks: &[u8]) -> usize
 // A slot whose mark is set goes to the next place.
 fn write_slot(mark: u8, slot: usize, slots: &mut [u16], at: usize) -> usize
     requires { (slot < 65536) × (at ≤ length slots.old) × (eqb mark 0 ≡ false → at < length slots.old) }
-    ensures { (result ≡ at + length (listUnless (eqb mark 0) slot [])) × (slots.new ≡ storedUnless (eqb mark 0) slots.old at slot) }
+    ensures { (result ≡ at + length (list_unless (eqb mark 0) slot [])) × (slots.new ≡ stored_unless (eqb mark 0) slots.old at slot) }
 {
     if mark == 0 {
         return at;

@@ -1,13 +1,15 @@
 // The C interface, which include/vo_facts.h declares: thin functions over `analyze` and the lookups. What C is handed are numbers: document 01's
 // own, 254 for "none", 255 where the memory for the answer is too short.
+#![tactic(auto)]
+
 mod loading;
 
 ghost use Rattle.std.specs.Prelude.{◌≡◌, leb, length};
 ghost use Rattle.std.proofs.Math.Option.{some};
-ghost use Rattle.model.specs.Lookup.{factForSlot, isReachable, fixed};
+ghost use Rattle.model.specs.Lookup.{fact_for_slot, is_reachable, fixed};
 ghost use Rattle.model.specs.declared.AnalysisKind.TheVariants.{Constant, IndexCheck, Container};
-ghost use Rattle.model.specs.Promise.{lentTable, lentScratch, lentCall};
-ghost use Rattle.model.specs.Interface.{exported, exportedOf, looked, lookedUp, reachedNumber};
+ghost use Rattle.model.specs.Promise.{lent_table, lent_scratch, lent_call};
+ghost use Rattle.model.specs.Interface.{exported, exported_of, looked, looked_up, reached_number};
 
 use export_numbers::{put_answer, put_slot_fact, reached};
 use lookup::{
@@ -18,7 +20,7 @@ use model::VerifierResources;
 use verifier::analyze;
 
 // 0, or the number of the first question that refuses; the first 12 entries of answer hold the answer's numbers. 255 where it has fewer: nothing
-// lent changes then. The result, what is lent and answer are those of the call that the definitions give (`exportedOf`).
+// lent changes then. The result, what is lent and answer are those of the call that the definitions give (`exported_of`).
 #[unsafe(no_mangle)]
 pub extern "C" fn vo_facts_analyze(
     sheet: &[u8],
@@ -43,13 +45,13 @@ pub extern "C" fn vo_facts_analyze(
     work_list: &mut [u16],
     answer: &mut [u64],
 ) -> u8
-    ensures { let l = lentCall
-        (lentTable constant_slots constant_present constant_kinds constant_values)
-        (lentTable index_slots index_present index_kinds index_values)
-        (lentTable container_slots container_present container_kinds container_values)
-        (lentScratch marks stack row_kinds row_values work_list) in
+    ensures { let l = lent_call
+        (lent_table constant_slots constant_present constant_kinds constant_values)
+        (lent_table index_slots index_present index_kinds index_values)
+        (lent_table container_slots container_present container_kinds container_values)
+        (lent_scratch marks stack row_kinds row_values work_list) in
         some (exported result l.exit answer.new)
-        ≡ exportedOf (leb 12 (length answer.old)) sheet.now (record { bytes = bytes; work = work }) l.entry answer.old }
+        ≡ exported_of (leb 12 (length answer.old)) sheet.now (record { bytes = bytes; work = work }) l.entry answer.old }
 {
     if answer.len() < 12 {
         return 255;
@@ -89,8 +91,8 @@ pub extern "C" fn vo_facts_constant(
     slot: u16,
     out: &mut [u64],
 ) -> u8
-    ensures { let fact = factForSlot Constant slots.now present.now kinds.now values.now pc slot in
-        looked result out.new ≡ lookedUp (leb 2 (length out.old)) fact out.old }
+    ensures { let fact = fact_for_slot Constant slots.now present.now kinds.now values.now pc slot in
+        looked result out.new ≡ looked_up (leb 2 (length out.old)) fact out.old }
 {
     let fact = constant_fact_for_slot(slots, present, kinds, values, pc, slot);
     put_slot_fact(fact, out)
@@ -107,8 +109,8 @@ pub extern "C" fn vo_facts_index_check(
     slot: u16,
     out: &mut [u64],
 ) -> u8
-    ensures { let fact = factForSlot IndexCheck slots.now present.now kinds.now values.now pc slot in
-        looked result out.new ≡ lookedUp (leb 2 (length out.old)) fact out.old }
+    ensures { let fact = fact_for_slot IndexCheck slots.now present.now kinds.now values.now pc slot in
+        looked result out.new ≡ looked_up (leb 2 (length out.old)) fact out.old }
 {
     let fact = index_check_fact_for_slot(slots, present, kinds, values, pc, slot);
     put_slot_fact(fact, out)
@@ -125,8 +127,8 @@ pub extern "C" fn vo_facts_container(
     slot: u16,
     out: &mut [u64],
 ) -> u8
-    ensures { let fact = factForSlot Container slots.now present.now kinds.now values.now pc slot in
-        looked result out.new ≡ lookedUp (leb 2 (length out.old)) fact out.old }
+    ensures { let fact = fact_for_slot Container slots.now present.now kinds.now values.now pc slot in
+        looked result out.new ≡ looked_up (leb 2 (length out.old)) fact out.old }
 {
     let fact = container_fact_for_slot(slots, present, kinds, values, pc, slot);
     put_slot_fact(fact, out)
@@ -143,7 +145,7 @@ pub extern "C" fn vo_facts_fixed(
     out: &mut [u64],
 ) -> u8
     ensures { let fact = fixed slots.now present.now kinds.now values.now slot in
-        looked result out.new ≡ lookedUp (leb 2 (length out.old)) fact out.old }
+        looked result out.new ≡ looked_up (leb 2 (length out.old)) fact out.old }
 {
     let fact = fixed_fact(slots, present, kinds, values, slot);
     put_slot_fact(fact, out)
@@ -152,7 +154,7 @@ pub extern "C" fn vo_facts_fixed(
 // 1 yes, 0 no, 9.
 #[unsafe(no_mangle)]
 pub extern "C" fn vo_facts_is_reachable(present: &[u8], pc: u64) -> u8
-    ensures { result ≡ reachedNumber (isReachable present.now pc) }
+    ensures { result ≡ reached_number (is_reachable present.now pc) }
 {
     reached(is_reachable(present, pc))
 }

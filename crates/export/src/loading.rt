@@ -1,7 +1,7 @@
 // For a loader: how much memory a call needs, which layouts are equal, and which interface this is.
 ghost use Rattle.std.specs.Prelude.{◌≡◌, leb, length};
 ghost use Rattle.model.specs.Interface.{looked};
-ghost use Rattle.model.specs.Room.{room, roomOf, lowestOf, interfaceVersion};
+ghost use Rattle.model.specs.Room.{room, room_of, lowest_of, interface_version};
 
 use export_loader::{lowest_layout, room_of};
 
@@ -18,7 +18,7 @@ pub extern "C" fn vo_facts_room(
     out: &mut [u64],
 ) -> u8
     ensures { room result marks.new stack.new out.new
-        ≡ roomOf (leb 4 (length out.old)) sheet.now marks.old stack.old out.old }
+        ≡ room_of (leb 4 (length out.old)) sheet.now marks.old stack.old out.old }
 {
     room_of(sheet, marks, stack, out)
 }
@@ -27,7 +27,7 @@ pub extern "C" fn vo_facts_room(
 // has no entry. But for 0, out keeps its content.
 #[unsafe(no_mangle)]
 pub extern "C" fn vo_facts_lowest_layout(sheet: &[u8], layout: u64, out: &mut [u64]) -> u8
-    ensures { looked result out.new ≡ lowestOf (leb 1 (length out.old)) sheet.now layout out.old }
+    ensures { looked result out.new ≡ lowest_of (leb 1 (length out.old)) sheet.now layout out.old }
 {
     lowest_layout(sheet, layout, out)
 }
@@ -35,7 +35,7 @@ pub extern "C" fn vo_facts_lowest_layout(sheet: &[u8], layout: u64, out: &mut [u
 // The number of this interface.
 #[unsafe(no_mangle)]
 pub extern "C" fn vo_facts_version() -> u64
-    ensures { result ≡ interfaceVersion }
+    ensures { result ≡ interface_version }
 {
     VERSION
 }

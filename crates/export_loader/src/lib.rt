@@ -1,4 +1,6 @@
 // What a loader asks beside the call: how much memory it needs, and which layouts are equal.
+#![tactic(auto)]
+
 mod lowest;
 mod room;
 

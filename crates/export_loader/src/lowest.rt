@@ -1,9 +1,9 @@
 // Which layouts are equal: those of one lowest number.
 ghost use Rattle.std.specs.Prelude.{◌≡◌, ◌≤◌, leb, ltb, length};
-ghost use Rattle.model.specs.Sheet.{layoutCount};
+ghost use Rattle.model.specs.Sheet.{layout_count};
 ghost use Rattle.sheet.specs.Measured.{Accepted};
 ghost use Rattle.model.specs.Interface.{looked};
-ghost use Rattle.model.specs.Room.{lowestIf, lowestOf};
+ghost use Rattle.model.specs.Room.{lowest_if, lowest_of};
 
 use sheet::Sizes;
 use sheet_index::layout_starts;
@@ -13,7 +13,7 @@ use sheet_questions::{Admission, check_sheet};
 // Of a sheet that questions 1 to 5 do not refuse: the lowest number of a layout with this one's content, or 254.
 fn put_lowest(sheet: &[u8], sizes: Sizes, layout: u64, out: &mut [u64]) -> u8
     requires { Accepted sheet.now sizes × (1 ≤ length out.old) }
-    ensures { looked result out.new ≡ lowestIf (ltb layout (layoutCount sheet.now)) sheet.now layout out.old }
+    ensures { looked result out.new ≡ lowest_if (ltb layout (layout_count sheet.now)) sheet.now layout out.old }
 {
     if sizes.layout_count as u64 <= layout {
         return 254;
@@ -27,7 +27,7 @@ fn put_lowest(sheet: &[u8], sizes: Sizes, layout: u64, out: &mut [u64]) -> u8
 // 0 with the lowest layout number of equal content at the front of out; the number of the first of the questions 1 to 5 that refuses; 254 where
 // the number names no layout; 255 where out has no entry.
 pub fn lowest_layout(sheet: &[u8], layout: u64, out: &mut [u64]) -> u8
-    ensures { looked result out.new ≡ lowestOf (leb 1 (length out.old)) sheet.now layout out.old }
+    ensures { looked result out.new ≡ lowest_of (leb 1 (length out.old)) sheet.now layout out.old }
 {
     if out.len() < 1 {
         return 255;

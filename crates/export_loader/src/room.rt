@@ -2,8 +2,8 @@
 ghost use Rattle.std.specs.Prelude.{◌≡◌, [], ◌∷◌, ◌≤◌, leb, length};
 ghost use Rattle.model.specs.Call.{zeros};
 ghost use Rattle.sheet.specs.Measured.{Measured};
-ghost use Rattle.model.specs.Interface.{inFront};
-ghost use Rattle.model.specs.Room.{closureSlots, room, roomNumbers, roomOf};
+ghost use Rattle.model.specs.Interface.{in_front};
+ghost use Rattle.model.specs.Room.{closure_slots, room, room_numbers, room_of};
 
 use closure::tracked_slots;
 use memory::{clear_u8, clear_u16};
@@ -22,7 +22,7 @@ fn count_tracked(
 ) -> u64
     requires { Measured sheet.now sizes × (sizes.local_slots ≤ length marks.old) × (sizes.local_slots ≤ length stack.old)
         × (marks.old ≡ zeros marks.old) × (stack.old ≡ zeros stack.old) }
-    ensures { (result ≡ length (closureSlots which sheet.now)) × (marks.new ≡ marks.old) × (stack.new ≡ stack.old) }
+    ensures { (result ≡ length (closure_slots which sheet.now)) × (marks.new ≡ marks.old) × (stack.new ≡ stack.old) }
 {
     let plenty = VerifierResources {
         bytes: u64::MAX,
@@ -37,7 +37,7 @@ fn count_tracked(
 // Four numbers at the front of out, which keeps those behind them.
 fn put_four(n: u64, constant: u64, index: u64, container: u64, out: &mut [u64])
     requires { 4 ≤ length out.old }
-    ensures { out.new ≡ inFront (n ∷ constant ∷ index ∷ container ∷ []) out.old }
+    ensures { out.new ≡ in_front (n ∷ constant ∷ index ∷ container ∷ []) out.old }
 {
     out[0] = n;
     out[1] = constant;
@@ -50,7 +50,7 @@ fn put_counts(sheet: &[u8], sizes: Sizes, marks: &mut [u8], stack: &mut [u16], o
     requires { Measured sheet.now sizes × (sizes.local_slots ≤ length marks.old) × (sizes.local_slots ≤ length stack.old)
         × (marks.old ≡ zeros marks.old) × (stack.old ≡ zeros stack.old) × (4 ≤ length out.old) }
     ensures { (marks.new ≡ marks.old) × (stack.new ≡ stack.old)
-        × (out.new ≡ inFront (roomNumbers sheet.now) out.old) }
+        × (out.new ≡ in_front (room_numbers sheet.now) out.old) }
 {
     let constant = count_tracked(AnalysisKind::Constant, sheet, sizes, marks, stack);
     let index = count_tracked(AnalysisKind::IndexCheck, sheet, sizes, marks, stack);
@@ -62,7 +62,7 @@ fn put_counts(sheet: &[u8], sizes: Sizes, marks: &mut [u8], stack: &mut [u16], o
 fn put_room(sheet: &[u8], sizes: Sizes, marks: &mut [u8], stack: &mut [u16], out: &mut [u64])
     requires { Measured sheet.now sizes × (sizes.local_slots ≤ length marks.old) × (sizes.local_slots ≤ length stack.old) × (4 ≤ length out.old) }
     ensures { (marks.new ≡ zeros marks.old) × (stack.new ≡ zeros stack.old)
-        × (out.new ≡ inFront (roomNumbers sheet.now) out.old) }
+        × (out.new ≡ in_front (room_numbers sheet.now) out.old) }
 {
     clear_u8(marks);
     clear_u16(stack);
@@ -73,7 +73,7 @@ fn put_room(sheet: &[u8], sizes: Sizes, marks: &mut [u8], stack: &mut [u16], out
 // than 4 entries.
 pub fn room_of(sheet: &[u8], marks: &mut [u8], stack: &mut [u16], out: &mut [u64]) -> u8
     ensures { room result marks.new stack.new out.new
-        ≡ roomOf (leb 4 (length out.old)) sheet.now marks.old stack.old out.old }
+        ≡ room_of (leb 4 (length out.old)) sheet.now marks.old stack.old out.old }
 {
     if out.len() < 4 {
         return 255;

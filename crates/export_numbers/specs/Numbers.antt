@@ -1,8 +1,8 @@
 -- The twelve entries of an answer, from their parts.
 -- Assumes nothing.
 use Rattle.std.specs.Prelude.{List, [], ◌∷◌, ◌++◌, ℕ}
-use Rattle.model.specs.Call.{countsGiven, resources, answerNumbered}
-use Rattle.model.specs.Interface.{orZeros, twelve}
+use Rattle.model.specs.Call.{counts_given, resources, answer_numbered}
+use Rattle.model.specs.Interface.{or_zeros, twelve}
 use Rattle.model.specs.declared.VerifierResources.{VerifierResources}
 use Rattle.model.specs.declared.Counts.{Counts}
 
@@ -10,7 +10,7 @@ use Rattle.model.specs.declared.Counts.{Counts}
 unfoldable pub entries : ℕ → Counts → Counts → Counts → VerifierResources → ℕ → ℕ → ℕ → List ℕ
 entries number constant index container left stage requested remaining = twelve (record {
   number = number;
-  counted = countsGiven constant ++ countsGiven index ++ countsGiven container;
+  counted = counts_given constant ++ counts_given index ++ counts_given container;
   budget = resources left;
   refused = stage ∷ requested ∷ remaining ∷ [];
 })
@@ -19,7 +19,7 @@ entries number constant index container left stage requested remaining = twelve 
 unfoldable pub nothing : Counts
 nothing = record { tracked = 0; pops = 0 }
 
--- `unfolding numbersCompute` unfolds all of this, and what it is told by.
-unfoldable pub numbersCompute : Unit {0}
-unfolding countsGiven resources orZeros twelve answerNumbered entries nothing
-numbersCompute = tt
+-- `unfolding numbers_compute` unfolds all of this, and what it is told by.
+unfoldable pub numbers_compute : Unit {0}
+unfolding counts_given resources or_zeros twelve answer_numbered entries nothing
+numbers_compute = tt

@@ -1,6 +1,6 @@
 // The twelve numbers of a call's answer, as C is handed them.
 ghost use Rattle.std.specs.Prelude.{◌≡◌, ◌++◌, ◌≤◌, length, drop};
-ghost use Rattle.model.specs.Call.{answerNumbered};
+ghost use Rattle.model.specs.Call.{answer_numbered};
 ghost use Rattle.model.specs.Interface.{twelve};
 ghost use Rattle.export_numbers.specs.Numbers.{entries, nothing};
 
@@ -60,7 +60,7 @@ fn put_refusal(
 // The answer's numbers at the front of out, which has at least 12 entries and keeps those behind them; the first of them is the result.
 pub fn put_answer(answer: Answer, out: &mut [u64]) -> u8
     requires { 12 ≤ length out.old }
-    ensures { (out.new ≡ twelve (answerNumbered answer) ++ drop 12 out.old) × (result ≡ (answerNumbered answer).number) }
+    ensures { (out.new ≡ twelve (answer_numbered answer) ++ drop 12 out.old) × (result ≡ (answer_numbered answer).number) }
 {
     match answer {
         Answer::Analyzed {

@@ -13,20 +13,20 @@ use mir.Val.{bool_byte}
 use borrow.Author.Tests.{ltb-true, ltb-false, eq-eqb, ne_eqb, le-leb, lt-leb}
 use Rattle.model.specs.Fact.{unknown, Row}
 use Rattle.model.specs.Lookup.{ascends}
-use Rattle.model.specs.Transfer.{factFor}
+use Rattle.model.specs.Transfer.{fact_for}
 use Rattle.fact_row.specs.Rows.{Bound}
 use Rattle.model.proofs.Tests.{both_left, both_right}
 
 -- each is above all before it
-pub ascends-lt : (xs : List ℕ) → ascends xs ≡ true → (i j : ℕ) → i < j → j < length xs → get_or xs i 0 < get_or xs j 0
+pub ascends_lt : (xs : List ℕ) → ascends xs ≡ true → (i j : ℕ) → i < j → j < length xs → get_or xs i 0 < get_or xs j 0
 unfolding ascends
-ascends-lt [] h i j l m = absurd (not-suc-le-zero m)
-ascends-lt (x ∷ []) h i j l m = omega arith
-ascends-lt (x ∷ y ∷ rest) h i zero l m = absurd (not-suc-le-zero l)
-ascends-lt (x ∷ y ∷ rest) h zero (suc zero) l m = ltb-true x y (both_left _ _ h)
-ascends-lt (x ∷ y ∷ rest) h zero (suc (suc j)) l m =
-    omega (arith, ltb-true x y (both_left _ _ h), ascends-lt (y ∷ rest) (both_right (ltb x y) _ h) zero (suc j) (omega arith) (le_of_suc-le-suc m))
-ascends-lt (x ∷ y ∷ rest) h (suc i) (suc j) l m = ascends-lt (y ∷ rest) (both_right (ltb x y) _ h) i j (le_of_suc-le-suc l) (le_of_suc-le-suc m)
+ascends_lt [] h i j l m = absurd (not-suc-le-zero m)
+ascends_lt (x ∷ []) h i j l m = omega arith
+ascends_lt (x ∷ y ∷ rest) h i zero l m = absurd (not-suc-le-zero l)
+ascends_lt (x ∷ y ∷ rest) h zero (suc zero) l m = ltb-true x y (both_left _ _ h)
+ascends_lt (x ∷ y ∷ rest) h zero (suc (suc j)) l m =
+    omega (arith, ltb-true x y (both_left _ _ h), ascends_lt (y ∷ rest) (both_right (ltb x y) _ h) zero (suc j) (omega arith) (le_of_suc-le-suc m))
+ascends_lt (x ∷ y ∷ rest) h (suc i) (suc j) l m = ascends_lt (y ∷ rest) (both_right (ltb x y) _ h) i j (le_of_suc-le-suc l) (le_of_suc-le-suc m)
 
 -- ---- a search that halves
 
@@ -41,8 +41,8 @@ pub halved_none : (xs : List ℕ) (slot : ℕ) → 1 ≤ length xs → Halved xs
 halved_none xs slot h = record { some = h; within = omega arith; below = λ k m. omega arith; above = λ k m l. omega arith }
 
 module _ {xs : List ℕ} {slot base size : ℕ} (b : Halved xs slot base size) (h : ascends xs ≡ true) (more : 1 < size) where
-  halved-by : (t : Bool) → ltb slot (get_or xs (base + size / 2) 0) ≡ t → Halved xs slot (cond t base (base + size / 2)) (size - size / 2)
-  halved-by true e = record {
+  halved_by : (t : Bool) → ltb slot (get_or xs (base + size / 2) 0) ≡ t → Halved xs slot (cond t base (base + size / 2)) (size - size / 2)
+  halved_by true e = record {
     some = omega arith;
     within = omega (arith, b.within);
     below = b.below;
@@ -51,21 +51,21 @@ module _ {xs : List ℕ} {slot base size : ℕ} (b : Halved xs slot base size) (
     where
       from : (k : ℕ) → k < length xs → (base + size / 2 ≡ k) ⊎ (base + size / 2 < k) → slot < get_or xs k 0
       from k u (inl q) = rw (sym q) (ltb-true slot (get_or xs (base + size / 2) 0) e)
-      from k u (inr q) = omega (arith, ascends-lt xs h (base + size / 2) k q u, ltb-true slot (get_or xs (base + size / 2) 0) e)
-  halved-by false e = record {
+      from k u (inr q) = omega (arith, ascends_lt xs h (base + size / 2) k q u, ltb-true slot (get_or xs (base + size / 2) 0) e)
+  halved_by false e = record {
     some = omega arith;
     within = omega (arith, b.within);
-    below = λ k m. omega (arith, ascends-lt xs h k (base + size / 2) m (omega (arith, b.within)), ltb-false slot (get_or xs (base + size / 2) 0) e);
+    below = λ k m. omega (arith, ascends_lt xs h k (base + size / 2) m (omega (arith, b.within)), ltb-false slot (get_or xs (base + size / 2) 0) e);
     above = λ k m u. b.above k (omega arith) u;
   }
 
   pub halved : {r t : ℕ} → t ≡ get_or xs (base + size / 2) 0 → r ≡ cond (ltb slot t) base (base + size / 2) → Halved xs slot r (size - size / 2)
-  halved p e = rw (e, p) (halved-by _ refl)
+  halved p e = rw (e, p) (halved_by _ refl)
 
 -- one place is left: it lies below the given slot, or not
 module _ {xs : List ℕ} {slot base size : ℕ} (b : Halved xs slot base size) (h : ascends xs ≡ true) (one : size ≤ 1) where
-  pub bound-above : get_or xs base 0 < slot → Bound xs slot (base + 1)
-  bound-above l = record {
+  pub bound_above : get_or xs base 0 < slot → Bound xs slot (base + 1)
+  bound_above l = record {
     within = omega (arith, b.within, b.some);
     below = λ k m. let u : k ≤ base = omega arith in go k (eq-or-lt_of_le u);
     above = λ k m u. omega (arith, b.above k (omega (arith, b.some)) u);
@@ -86,16 +86,16 @@ module _ {xs : List ℕ} {slot base size : ℕ} (b : Halved xs slot base size) (
       go k u (inl q) = rw (sym q) l
       go k u (inr q) = omega (arith, b.above k (omega (arith, b.some)) u)
 
-pub bound-none : (xs : List ℕ) (slot : ℕ) → length xs ≡ 0 → Bound xs slot 0
-bound-none xs slot e = record { within = omega arith; below = λ k m. omega arith; above = λ k m u. omega arith }
+pub bound_none : (xs : List ℕ) (slot : ℕ) → length xs ≡ 0 → Bound xs slot 0
+bound_none xs slot e = record { within = omega arith; below = λ k m. omega arith; above = λ k m u. omega arith }
 
 -- a product with 0 or 1 chooses the half
-pub times-le : (half : ℕ) (t : Bool) → half * bool_byte t ≤ half
-times-le half true = omega arith
-times-le half false = omega arith
+pub times_le : (half : ℕ) (t : Bool) → half * bool_byte t ≤ half
+times_le half true = omega arith
+times_le half false = omega arith
 
-pub half-stepped : (slot t base half : ℕ) → base + half * bool_byte (leb t slot) ≡ cond (ltb slot t) base (base + half)
-half-stepped slot t base half = go (ltb slot t) refl
+pub half_stepped : (slot t base half : ℕ) → base + half * bool_byte (leb t slot) ≡ cond (ltb slot t) base (base + half)
+half_stepped slot t base half = go (ltb slot t) refl
   where
     go : (u : Bool) → ltb slot t ≡ u → base + half * bool_byte (leb t slot) ≡ cond u base (base + half)
     go true e = rw (lt-leb t slot (ltb-true slot t e)) (omega arith)
@@ -104,43 +104,43 @@ half-stepped slot t base half = go (ltb slot t) refl
 -- ---- a slot that is not among them
 
 module _ {xs : List ℕ} {slot at : ℕ} (b : Bound xs slot at) where
-  pub none-past : length xs ≤ at → (i : ℕ) → i < length xs → get_or xs i 0 ≡ slot → ⊥
-  none-past h i m q = omega (arith, b.below i (omega arith))
+  pub none_past : length xs ≤ at → (i : ℕ) → i < length xs → get_or xs i 0 ≡ slot → ⊥
+  none_past h i m q = omega (arith, b.below i (omega arith))
 
   pub none_between : ascends xs ≡ true → at < length xs → (get_or xs at 0 ≡ slot → ⊥) → (i : ℕ) → i < length xs → get_or xs i 0 ≡ slot → ⊥
   none_between h l other i m q = apart (ltb i at) refl (ltb at i) refl
     where
       apart : (t : Bool) → ltb i at ≡ t → (u : Bool) → ltb at i ≡ u → ⊥
       apart true e u f = omega (arith, b.below i (ltb-true i at e))
-      apart false e true f = omega (arith, b.above at (omega arith) l, ascends-lt xs h at i (ltb-true at i f) m)
+      apart false e true f = omega (arith, b.above at (omega arith) l, ascends_lt xs h at i (ltb-true at i f) m)
       apart false e false f = let z : i ≡ at = omega (arith, ltb-false i at e, ltb-false at i f) in other (rw z at q)
 
 -- ---- the fact of a slot
 
-pub fact-at : (xs : List ℕ) (row : Row) (slot k : ℕ) → length row ≡ length xs → k < length xs → get_or xs k 0 ≡ slot
-    → ((i : ℕ) → i < k → get_or xs i 0 ≡ slot → ⊥) → factFor xs row slot ≡ get_or row k unknown
-unfolding factFor
-fact-at [] row slot k n l e b = absurd (not-suc-le-zero l)
-fact-at (x ∷ xs) [] slot k n l e b = refl
-fact-at (x ∷ xs) (f ∷ fs) slot zero n l e b = rw (eq-eqb slot x (sym e))
-fact-at (x ∷ xs) (f ∷ fs) slot (suc k) n l e b =
+pub fact_at : (xs : List ℕ) (row : Row) (slot k : ℕ) → length row ≡ length xs → k < length xs → get_or xs k 0 ≡ slot
+    → ((i : ℕ) → i < k → get_or xs i 0 ≡ slot → ⊥) → fact_for xs row slot ≡ get_or row k unknown
+unfolding fact_for
+fact_at [] row slot k n l e b = absurd (not-suc-le-zero l)
+fact_at (x ∷ xs) [] slot k n l e b = refl
+fact_at (x ∷ xs) (f ∷ fs) slot zero n l e b = rw (eq-eqb slot x (sym e))
+fact_at (x ∷ xs) (f ∷ fs) slot (suc k) n l e b =
     rw (ne_eqb slot x (λ q. b 0 (omega arith) (sym q)))
-    (fact-at xs fs slot k (omega arith) (le_of_suc-le-suc l) e (λ i m q. b (suc i) (omega arith) q))
+    (fact_at xs fs slot k (omega arith) (le_of_suc-le-suc l) e (λ i m q. b (suc i) (omega arith) q))
 
-pub fact-nowhere : (xs : List ℕ) (row : Row) (slot : ℕ) → ((i : ℕ) → i < length xs → get_or xs i 0 ≡ slot → ⊥) → factFor xs row slot ≡ unknown
-unfolding factFor
-fact-nowhere [] row slot b = refl
-fact-nowhere (x ∷ xs) [] slot b = refl
-fact-nowhere (x ∷ xs) (f ∷ fs) slot b =
+pub fact_nowhere : (xs : List ℕ) (row : Row) (slot : ℕ) → ((i : ℕ) → i < length xs → get_or xs i 0 ≡ slot → ⊥) → fact_for xs row slot ≡ unknown
+unfolding fact_for
+fact_nowhere [] row slot b = refl
+fact_nowhere (x ∷ xs) [] slot b = refl
+fact_nowhere (x ∷ xs) (f ∷ fs) slot b =
     rw (ne_eqb slot x (λ q. b 0 (omega arith) (sym q)))
-    (fact-nowhere xs fs slot (λ i m q. b (suc i) (omega arith) q))
+    (fact_nowhere xs fs slot (λ i m q. b (suc i) (omega arith) q))
 
 module _ {xs : List ℕ} {slot at : ℕ} (b : Bound xs slot at) (row : Row) where
-  pub fact-found : length row ≡ length xs → at < length xs → get_or xs at 0 ≡ slot → factFor xs row slot ≡ get_or row at unknown
-  fact-found n l e = fact-at xs row slot at n l e (λ i m q. omega (arith, b.below i m))
+  pub fact_found : length row ≡ length xs → at < length xs → get_or xs at 0 ≡ slot → fact_for xs row slot ≡ get_or row at unknown
+  fact_found n l e = fact_at xs row slot at n l e (λ i m q. omega (arith, b.below i m))
 
-  pub fact-past : length xs ≤ at → factFor xs row slot ≡ unknown
-  fact-past h = fact-nowhere xs row slot (none-past b h)
+  pub fact_past : length xs ≤ at → fact_for xs row slot ≡ unknown
+  fact_past h = fact_nowhere xs row slot (none_past b h)
 
-  pub fact-between : ascends xs ≡ true → at < length xs → (get_or xs at 0 ≡ slot → ⊥) → factFor xs row slot ≡ unknown
-  fact-between h l other = fact-nowhere xs row slot (none_between b h l other)
+  pub fact_between : ascends xs ≡ true → at < length xs → (get_or xs at 0 ≡ slot → ⊥) → fact_for xs row slot ≡ unknown
+  fact_between h l other = fact_nowhere xs row slot (none_between b h l other)

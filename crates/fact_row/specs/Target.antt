@@ -6,6 +6,6 @@ use Rattle.model.specs.Tables.{cell_of}
 use Rattle.model.specs.declared.FactCell.{FactCell}
 
 -- "any other written slot becomes Unknown": the cell where the test holds
-unfoldable pub targetCell : Bool → FactCell → FactCell
-targetCell true cell = cell
-targetCell false cell = cell_of unknown
+unfoldable pub target_cell : Bool → FactCell → FactCell
+target_cell true cell = cell
+target_cell false cell = cell_of unknown

@@ -1,7 +1,7 @@
 // Where a slot stands among the tracked ones, which ascend: by halves, as in the Rust.
 ghost use Rattle.std.specs.Prelude.{◌≡◌, true, cond, ◌+◌, ◌<◌, ltb};
 ghost use Rattle.model.specs.Lookup.{ascends, place};
-ghost use Rattle.model.specs.Transfer.{factFor};
+ghost use Rattle.model.specs.Transfer.{fact_for};
 ghost use Rattle.model.specs.Tables.{facts_of, cell_of};
 ghost use Rattle.fact_row.specs.Place.{placed, set_at};
 ghost use Rattle.fact_row.specs.Rows.{ReadableRow, Bound, WritableRow};
@@ -66,7 +66,7 @@ pub fn find(slots: &[u16], slot: usize) -> Place
 // `fact_for_tracked_source`: the fact of a slot; Unknown of an untracked one, and of a number past 65,535.
 pub fn fact_for_tracked_source(slots: &[u16], kinds: &[u8], values: &[u64], slot: usize) -> FactCell
     requires { ReadableRow slots.now kinds.now values.now }
-    ensures { result ≡ cell_of (factFor slots.now (facts_of kinds.now values.now) slot) }
+    ensures { result ≡ cell_of (fact_for slots.now (facts_of kinds.now values.now) slot) }
 {
     let at = lower_bound(slots, slot);
     if slots.len() <= at {

@@ -1,8 +1,8 @@
 // Facts as cells: "Kind 0 Unknown .., value 0", Conflict, the containers' known facts, and IndexCheck's fact from a length.
 ghost use Rattle.std.specs.Prelude.{◌≡◌};
 ghost use Rattle.model.specs.Fact.{unknown, conflict};
-ghost use Rattle.model.specs.Tables.{factIn, cell_of};
-ghost use Rattle.model.specs.Transfer.{checkedFrom, mapFact, queueFact};
+ghost use Rattle.model.specs.Tables.{fact_in, cell_of};
+ghost use Rattle.model.specs.Transfer.{checked_from, map_fact, queue_fact};
 
 use model::FactCell;
 
@@ -22,7 +22,7 @@ pub fn conflict_cell() -> FactCell
 
 // "Containers: 2 map ..; value A × 65,536 + B"
 pub fn map_cell(key_layout: u16, val_layout: u16) -> FactCell
-    ensures { result ≡ cell_of (mapFact key_layout val_layout) }
+    ensures { result ≡ cell_of (map_fact key_layout val_layout) }
 {
     FactCell {
         kind: 2,
@@ -32,7 +32,7 @@ pub fn map_cell(key_layout: u16, val_layout: u16) -> FactCell
 
 // "4 queue", "B 0 for a queue"
 pub fn queue_cell(elem_layout: u16) -> FactCell
-    ensures { result ≡ cell_of (queueFact elem_layout) }
+    ensures { result ≡ cell_of (queue_fact elem_layout) }
 {
     FactCell {
         kind: 4,
@@ -42,7 +42,7 @@ pub fn queue_cell(elem_layout: u16) -> FactCell
 
 // IndexCheck's fact from the length's: 0 to 65,535 is Checked, any other number and Conflict are Conflict, Unknown is Unknown.
 pub fn checked_cell(length: FactCell) -> FactCell
-    ensures { result ≡ cell_of (checkedFrom (factIn length)) }
+    ensures { result ≡ cell_of (checked_from (fact_in length)) }
 {
     if length.kind == 0 {
         return unknown_cell();

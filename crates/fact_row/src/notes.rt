@@ -2,7 +2,7 @@
 ghost use Rattle.std.specs.Prelude.{◌≡◌, ◌<◌};
 ghost use Rattle.model.specs.Sheet.{instruction};
 ghost use Rattle.model.specs.Tables.{cell_of};
-ghost use Rattle.model.specs.Transfer.{orUnknown, instructionFact};
+ghost use Rattle.model.specs.Transfer.{or_unknown, instruction_fact};
 ghost use Rattle.sheet.specs.Measured.{Measured};
 
 use crate::cells::{map_cell, queue_cell, unknown_cell};
@@ -23,7 +23,7 @@ const QUEUE_LAYOUT_NOTE: u8 = 2;
 // MapNew under a MapNew note, QueueNew under a QueueLayout note; Unknown where there is none.
 pub fn instruction_fact(sheet: &[u8], sizes: Sizes, pc: usize, op: u8) -> FactCell
     requires { Measured sheet.now sizes × (pc < sizes.code_count) × (op ≡ (instruction sheet.now pc).op) }
-    ensures { result ≡ cell_of (orUnknown (instructionFact sheet.now pc)) }
+    ensures { result ≡ cell_of (or_unknown (instruction_fact sheet.now pc)) }
 {
     let note = note_kind_at(sheet, sizes, pc);
     if op == MAP_NEW && note == MAP_NEW_NOTE {

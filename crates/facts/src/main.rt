@@ -1,4 +1,6 @@
 // Lists the facts of the sheet on standard input, or nothing where it cannot be read. The listing is written whole, or up to the first write that fails.
+#![tactic(auto)]
+
 use check_input::read_input;
 use facts_report::list;
 use libc::STDOUT_FILENO;

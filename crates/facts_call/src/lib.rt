@@ -1,9 +1,11 @@
 // The call, and the text of what it answered and left.
+#![tactic(auto)]
+
 ghost use Rattle.std.specs.Prelude.{◌≤◌, length};
 ghost use Rattle.model.specs.Charges.{fresh};
 ghost use Rattle.model.specs.Call.{call};
-ghost use Rattle.model.specs.Listing.{callLines, listingLent};
-ghost use Rattle.model.specs.Sheet.{codeCount, firstRange};
+ghost use Rattle.model.specs.Listing.{call_lines, listing_lent};
+ghost use Rattle.model.specs.Sheet.{code_count, first_range};
 ghost use Rattle.memory.specs.Front.{Holds};
 ghost use Rattle.sheet.specs.Measured.{Accepted};
 ghost use Rattle.sheet_layouts.specs.Classes.{Classes};
@@ -24,12 +26,12 @@ pub fn list_facts(
     out: &mut [u8],
 ) -> usize
     requires { Accepted sheet.now sizes
-        × Holds (firstRange sheet.now) (codeCount sheet.now) firsts.now
+        × Holds (first_range sheet.now) (code_count sheet.now) firsts.now
         × Classes sheet.now classes.now
         × (sizes.code_count ≤ 256)
         × (sizes.local_slots ≤ 4096)
         × (2187530 ≤ length out.old) }
-    ensures { ShowsText (callLines sheet.now (call sheet.now fresh listingLent)) out.old result out.new }
+    ensures { ShowsText (call_lines sheet.now (call sheet.now fresh listing_lent)) out.old result out.new }
 {
     let mut constant_slots = [0u16; 32];
     let mut constant_present = [0u8; 256];

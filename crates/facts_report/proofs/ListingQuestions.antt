@@ -8,49 +8,49 @@ use Prim.Native.Nat.{ℕ}
 use native.Mathlib.Omega.{arith}
 use lib.Dec.{leb}
 use lib.ListN.{length}
-use Rattle.model.specs.Sheet.{codeCount, localSlots, sheetRefusal}
+use Rattle.model.specs.Sheet.{code_count, local_slots, sheet_refusal}
 use Rattle.model.specs.Charges.{fresh}
 use Rattle.model.specs.Call.{call}
-use Rattle.model.specs.Listing.{tooLarge, refusedLine, callLines, listingLent, sized, asked, fits, listing}
-use Rattle.sheet.specs.Sizes.{sizesOf}
-use Rattle.sheet_questions.specs.Check.{checkOf, sheetCheck}
+use Rattle.model.specs.Listing.{too_large, refused_line, call_lines, listing_lent, sized, asked, fits, listing}
+use Rattle.sheet.specs.Sizes.{sizes_of}
+use Rattle.sheet_questions.specs.Check.{check_of, sheet_check}
 use Rattle.sheet_questions.specs.declared.Admission.TheVariants.{Refused}
 use Rattle.text_lines.specs.Text.{ShowsText}
 
 -- the same text under another name
-pub shown-as : {text other : Option (List ℕ)} {old new : List ℕ} {count : ℕ} → other ≡ text → ShowsText text old count new → ShowsText other old count new
-shown-as e w = record { within = w.within; front = e ∙ w.front; rest = w.rest }
+pub shown_as : {text other : Option (List ℕ)} {old new : List ℕ} {count : ℕ} → other ≡ text → ShowsText text old count new → ShowsText other old count new
+shown_as e w = record { within = w.within; front = e ∙ w.front; rest = w.rest }
 
 module _ (sheet : List ℕ) where
-  pub listing-long : leb (length sheet) 65536 ≡ false → listing sheet ≡ some tooLarge
+  pub listing_long : leb (length sheet) 65536 ≡ false → listing sheet ≡ some too_large
   unfolding listing fits
-  listing-long e = ap (λ (b : Bool). fits b sheet) e
+  listing_long e = ap (λ (b : Bool). fits b sheet) e
 
-  pub listing-asked : leb (length sheet) 65536 ≡ true → listing sheet ≡ asked (sheetRefusal sheet) sheet
+  pub listing_asked : leb (length sheet) 65536 ≡ true → listing sheet ≡ asked (sheet_refusal sheet) sheet
   unfolding listing fits
-  listing-asked e = ap (λ (b : Bool). fits b sheet) e
+  listing_asked e = ap (λ (b : Bool). fits b sheet) e
 
-  pub asked-refused : (number : ℕ) → sheetRefusal sheet ≡ some number → asked (sheetRefusal sheet) sheet ≡ some (refusedLine number)
+  pub asked_refused : (number : ℕ) → sheet_refusal sheet ≡ some number → asked (sheet_refusal sheet) sheet ≡ some (refused_line number)
   unfolding asked
-  asked-refused number e = ap (λ (o : Option ℕ). asked o sheet) e
+  asked_refused number e = ap (λ (o : Option ℕ). asked o sheet) e
 
-  pub many-instructions : leb (codeCount sheet) 256 ≡ false → asked none sheet ≡ some tooLarge
+  pub many_instructions : leb (code_count sheet) 256 ≡ false → asked none sheet ≡ some too_large
   unfolding asked sized
-  many-instructions e = ap (λ (b : Bool). sized (b && leb (localSlots sheet) 4096) sheet) e
+  many_instructions e = ap (λ (b : Bool). sized (b && leb (local_slots sheet) 4096) sheet) e
 
-  pub many-locals : leb (codeCount sheet) 256 ≡ true → leb (localSlots sheet) 4096 ≡ false → asked none sheet ≡ some tooLarge
+  pub many_locals : leb (code_count sheet) 256 ≡ true → leb (local_slots sheet) 4096 ≡ false → asked none sheet ≡ some too_large
   unfolding asked sized
-  many-locals e k = ap₂ (λ (b c : Bool). sized (b && c) sheet) e k
+  many_locals e k = ap₂ (λ (b c : Bool). sized (b && c) sheet) e k
 
-  pub asked-call : leb (codeCount sheet) 256 ≡ true → leb (localSlots sheet) 4096 ≡ true → asked none sheet ≡ callLines sheet (call sheet fresh listingLent)
+  pub asked_call : leb (code_count sheet) 256 ≡ true → leb (local_slots sheet) 4096 ≡ true → asked none sheet ≡ call_lines sheet (call sheet fresh listing_lent)
   unfolding asked sized
-  asked-call e k = ap₂ (λ (b c : Bool). sized (b && c) sheet) e k
+  asked_call e k = ap₂ (λ (b c : Bool). sized (b && c) sheet) e k
 
   -- what a check refuses with is the first question that does
-  pub check-refused : (number : ℕ) → Refused number ≡ sheetCheck sheet → sheetRefusal sheet ≡ some number
-  unfolding sheetCheck checkOf
-  check-refused number e = go (sheetRefusal sheet) e
+  pub check_refused : (number : ℕ) → Refused number ≡ sheet_check sheet → sheet_refusal sheet ≡ some number
+  unfolding sheet_check check_of
+  check_refused number e = go (sheet_refusal sheet) e
     where
-      go : (o : Option ℕ) → Refused number ≡ checkOf (sizesOf sheet) o → o ≡ some number
+      go : (o : Option ℕ) → Refused number ≡ check_of (sizes_of sheet) o → o ≡ some number
       go none k = let z : ◌≡◌ {A = ℕ} 0 1 = cc in absurd (omega arith)
       go (some other) k = cc

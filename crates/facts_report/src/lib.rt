@@ -1,4 +1,6 @@
 // What the program `facts` writes for a sheet: its listing, `refused` and a number, or `too large`.
+#![tactic(auto)]
+
 ghost use Rattle.std.specs.Prelude.{◌≡◌, ◌≤◌, length, take, drop};
 ghost use Rattle.std.proofs.Math.Option.{none, some};
 ghost use Rattle.model.specs.Listing.{asked, listing};

@@ -16,16 +16,16 @@ T_false true t = absurd t
 T_false false t = refl
 
 module _ (a : Analysis) (st : State) where
-  pub step-empty : st.list ≡ [] → step a st ≡ ended (finished st.rows st.count st.left)
+  pub step_empty : st.list ≡ [] → step a st ≡ ended (finished st.rows st.count st.left)
   unfolding step pop
-  step-empty l = rw l
+  step_empty l = rw l
 
   module _ (p : ℕ) (ps : List ℕ) (l : st.list ≡ p ∷ ps) where
-    pub step-refused : st.left < a.s → step a st ≡ ended (overdrawn a.s st.left)
+    pub step_refused : st.left < a.s → step a st ≡ ended (overdrawn a.s st.left)
     unfolding step pop charged
-    step-refused h = rw (l, T_false (leb a.s st.left) (lt→nleb a.s st.left h))
+    step_refused h = rw (l, T_false (leb a.s st.left) (lt→nleb a.s st.left h))
 
-    pub step-next : a.s ≤ st.left → (r : Row) → row_at st.rows p ≡ some r
+    pub step_next : a.s ≤ st.left → (r : Row) → row_at st.rows p ≡ some r
         → step a st ≡ next (visits a.same (a.transfer p r) (a.successors p) (popped a ps st))
     unfolding step pop charged carry
-    step-next h r e = rw (l, T_true (leb a.s st.left) (le→leb a.s st.left h), e)
+    step_next h r e = rw (l, T_true (leb a.s st.left) (le→leb a.s st.left h), e)

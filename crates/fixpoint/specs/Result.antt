@@ -1,15 +1,15 @@
 -- What the run answers and leaves.
 -- Assumes nothing.
 use Rattle.std.specs.Prelude.{ℕ, length}
-use Rattle.model.specs.Closure.{stageNumber}
+use Rattle.model.specs.Closure.{stage_number}
 use Rattle.model.specs.Fact.{kind, value}
-use Rattle.model.specs.Tables.{presentBytes, cells}
+use Rattle.model.specs.Tables.{present_bytes, cells}
 use Rattle.model.specs.Analyses.{Analysed}
 use Rattle.model.specs.declared.AnalysisKind.{AnalysisKind}
 use Rattle.model.specs.declared.VerifierResources.{VerifierResources}
 use Rattle.budget.specs.declared.Outcome.TheVariants.{Covered, Refused}
 use Rattle.fixpoint.specs.declared.Ran.{Ran}
-use Rattle.fixpoint.specs.Memory.{RunMemory, runMemory}
+use Rattle.fixpoint.specs.Memory.{RunMemory, run_memory}
 
 -- Pop count and memory behind a run.
 pub record RunLeft : Type 0 where
@@ -20,16 +20,16 @@ abbrev pub ran : ℕ → RunMemory → RunLeft
 ran pops memory = record { pops = pops; memory = memory }
 
 -- "its rows are the tables, its count the pop count"; row scratch and work list as given
-unfoldable pub ranTables : RunMemory → Analysed → RunLeft
-ranTables other a =
-    ran a.pops (runMemory (presentBytes a.rows) (cells kind (length a.slots) a.rows) (cells value (length a.slots) a.rows)
-    other.rowKinds other.rowValues other.workList)
+unfoldable pub ran_tables : RunMemory → Analysed → RunLeft
+ran_tables other a =
+    ran a.pops (run_memory (present_bytes a.rows) (cells kind (length a.slots) a.rows) (cells value (length a.slots) a.rows)
+    other.row_kinds other.row_values other.work_list)
 
 -- "The empty list ends the run", with the work left
-unfoldable pub runEnded : ℕ → VerifierResources → ℕ → Ran
-runEnded pops resources work = record { pops = pops; outcome = Covered (record { bytes = resources.bytes; work = work }) }
+unfoldable pub run_ended : ℕ → VerifierResources → ℕ → Ran
+run_ended pops resources work = record { pops = pops; outcome = Covered (record { bytes = resources.bytes; work = work }) }
 
 -- "a refused one ends it with 7", with the work that it found
-unfoldable pub runRefused : AnalysisKind → ℕ → VerifierResources → ℕ → Ran
-runRefused which requested resources remaining =
-    record { pops = 0; outcome = Refused (stageNumber which) requested remaining (record { bytes = resources.bytes; work = remaining }) }
+unfoldable pub run_refused : AnalysisKind → ℕ → VerifierResources → ℕ → Ran
+run_refused which requested resources remaining =
+    record { pops = 0; outcome = Refused (stage_number which) requested remaining (record { bytes = resources.bytes; work = remaining }) }

@@ -1,6 +1,6 @@
 // How a run ends: by the empty list, or by a refused charge.
 ghost use Rattle.std.specs.Prelude.{◌≡◌};
-ghost use Rattle.fixpoint.specs.Result.{runEnded, runRefused};
+ghost use Rattle.fixpoint.specs.Result.{run_ended, run_refused};
 
 use crate::Ran;
 use budget::{Outcome, stage_number};
@@ -8,7 +8,7 @@ use model::{AnalysisKind, VerifierResources};
 
 // "The empty list ends the run": its pop count, and the work left of the resources.
 pub fn ended(pops: u64, resources: VerifierResources, work: u64) -> Ran
-    ensures { result ≡ runEnded pops resources work }
+    ensures { result ≡ run_ended pops resources work }
 {
     let left = VerifierResources {
         bytes: resources.bytes,
@@ -27,7 +27,7 @@ pub fn refused(
     resources: VerifierResources,
     remaining: u64,
 ) -> Ran
-    ensures { result ≡ runRefused which requested resources remaining }
+    ensures { result ≡ run_refused which requested resources remaining }
 {
     let left = VerifierResources {
         bytes: resources.bytes,

@@ -2,13 +2,13 @@
 ghost use Rattle.std.specs.Prelude.{◌≡◌, length};
 ghost use Rattle.std.proofs.Math.Option.{some};
 ghost use Rattle.model.specs.Analyses.{propagate};
-ghost use Rattle.model.specs.Sheet.{codeCount};
-ghost use Rattle.model.specs.Tables.{facts_of, lengthTable};
-ghost use Rattle.budget.specs.Outcome.{leaves, leavesOf};
+ghost use Rattle.model.specs.Sheet.{code_count};
+ghost use Rattle.model.specs.Tables.{facts_of, length_table};
+ghost use Rattle.budget.specs.Outcome.{leaves, leaves_of};
 ghost use Rattle.fixpoint_step.specs.Stepped.{SheetIndex, TrackedSlots};
-ghost use Rattle.fixpoint.specs.Memory.{runMemory, lentRun, zeroRun};
+ghost use Rattle.fixpoint.specs.Memory.{run_memory, lent_run, zero_run};
 ghost use Rattle.fixpoint.specs.Turn.{RunRequires};
-ghost use Rattle.fixpoint.specs.Result.{ran, ranTables};
+ghost use Rattle.fixpoint.specs.Result.{ran, ran_tables};
 
 use crate::Ran;
 use crate::answer::{ended, refused};
@@ -39,13 +39,13 @@ pub fn run_to_fixpoint(
     work_list: &mut [u16],
 ) -> Ran
     requires sheet_index { SheetIndex sheet.now sizes firsts.now classes.now length_kinds.now length_values.now × TrackedSlots sheet.now slots.now }
-    requires fact { let m = runMemory present.old kinds.old values.old row_kinds.old row_values.old work_list.old in
-        RunRequires (codeCount sheet.now) (length slots.now) m }
-    ensures { let m = lentRun present kinds values row_kinds row_values work_list in
-        let first = facts_of m.entry.rowKinds m.entry.rowValues in
-        let lengths = lengthTable length_kinds.now length_values.now in
+    requires memory_ready { let m = run_memory present.old kinds.old values.old row_kinds.old row_values.old work_list.old in
+        RunRequires (code_count sheet.now) (length slots.now) m }
+    ensures { let m = lent_run present kinds values row_kinds row_values work_list in
+        let first = facts_of m.entry.row_kinds m.entry.row_values in
+        let lengths = length_table length_kinds.now length_values.now in
         some (leaves result.outcome (ran result.pops m.exit))
-        ≡ leavesOf (ranTables (zeroRun m.entry)) (ran 0 (zeroRun m.entry)) (propagate which sheet.now slots.now lengths first resources) }
+        ≡ leaves_of (ran_tables (zero_run m.entry)) (ran 0 (zero_run m.entry)) (propagate which sheet.now slots.now lengths first resources) }
 {
     let fresh = join_into(
         which, classes, 0, present, kinds, values, row_kinds, row_values,

@@ -4,9 +4,9 @@ use Rattle.std.specs.Prelude.{◌≡◌, List, [], ◌∷◌, ℕ, length}
 use Rattle.model.specs.Tables.{stacked}
 
 -- the entries, the one added last first, lie in the buffer, and top says how many they are
-pub record Listed (entries workList : List ℕ) (top : ℕ) : Type 0 where
-  pub list-is : workList ≡ stacked (length workList) entries
-  pub top-is : top ≡ length entries
+pub record Listed (entries work_list : List ℕ) (top : ℕ) : Type 0 where
+  pub list_is : work_list ≡ stacked (length work_list) entries
+  pub top_is : top ≡ length entries
 
 -- entries are added, one after the other
 unfoldable pub entered : List ℕ → List ℕ → List ℕ

@@ -1,4 +1,6 @@
 // The work list: "a list of instruction numbers". Its cells are read and written here alone; the laws (proofs/Listed) tell of it as a list.
+#![tactic(auto)]
+
 ghost use Rattle.std.specs.Prelude.{◌≡◌, true, cond, ◌+◌, ◌-◌, ◌≤◌, ◌<◌, length, get_or, set};
 ghost use Rattle.model.specs.Call.{zeros};
 

@@ -4,23 +4,23 @@ use Rattle.std.specs.Prelude.{◌≡◌, Bool, List, ℕ, ◌*◌, ◌≤◌, �
 use Rattle.std.proofs.Math.Option.{Option}
 use Rattle.model.specs.Fact.{Row}
 use Rattle.model.specs.Run.{row_at, news}
-use Rattle.model.specs.Sheet.{codeCount}
-use Rattle.model.specs.Successors.{asRecord}
+use Rattle.model.specs.Sheet.{code_count}
+use Rattle.model.specs.Successors.{as_record}
 use Rattle.model.specs.Tables.{TableSlices, RowsLie, RowSlices, RowLies}
 use Rattle.sheet.specs.Measured.{Accepted}
 use Rattle.sheet.specs.declared.Sizes.{Sizes}
 use Rattle.model.specs.declared.InstructionSuccessors.{InstructionSuccessors}
-use Rattle.fixpoint_step.specs.News.{rowsVisited, rowsAfter, newsOf, firstNews, successorAt}
+use Rattle.fixpoint_step.specs.News.{rows_visited, rows_after, news_of, first_news, successor_at}
 
 -- Tables in which rows lie, and a row to copy or to join. (The lengths follow from what lies there; arithmetic reads them.)
 pub record Visitable (t : TableSlices) (row : RowSlices) : Type 0 where
-  pub row-values-length : length row.values ≡ length row.kinds
-  pub kinds-length : length t.kinds ≡ length t.present * length row.kinds
+  pub row_values_length : length row.values ≡ length row.kinds
+  pub kinds_length : length t.kinds ≡ length t.present * length row.kinds
   pub values_length : length t.values ≡ length t.present * length row.kinds
   pub rows : List (Option Row)
   pub copy : Row
   pub rows_lie : RowsLie (length row.kinds) rows t
-  pub copy-lies : RowLies copy row
+  pub copy_lies : RowLies copy row
 
 -- a visit of q: that is an instruction
 pub record JoinRequires (q : ℕ) (t : TableSlices) (row : RowSlices) : Type 0 where
@@ -31,7 +31,7 @@ pub record JoinRequires (q : ℕ) (t : TableSlices) (row : RowSlices) : Type 0 w
 unfoldable pub JoinEnsures : (ℕ → ℕ → ℕ → ℕ → Bool) → ℕ → TableSlices → RowSlices → TableSlices → Bool → Type 0
 JoinEnsures same q old row new r =
     (rows : List (Option Row)) (copy : Row) → RowsLie (length row.kinds) rows old → RowLies copy row → q < length rows
-    → RowsLie (length row.kinds) (rowsVisited same copy q rows) new × (r ≡ news same (row_at rows q) copy)
+    → RowsLie (length row.kinds) (rows_visited same copy q rows) new × (r ≡ news same (row_at rows q) copy)
 
 -- the k-th of at most two successors: if there is one, it is an instruction
 pub record NextRequires (successors : InstructionSuccessors) (k : ℕ) (t : TableSlices) (row : RowSlices) : Type 0 where
@@ -43,18 +43,18 @@ pub record NextRequires (successors : InstructionSuccessors) (k : ℕ) (t : Tabl
 unfoldable pub NextEnsures : (ℕ → ℕ → ℕ → ℕ → Bool) → InstructionSuccessors → ℕ → TableSlices → RowSlices → TableSlices → Bool → Type 0
 NextEnsures same successors k old row new r =
     (rows : List (Option Row)) (copy : Row) → RowsLie (length row.kinds) rows old → RowLies copy row
-    → RowsLie (length row.kinds) (rowsAfter same copy (successorAt successors k) rows) new × (r ≡ firstNews same copy (successorAt successors k) rows)
+    → RowsLie (length row.kinds) (rows_after same copy (successor_at successors k) rows) new × (r ≡ first_news same copy (successor_at successors k) rows)
 
 -- all successors of p
 pub record SuccessorsRequires (sheet : List ℕ) (sizes : Sizes) (p : ℕ) (t : TableSlices) (row : RowSlices) : Type 0 where
   pub accepted : Accepted sheet sizes
-  pub below : p < codeCount sheet
-  pub little : codeCount sheet ≤ 4096
-  pub present-length : length t.present ≡ codeCount sheet
+  pub below : p < code_count sheet
+  pub little : code_count sheet ≤ 4096
+  pub present_length : length t.present ≡ code_count sheet
   pub visitable : Visitable t row
 
 -- "Then each successor in order": what the visits make of whatever rows lie there, and which had news.
 unfoldable pub SuccessorsEnsures : (ℕ → ℕ → ℕ → ℕ → Bool) → List ℕ → TableSlices → RowSlices → TableSlices → InstructionSuccessors → Type 0
 SuccessorsEnsures same targets old row new r =
     (rows : List (Option Row)) (copy : Row) → RowsLie (length row.kinds) rows old → RowLies copy row
-    → RowsLie (length row.kinds) (rowsAfter same copy targets rows) new × (r ≡ asRecord (newsOf same copy targets rows))
+    → RowsLie (length row.kinds) (rows_after same copy targets rows) new × (r ≡ as_record (news_of same copy targets rows))

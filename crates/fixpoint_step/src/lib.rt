@@ -1,5 +1,7 @@
 // One step of a run, from the entry that was taken: "A copy of that instruction's row goes through its transfer. Then each successor in order".
 // The work list is not seen: what had news is answered by value.
+#![tactic(auto)]
+
 mod one_step;
 mod successors;
 mod visits;

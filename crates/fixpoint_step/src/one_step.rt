@@ -1,8 +1,8 @@
 // One step of a run, from the entry that was taken: "A copy of that instruction's row goes through its transfer. Then each successor in order".
 ghost use Rattle.std.specs.Prelude.{length};
-ghost use Rattle.model.specs.Promise.{lentRow, lentRows};
-ghost use Rattle.model.specs.Sheet.{codeCount};
-ghost use Rattle.model.specs.Tables.{rowSlices, tableSlices, lengthTable};
+ghost use Rattle.model.specs.Promise.{lent_row, lent_rows};
+ghost use Rattle.model.specs.Sheet.{code_count};
+ghost use Rattle.model.specs.Tables.{row_slices, table_slices, length_table};
 ghost use Rattle.fixpoint_step.specs.Stepped.{SheetIndex, TrackedSlots, StepRequires, StepEnsures, CopyEnsures};
 
 use crate::successors::visit_successors;
@@ -29,11 +29,11 @@ pub fn step(
     row_values: &mut [u64],
 ) -> InstructionSuccessors
     requires sheet_index { SheetIndex sheet.now sizes firsts.now classes.now length_kinds.now length_values.now × TrackedSlots sheet.now slots.now }
-    requires fact { let t = tableSlices present.old kinds.old values.old in
-        StepRequires (codeCount sheet.now) (length slots.now) p t (rowSlices row_kinds.old row_values.old) }
-    ensures { let t = lentRows present kinds values in
-        let row = lentRow row_kinds row_values in
-        let lengths = lengthTable length_kinds.now length_values.now in
+    requires memory_ready { let t = table_slices present.old kinds.old values.old in
+        StepRequires (code_count sheet.now) (length slots.now) p t (row_slices row_kinds.old row_values.old) }
+    ensures { let t = lent_rows present kinds values in
+        let row = lent_row row_kinds row_values in
+        let lengths = length_table length_kinds.now length_values.now in
         StepEnsures which sheet.now slots.now lengths p t.entry t.exit result
         × CopyEnsures which sheet.now slots.now lengths p t.entry row.exit }
 {

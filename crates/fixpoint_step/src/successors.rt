@@ -1,10 +1,10 @@
 // The successors of an instruction, at most two.
 ghost use Rattle.std.specs.Prelude.{◌≡◌};
-ghost use Rattle.model.specs.Promise.{lentRow, lentRows};
-ghost use Rattle.model.specs.Successors.{sheetSuccessors};
-ghost use Rattle.model.specs.Tables.{rowSlices, tableSlices};
-ghost use Rattle.sheet_layouts.specs.Classes.{equalBy};
-ghost use Rattle.fixpoint_step.specs.News.{withNews};
+ghost use Rattle.model.specs.Promise.{lent_row, lent_rows};
+ghost use Rattle.model.specs.Successors.{sheet_successors};
+ghost use Rattle.model.specs.Tables.{row_slices, table_slices};
+ghost use Rattle.sheet_layouts.specs.Classes.{equal_by};
+ghost use Rattle.fixpoint_step.specs.News.{with_news};
 ghost use Rattle.fixpoint_step.specs.Visits.{NextRequires, NextEnsures, SuccessorsRequires, SuccessorsEnsures};
 
 use crate::visits::join_into;
@@ -25,10 +25,10 @@ fn join_next(
     row_kinds: &[u8],
     row_values: &[u64],
 ) -> bool
-    requires { NextRequires successors k (tableSlices present.old kinds.old values.old) (rowSlices row_kinds.now row_values.now) }
-    ensures { let t = lentRows present kinds values in
-        let row = lentRow row_kinds row_values in
-        NextEnsures (equalBy which classes.now) successors k t.entry row.entry t.exit result }
+    requires { NextRequires successors k (table_slices present.old kinds.old values.old) (row_slices row_kinds.now row_values.now) }
+    ensures { let t = lent_rows present kinds values in
+        let row = lent_row row_kinds row_values in
+        NextEnsures (equal_by which classes.now) successors k t.entry row.entry t.exit result }
 {
     let len = successors.len as usize;
     if k < len {
@@ -43,7 +43,7 @@ fn join_next(
 
 // Those of the successors that had news, in order.
 fn with_news(successors: InstructionSuccessors, first: bool, second: bool) -> InstructionSuccessors
-    ensures { result ≡ withNews successors first second }
+    ensures { result ≡ with_news successors first second }
 {
     let pcs = successors.pcs;
     if first {
@@ -80,10 +80,10 @@ pub fn visit_successors(
     row_kinds: &[u8],
     row_values: &[u64],
 ) -> InstructionSuccessors
-    requires { SuccessorsRequires sheet.now sizes p (tableSlices present.old kinds.old values.old) (rowSlices row_kinds.now row_values.now) }
-    ensures { let t = lentRows present kinds values in
-        let row = lentRow row_kinds row_values in
-        SuccessorsEnsures (equalBy which classes.now) (sheetSuccessors sheet.now p) t.entry row.entry t.exit result }
+    requires { SuccessorsRequires sheet.now sizes p (table_slices present.old kinds.old values.old) (row_slices row_kinds.now row_values.now) }
+    ensures { let t = lent_rows present kinds values in
+        let row = lent_row row_kinds row_values in
+        SuccessorsEnsures (equal_by which classes.now) (sheet_successors sheet.now p) t.entry row.entry t.exit result }
 {
     let next = instruction_successors(sizes.code_count, p, instruction_at(sheet, p));
     let first = join_next(

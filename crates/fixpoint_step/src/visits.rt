@@ -1,7 +1,7 @@
 // One successor of a step: its row gets the copy or is joined with it.
-ghost use Rattle.model.specs.Promise.{lentRow, lentRows};
-ghost use Rattle.model.specs.Tables.{rowSlices, tableSlices};
-ghost use Rattle.sheet_layouts.specs.Classes.{equalBy};
+ghost use Rattle.model.specs.Promise.{lent_row, lent_rows};
+ghost use Rattle.model.specs.Tables.{row_slices, table_slices};
+ghost use Rattle.sheet_layouts.specs.Classes.{equal_by};
 ghost use Rattle.fixpoint_step.specs.Visits.{JoinRequires, JoinEnsures};
 
 use join::join_row;
@@ -19,10 +19,10 @@ pub fn join_into(
     row_kinds: &[u8],
     row_values: &[u64],
 ) -> bool
-    requires { JoinRequires q (tableSlices present.old kinds.old values.old) (rowSlices row_kinds.now row_values.now) }
-    ensures { let t = lentRows present kinds values in
-        let row = lentRow row_kinds row_values in
-        JoinEnsures (equalBy which classes.now) q t.entry row.entry t.exit result }
+    requires { JoinRequires q (table_slices present.old kinds.old values.old) (row_slices row_kinds.now row_values.now) }
+    ensures { let t = lent_rows present kinds values in
+        let row = lent_row row_kinds row_values in
+        JoinEnsures (equal_by which classes.now) q t.entry row.entry t.exit result }
 {
     let s = row_kinds.len();
     let at = q * s;

@@ -9,11 +9,11 @@ use borrow.Author.Tests.{eq-eqb, ne_eqb}
 use Rattle.model.specs.Fact.{Fact, unknown, conflict, known, kind, value, differs, join}
 use Rattle.model.specs.Tables.{fact_of}
 
-kind-factOf : (k v : ℕ) → kind (fact_of k v) ≡ k
+kind-fact_of : (k v : ℕ) → kind (fact_of k v) ≡ k
 unfolding fact_of kind
-kind-factOf zero v = refl
-kind-factOf (suc zero) v = refl
-kind-factOf (suc (suc k)) v = refl
+kind-fact_of zero v = refl
+kind-fact_of (suc zero) v = refl
+kind-fact_of (suc (suc k)) v = refl
 
 module _ (same : ℕ → ℕ → ℕ → ℕ → Bool) where
   pub kept : (k v : ℕ) (g : Fact) → v ≡ value (fact_of k v) → kind (join same (fact_of k v) g) ≡ k → value (join same (fact_of k v) g) ≡ v
@@ -36,11 +36,11 @@ module _ (same : ℕ → ℕ → ℕ → ℕ → Bool) where
   unfolding differs
   same_kind k v g e h =
       rw (
-        eq-eqb (kind (fact_of k v)) (kind (join same (fact_of k v) g)) (kind-factOf k v ∙ sym h),
+        eq-eqb (kind (fact_of k v)) (kind (join same (fact_of k v) g)) (kind-fact_of k v ∙ sym h),
         eq-eqb (value (fact_of k v)) (value (join same (fact_of k v) g)) (sym e ∙ sym (kept k v g e h)),
       )
 
-  pub other-kind : (k v : ℕ) (g : Fact) → kind (join same (fact_of k v) g) ≢ k → differs (fact_of k v) (join same (fact_of k v) g) ≡ true
+  pub other_kind : (k v : ℕ) (g : Fact) → kind (join same (fact_of k v) g) ≢ k → differs (fact_of k v) (join same (fact_of k v) g) ≡ true
   unfolding differs
-  other-kind k v g h =
-      rw (ne_eqb (kind (fact_of k v)) (kind (join same (fact_of k v) g)) (λ q. h (sym q ∙ kind-factOf k v)))
+  other_kind k v g h =
+      rw (ne_eqb (kind (fact_of k v)) (kind (join same (fact_of k v) g)) (λ q. h (sym q ∙ kind-fact_of k v)))

@@ -6,13 +6,13 @@ use mathlib.Core.Bool.{Bool, true, false, cond}
 use mathlib.Core.List.{List}
 use Prim.Native.Nat.{ℕ, zero, suc}
 use lib.Dec.{eqb-suc-suc}
-use Rattle.model.specs.Fact.{conflict, known, kind, value, join, equalNumbers}
-use Rattle.model.specs.Tables.{fact_of, factIn, cell_of}
+use Rattle.model.specs.Fact.{conflict, known, kind, value, join, equal_numbers}
+use Rattle.model.specs.Tables.{fact_of, fact_in, cell_of}
 use Rattle.model.specs.declared.FactCell.{FactCell}
-use Rattle.sheet_layouts.specs.Classes.{equalContainersBy}
+use Rattle.sheet_layouts.specs.Classes.{equal_containers_by}
 
-abbrev pub cell-joined : ℕ → ℕ → FactCell
-cell-joined k v = record { kind = k; value = v }
+abbrev pub cell_joined : ℕ → ℕ → FactCell
+cell_joined k v = record { kind = k; value = v }
 
 -- ---- the ways out of `merge_fact`, from a cell (ok, ov) and a cell (nk, nv)
 
@@ -20,45 +20,45 @@ module _ (equal : Bool) (ov nv : ℕ) where
   abbrev merged : ℕ → ℕ → FactCell
   merged ok nk = cell_of (join (λ k v l w. equal) (fact_of ok ov) (fact_of nk nv))
 
-  pub old-conflict : (ok nk : ℕ) → ok ≡ 1 → cell-joined 1 0 ≡ merged ok nk
+  pub old_conflict : (ok nk : ℕ) → ok ≡ 1 → cell_joined 1 0 ≡ merged ok nk
   unfolding fact_of join cell_of kind value
-  old-conflict ok nk e = rw e
+  old_conflict ok nk e = rw e
 
-  pub new-conflict : (ok nk : ℕ) → nk ≡ 1 → cell-joined 1 0 ≡ merged ok nk
+  pub new_conflict : (ok nk : ℕ) → nk ≡ 1 → cell_joined 1 0 ≡ merged ok nk
   unfolding fact_of join cell_of kind value
-  new-conflict zero nk e = rw e
-  new-conflict (suc zero) nk e = refl
-  new-conflict (suc (suc k)) nk e = rw e
+  new_conflict zero nk e = rw e
+  new_conflict (suc zero) nk e = refl
+  new_conflict (suc (suc k)) nk e = rw e
 
-  pub old-unknown : (ok nk : ℕ) → nk ≢ 1 → ok ≡ 0 → cell-joined 0 0 ≡ merged ok nk
+  pub old_unknown : (ok nk : ℕ) → nk ≢ 1 → ok ≡ 0 → cell_joined 0 0 ≡ merged ok nk
   unfolding fact_of join cell_of kind value
-  old-unknown ok zero h e = rw e
-  old-unknown ok (suc zero) h e = absurd (h refl)
-  old-unknown ok (suc (suc l)) h e = rw e
+  old_unknown ok zero h e = rw e
+  old_unknown ok (suc zero) h e = absurd (h refl)
+  old_unknown ok (suc (suc l)) h e = rw e
 
-  pub new-unknown : (ok nk : ℕ) → ok ≢ 1 → nk ≡ 0 → cell-joined 0 0 ≡ merged ok nk
+  pub new_unknown : (ok nk : ℕ) → ok ≢ 1 → nk ≡ 0 → cell_joined 0 0 ≡ merged ok nk
   unfolding fact_of join cell_of kind value
-  new-unknown zero nk h e = rw e
-  new-unknown (suc zero) nk h e = absurd (h refl)
-  new-unknown (suc (suc k)) nk h e = rw e
+  new_unknown zero nk h e = rw e
+  new_unknown (suc zero) nk h e = absurd (h refl)
+  new_unknown (suc (suc k)) nk h e = rw e
 
-  both-known : (ok nk : ℕ) → ok ≢ 1 → nk ≢ 1 → ok ≢ 0 → nk ≢ 0 → cond equal (cell-joined ok ov) (cell-joined 1 0) ≡ merged ok nk
+  both_known : (ok nk : ℕ) → ok ≢ 1 → nk ≢ 1 → ok ≢ 0 → nk ≢ 0 → cond equal (cell_joined ok ov) (cell_joined 1 0) ≡ merged ok nk
   unfolding fact_of join cell_of kind value
-  both-known zero nk a b c d = absurd (c refl)
-  both-known (suc zero) nk a b c d = absurd (a refl)
-  both-known (suc (suc k)) zero a b c d = absurd (d refl)
-  both-known (suc (suc k)) (suc zero) a b c d = absurd (b refl)
-  both-known (suc (suc k)) (suc (suc l)) a b c d = by equal
+  both_known zero nk a b c d = absurd (c refl)
+  both_known (suc zero) nk a b c d = absurd (a refl)
+  both_known (suc (suc k)) zero a b c d = absurd (d refl)
+  both_known (suc (suc k)) (suc zero) a b c d = absurd (b refl)
+  both_known (suc (suc k)) (suc (suc l)) a b c d = by equal
     where
-      by : (t : Bool) → cond t (cell-joined (suc (suc k)) ov) (cell-joined 1 0) ≡ cell_of (cond t (known k ov) conflict)
+      by : (t : Bool) → cond t (cell_joined (suc (suc k)) ov) (cell_joined 1 0) ≡ cell_of (cond t (known k ov) conflict)
       by true = refl
       by false = refl
 
-  pub equal-stays : (ok nk : ℕ) → ok ≢ 1 → nk ≢ 1 → ok ≢ 0 → nk ≢ 0 → equal ≡ true → cell-joined ok ov ≡ merged ok nk
-  equal-stays ok nk a b c d e = ap (λ (t : Bool). cond t (cell-joined ok ov) (cell-joined 1 0)) (sym e) ∙ both-known ok nk a b c d
+  pub equal_stays : (ok nk : ℕ) → ok ≢ 1 → nk ≢ 1 → ok ≢ 0 → nk ≢ 0 → equal ≡ true → cell_joined ok ov ≡ merged ok nk
+  equal_stays ok nk a b c d e = ap (λ (t : Bool). cond t (cell_joined ok ov) (cell_joined 1 0)) (sym e) ∙ both_known ok nk a b c d
 
-  pub different-conflict : (ok nk : ℕ) → ok ≢ 1 → nk ≢ 1 → ok ≢ 0 → nk ≢ 0 → equal ≡ false → cell-joined 1 0 ≡ merged ok nk
-  different-conflict ok nk a b c d e = ap (λ (t : Bool). cond t (cell-joined ok ov) (cell-joined 1 0)) (sym e) ∙ both-known ok nk a b c d
+  pub different_conflict : (ok nk : ℕ) → ok ≢ 1 → nk ≢ 1 → ok ≢ 0 → nk ≢ 0 → equal ≡ false → cell_joined 1 0 ≡ merged ok nk
+  different_conflict ok nk a b c d e = ap (λ (t : Bool). cond t (cell_joined ok ov) (cell_joined 1 0)) (sym e) ∙ both_known ok nk a b c d
 
 -- ---- from the answer to the rule
 
@@ -80,16 +80,16 @@ module _ (same : ℕ → ℕ → ℕ → ℕ → Bool) (shifts : Shifts same) (e
 
 pub merged_by : (same : ℕ → ℕ → ℕ → ℕ → Bool) → Shifts same → (old new : FactCell) (equal : Bool)
     → equal ≡ same old.kind old.value new.kind new.value
-    → cell_of (join (λ k v l w. equal) (factIn old) (factIn new)) ≡ cell_of (join same (factIn old) (factIn new))
-unfolding factIn
+    → cell_of (join (λ k v l w. equal) (fact_in old) (fact_in new)) ≡ cell_of (join same (fact_in old) (fact_in new))
+unfolding fact_in
 merged_by same shifts old new equal e = ap cell_of (by same shifts equal old.value new.value old.kind new.kind e)
 
 -- ---- the rules
 
-pub numbers-shift : Shifts equalNumbers
-unfolding equalNumbers
-numbers-shift k v l w = rw (eqb-suc-suc (suc k) (suc l), eqb-suc-suc k l)
+pub numbers_shift : Shifts equal_numbers
+unfolding equal_numbers
+numbers_shift k v l w = rw (eqb-suc-suc (suc k) (suc l), eqb-suc-suc k l)
 
-pub containers-shift : (classes : List ℕ) → Shifts (equalContainersBy classes)
-unfolding equalContainersBy
-containers-shift classes k v l w = rw (eqb-suc-suc (suc k) (suc l), eqb-suc-suc k l)
+pub containers_shift : (classes : List ℕ) → Shifts (equal_containers_by classes)
+unfolding equal_containers_by
+containers_shift classes k v l w = rw (eqb-suc-suc (suc k) (suc l), eqb-suc-suc k l)

@@ -9,28 +9,28 @@ use native.Mathlib.Numerals.{add-one}
 use native.Mathlib.Omega.{arith}
 use lib.ListN.{length, get_or, set, take, drop, length-map, length-set}
 use lib.Seq.{take_all, set-get_or}
-use Rattle.model.specs.Fact.{Fact, kind, value, differs, rowDiffers, join}
-use Rattle.model.specs.Tables.{rowSlices, RowLies, fact_of, facts_of, factIn, cell_of}
+use Rattle.model.specs.Fact.{Fact, kind, value, differs, row_differs, join}
+use Rattle.model.specs.Tables.{row_slices, RowLies, fact_of, facts_of, fact_in, cell_of}
 use Rattle.model.specs.declared.FactCell.{FactCell}
 use Rattle.join.specs.Rows.{JoinedRow}
-use Rattle.join.proofs.CellJoins.{cell-joined}
-use Rattle.join.proofs.Prefixes.{fill-get, fill-set, fill_done}
-use Rattle.join.proofs.CellChanges.{kept, same_kind, other-kind}
-use Rattle.model.proofs.Facts.{length-facts, lies-kinds, lies-values}
-use Rattle.join.proofs.JoinedPlaces.{factsOf-get, or-false, joined, joinAt, changedTo, joined_length, joined-get, changedTo-suc}
+use Rattle.join.proofs.CellJoins.{cell_joined}
+use Rattle.join.proofs.Prefixes.{fill_get, fill_set, fill_done}
+use Rattle.join.proofs.CellChanges.{kept, same_kind, other_kind}
+use Rattle.model.proofs.Facts.{length_facts_lem, lies_kinds, lies_values}
+use Rattle.join.proofs.JoinedPlaces.{facts_of-get, or_false, joined, join_at, changed_to, joined_length, joined_get, changed_to-suc}
 use mathlib.Core.Bool.{or-true}
 
 pub record Partly (same : ℕ → ℕ → ℕ → ℕ → Bool) (ok ov nk nv kinds values : List ℕ) (changed : Bool) (i : ℕ) : Type 0 where
   pub within : i ≤ length ok
-  pub lies : RowLies (facts_of ok ov) (rowSlices ok ov)
+  pub lies : RowLies (facts_of ok ov) (row_slices ok ov)
   pub level : length ov ≡ length ok
-  pub nk-long : length nk ≡ length ok
-  pub nv-long : length nv ≡ length ok
-  pub kinds-long : length kinds ≡ length ok
-  pub values-long : length values ≡ length ok
-  pub kinds-are : kinds ≡ take i (map kind (joined same ok ov nk nv)) ++ drop i ok
-  pub values-are : values ≡ take i (map value (joined same ok ov nk nv)) ++ drop i ov
-  pub changed-is : changed ≡ changedTo same ok ov nk nv i
+  pub nk_long : length nk ≡ length ok
+  pub nv_long : length nv ≡ length ok
+  pub kinds_long : length kinds ≡ length ok
+  pub values_long : length values ≡ length ok
+  pub kinds_are : kinds ≡ take i (map kind (joined same ok ov nk nv)) ++ drop i ok
+  pub values_are : values ≡ take i (map value (joined same ok ov nk nv)) ++ drop i ov
+  pub changed_is : changed ≡ changed_to same ok ov nk nv i
 
 module _ {same : ℕ → ℕ → ℕ → ℕ → Bool} {ok ov nk nv : List ℕ} where
   -- past the point where the branches meet
@@ -38,50 +38,50 @@ module _ {same : ℕ → ℕ → ℕ → ℕ → Bool} {ok ov nk nv : List ℕ} 
       → Partly same ok ov nk nv k v ch i → Partly same ok ov nk nv kinds values changed i
   carried a b c p = rw (a, b, c) p
 
-  pub partly-start : RowLies (facts_of ok ov) (rowSlices ok ov) → length nk ≡ length ok → length nv ≡ length ok → Partly same ok ov nk nv ok ov false 0
-  unfolding changedTo rowDiffers
-  partly-start e a b = record {
+  pub partly_start : RowLies (facts_of ok ov) (row_slices ok ov) → length nk ≡ length ok → length nv ≡ length ok → Partly same ok ov nk nv ok ov false 0
+  unfolding changed_to row_differs
+  partly_start e a b = record {
     within = omega arith;
     lies = e;
-    level = lies-values e ∙ sym (lies-kinds e);
-    nk-long = a;
-    nv-long = b;
-    kinds-long = refl;
-    values-long = lies-values e ∙ sym (lies-kinds e);
-    kinds-are = refl;
-    values-are = refl;
-    changed-is = refl;
+    level = lies_values e ∙ sym (lies_kinds e);
+    nk_long = a;
+    nv_long = b;
+    kinds_long = refl;
+    values_long = lies_values e ∙ sym (lies_kinds e);
+    kinds_are = refl;
+    values_are = refl;
+    changed_is = refl;
   }
 
   module _ {kinds values : List ℕ} {changed : Bool} {i : ℕ} (p : Partly same ok ov nk nv kinds values changed i) where
     long : (f : Fact → ℕ) → length (map f (joined same ok ov nk nv)) ≡ length ok
-    long f = length-map (joined same ok ov nk nv) f ∙ joined_length same (facts_of ok ov) (facts_of nk nv) ∙ length-facts ok ov p.level
+    long f = length-map (joined same ok ov nk nv) f ∙ joined_length same (facts_of ok ov) (facts_of nk nv) ∙ length_facts_lem ok ov p.level
 
-    pub partly-end : length kinds ≤ i → JoinedRow same (rowSlices ok ov) (rowSlices nk nv) (rowSlices kinds values) changed
-    unfolding changedTo
-    partly-end h =
-        let end : i ≡ length ok = omega (arith, p.within, p.kinds-long) in
-        let all : length (joined same ok ov nk nv) ≡ i = joined_length same (facts_of ok ov) (facts_of nk nv) ∙ length-facts ok ov p.level ∙ sym end in
+    pub partly_end : length kinds ≤ i → JoinedRow same (row_slices ok ov) (row_slices nk nv) (row_slices kinds values) changed
+    unfolding changed_to
+    partly_end h =
+        let end : i ≡ length ok = omega (arith, p.within, p.kinds_long) in
+        let all : length (joined same ok ov nk nv) ≡ i = joined_length same (facts_of ok ov) (facts_of nk nv) ∙ length_facts_lem ok ov p.level ∙ sym end in
         record {
           lies = record {
-            kinds-are = p.kinds-are ∙ fill_done (map kind (joined same ok ov nk nv)) ok i (sym (long kind)) (omega (arith, long kind));
-            values-are = p.values-are ∙ fill_done (map value (joined same ok ov nk nv)) ov i (p.level ∙ sym (long value)) (omega (arith, long value));
+            kinds_are = p.kinds_are ∙ fill_done (map kind (joined same ok ov nk nv)) ok i (sym (long kind)) (omega (arith, long kind));
+            values_are = p.values_are ∙ fill_done (map value (joined same ok ov nk nv)) ov i (p.level ∙ sym (long value)) (omega (arith, long value));
           };
-          changed-is = rw (take_all i (facts_of ok ov) (omega (arith, length-facts ok ov p.level)), take_all i (joined same ok ov nk nv) (omega (arith, all))) at p.changed-is;
+          changed_is = rw (take_all i (facts_of ok ov) (omega (arith, length_facts_lem ok ov p.level)), take_all i (joined same ok ov nk nv) (omega (arith, all))) at p.changed_is;
         }
 
     module _ (h : i < length kinds) where
       below : i < length ok
-      below = omega (arith, p.kinds-long)
+      below = omega (arith, p.kinds_long)
 
-      at-kind : get_or kinds i 0 ≡ get_or ok i 0
-      at-kind = rw p.kinds-are (fill-get (map kind (joined same ok ov nk nv)) ok i (sym (long kind)))
+      at_kind : get_or kinds i 0 ≡ get_or ok i 0
+      at_kind = rw p.kinds_are (fill_get (map kind (joined same ok ov nk nv)) ok i (sym (long kind)))
 
       at_value : get_or values i 0 ≡ get_or ov i 0
-      at_value = rw p.values-are (fill-get (map value (joined same ok ov nk nv)) ov i (p.level ∙ sym (long value)))
+      at_value = rw p.values_are (fill_get (map value (joined same ok ov nk nv)) ov i (p.level ∙ sym (long value)))
 
       here : Fact
-      here = joinAt same ok ov nk nv i
+      here = join_at same ok ov nk nv i
 
       step : (ch : Bool) → ch ≡ changed || differs (fact_of (get_or ok i 0) (get_or ov i 0)) here
           → Partly same ok ov nk nv (set kinds i (kind here)) (set values i (value here)) ch (i + 1)
@@ -90,50 +90,50 @@ module _ {same : ℕ → ℕ → ℕ → ℕ → Bool} {ok ov nk nv : List ℕ} 
         within = omega (arith, below);
         lies = p.lies;
         level = p.level;
-        nk-long = p.nk-long;
-        nv-long = p.nv-long;
-        kinds-long = length-set kinds i (kind here) ∙ p.kinds-long;
-        values-long = length-set values i (value here) ∙ p.values-long;
-        kinds-are =
-            rw (add-one i, p.kinds-are, ← (joined-get same kind ok ov nk nv i p.level p.nk-long p.nv-long below))
-            (fill-set (map kind (joined same ok ov nk nv)) ok i (rw (long kind) below) (sym (long kind)));
-        values-are =
-            rw (add-one i, p.values-are, ← (joined-get same value ok ov nk nv i p.level p.nk-long p.nv-long below))
-            (fill-set (map value (joined same ok ov nk nv)) ov i (rw (long value) below) (p.level ∙ sym (long value)));
-        changed-is = e ∙ rw (add-one i, changedTo-suc same ok ov nk nv i p.level p.nk-long p.nv-long below, p.changed-is);
+        nk_long = p.nk_long;
+        nv_long = p.nv_long;
+        kinds_long = length-set kinds i (kind here) ∙ p.kinds_long;
+        values_long = length-set values i (value here) ∙ p.values_long;
+        kinds_are =
+            rw (add-one i, p.kinds_are, ← (joined_get same kind ok ov nk nv i p.level p.nk_long p.nv_long below))
+            (fill_set (map kind (joined same ok ov nk nv)) ok i (rw (long kind) below) (sym (long kind)));
+        values_are =
+            rw (add-one i, p.values_are, ← (joined_get same value ok ov nk nv i p.level p.nk_long p.nv_long below))
+            (fill_set (map value (joined same ok ov nk nv)) ov i (rw (long value) below) (p.level ∙ sym (long value)));
+        changed_is = e ∙ rw (add-one i, changed_to-suc same ok ov nk nv i p.level p.nk_long p.nv_long below, p.changed_is);
       }
 
       -- the cell at i, joined by the code
-      module _ (c : FactCell) (made : c ≡ cell_of (join same (factIn (cell-joined (get_or kinds i 0) (get_or values i 0))) (factIn (cell-joined (get_or nk i 0) (get_or nv i 0))))) where
+      module _ (c : FactCell) (made : c ≡ cell_of (join same (fact_in (cell_joined (get_or kinds i 0) (get_or values i 0))) (fact_in (cell_joined (get_or nk i 0) (get_or nv i 0))))) where
         is : c ≡ cell_of here
-        unfolding here factIn
-        is = rw (at-kind, at_value) at made
+        unfolding here fact_in
+        is = rw (at_kind, at_value) at made
 
-        kind-is : c.kind ≡ kind here
+        kind_is : c.kind ≡ kind here
         unfolding cell_of
-        kind-is = ap (λ (x : FactCell). x.kind) is
+        kind_is = ap (λ (x : FactCell). x.kind) is
 
-        value-is : c.value ≡ value here
+        value_is : c.value ≡ value here
         unfolding cell_of
-        value-is = ap (λ (x : FactCell). x.value) is
+        value_is = ap (λ (x : FactCell). x.value) is
 
-        encoded-here : get_or ov i 0 ≡ value (fact_of (get_or ok i 0) (get_or ov i 0))
-        encoded-here = ap (λ (l : List ℕ). get_or l i 0) p.lies.values-are ∙ factsOf-get value ok ov i p.level below
+        encoded_here : get_or ov i 0 ≡ value (fact_of (get_or ok i 0) (get_or ov i 0))
+        encoded_here = ap (λ (l : List ℕ). get_or l i 0) p.lies.values_are ∙ facts_of-get value ok ov i p.level below
 
         -- what the code stores where the kind is another
-        pub partly-changed : c.kind ≢ get_or kinds i 0 → Partly same ok ov nk nv (set kinds i c.kind) (set values i c.value) true (i + 1)
+        pub partly_changed : c.kind ≢ get_or kinds i 0 → Partly same ok ov nk nv (set kinds i c.kind) (set values i c.value) true (i + 1)
         unfolding here
-        partly-changed other =
-            rw (kind-is, value-is)
+        partly_changed other =
+            rw (kind_is, value_is)
             (step true
-            (sym (or-true changed) ∙ ap (λ (x : Bool). changed || x) (sym (other-kind same (get_or ok i 0) (get_or ov i 0) (fact_of (get_or nk i 0) (get_or nv i 0)) (λ q. other (kind-is ∙ q ∙ sym at-kind))))))
+            (sym (or-true changed) ∙ ap (λ (x : Bool). changed || x) (sym (other_kind same (get_or ok i 0) (get_or ov i 0) (fact_of (get_or nk i 0) (get_or nv i 0)) (λ q. other (kind_is ∙ q ∙ sym at_kind))))))
 
         -- and where it is not, what it leaves
-        pub partly-kept : c.kind ≡ get_or kinds i 0 → Partly same ok ov nk nv kinds values changed (i + 1)
+        pub partly_kept : c.kind ≡ get_or kinds i 0 → Partly same ok ov nk nv kinds values changed (i + 1)
         unfolding here
-        partly-kept e =
-            let k : kind here ≡ get_or ok i 0 = sym kind-is ∙ e ∙ at-kind in
-            let v : value here ≡ get_or ov i 0 = kept same (get_or ok i 0) (get_or ov i 0) (fact_of (get_or nk i 0) (get_or nv i 0)) encoded-here k in
-            rw (k, v, ← at-kind, ← at_value, set-get_or kinds i 0, set-get_or values i 0) at
+        partly_kept e =
+            let k : kind here ≡ get_or ok i 0 = sym kind_is ∙ e ∙ at_kind in
+            let v : value here ≡ get_or ov i 0 = kept same (get_or ok i 0) (get_or ov i 0) (fact_of (get_or nk i 0) (get_or nv i 0)) encoded_here k in
+            rw (k, v, ← at_kind, ← at_value, set-get_or kinds i 0, set-get_or values i 0) at
             (step changed
-            (sym (or-false changed) ∙ ap (λ (x : Bool). changed || x) (sym (same_kind same (get_or ok i 0) (get_or ov i 0) (fact_of (get_or nk i 0) (get_or nv i 0)) encoded-here k))))
+            (sym (or_false changed) ∙ ap (λ (x : Bool). changed || x) (sym (same_kind same (get_or ok i 0) (get_or ov i 0) (fact_of (get_or nk i 0) (get_or nv i 0)) encoded_here k))))

@@ -8,19 +8,19 @@ use native.Mathlib.Omega.{arith}
 use lib.ListN.{length, get_or, set, take, drop, drop_of_length-le}
 use lib.Seq.{take_all}
 
-pub fill-get : (x k : List ℕ) (i : ℕ) → length k ≡ length x → get_or (take i x ++ drop i k) i 0 ≡ get_or k i 0
-fill-get x k zero e = refl
-fill-get [] [] (suc i) e = refl
-fill-get [] (b ∷ k) (suc i) e = absurd (omega arith)
-fill-get (a ∷ x) [] (suc i) e = absurd (omega arith)
-fill-get (a ∷ x) (b ∷ k) (suc i) e = fill-get x k i (suc_inj e)
+pub fill_get : (x k : List ℕ) (i : ℕ) → length k ≡ length x → get_or (take i x ++ drop i k) i 0 ≡ get_or k i 0
+fill_get x k zero e = refl
+fill_get [] [] (suc i) e = refl
+fill_get [] (b ∷ k) (suc i) e = absurd (omega arith)
+fill_get (a ∷ x) [] (suc i) e = absurd (omega arith)
+fill_get (a ∷ x) (b ∷ k) (suc i) e = fill_get x k i (suc_inj e)
 
-pub fill-set : (x k : List ℕ) (i : ℕ) → i < length x → length k ≡ length x
+pub fill_set : (x k : List ℕ) (i : ℕ) → i < length x → length k ≡ length x
     → set (take i x ++ drop i k) i (get_or x i 0) ≡ take (suc i) x ++ drop (suc i) k
-fill-set [] k i h e = absurd (not-suc-le-zero h)
-fill-set (a ∷ x) [] i h e = absurd (omega arith)
-fill-set (a ∷ x) (b ∷ k) zero h e = refl
-fill-set (a ∷ x) (b ∷ k) (suc i) h e = ap (λ (r : List ℕ). a ∷ r) (fill-set x k i (le_of_suc-le-suc h) (suc_inj e))
+fill_set [] k i h e = absurd (not-suc-le-zero h)
+fill_set (a ∷ x) [] i h e = absurd (omega arith)
+fill_set (a ∷ x) (b ∷ k) zero h e = refl
+fill_set (a ∷ x) (b ∷ k) (suc i) h e = ap (λ (r : List ℕ). a ∷ r) (fill_set x k i (le_of_suc-le-suc h) (suc_inj e))
 
 pub fill_done : (x k : List ℕ) (i : ℕ) → length k ≡ length x → length x ≤ i → take i x ++ drop i k ≡ x
 fill_done x k i e h = rw (drop_of_length-le k {i = i} (omega arith), append-nil, take_all i x h)

@@ -1,8 +1,8 @@
 // The join of container facts: "Layouts are equal by length and content, and the stored numbers stay." Equal layouts are of one class.
 ghost use Rattle.std.specs.Prelude.{◌≡◌};
 ghost use Rattle.model.specs.Fact.{join};
-ghost use Rattle.model.specs.Tables.{factIn, cell_of};
-ghost use Rattle.sheet_layouts.specs.Classes.{equalContainersBy};
+ghost use Rattle.model.specs.Tables.{fact_in, cell_of};
+ghost use Rattle.sheet_layouts.specs.Classes.{equal_containers_by};
 
 use crate::facts::merge_fact;
 use model::FactCell;
@@ -10,7 +10,7 @@ use sheet_layouts::class_of;
 
 // Whether two containers are equal: by kind, and A and B by class ("value A × 65,536 + B"). Equal values are answered at once.
 pub fn equal_containers(classes: &[u16], old: FactCell, new: FactCell) -> bool
-    ensures { result ≡ equalContainersBy classes.now old.kind old.value new.kind new.value }
+    ensures { result ≡ equal_containers_by classes.now old.kind old.value new.kind new.value }
 {
     if old.kind != new.kind {
         return false;
@@ -28,7 +28,7 @@ pub fn equal_containers(classes: &[u16], old: FactCell, new: FactCell) -> bool
 
 // The join of two container facts.
 pub fn merge_container_fact(classes: &[u16], old: FactCell, new: FactCell) -> FactCell
-    ensures { result ≡ cell_of (join (equalContainersBy classes.now) (factIn old) (factIn new)) }
+    ensures { result ≡ cell_of (join (equal_containers_by classes.now) (fact_in old) (fact_in new)) }
 {
     merge_fact(old, new, equal_containers(classes, old, new))
 }

@@ -1,13 +1,13 @@
 // "Conflict with anything is Conflict; else Unknown with anything is Unknown; equal known facts stay; different ones give Conflict."
 ghost use Rattle.std.specs.Prelude.{◌≡◌};
-ghost use Rattle.model.specs.Fact.{join, equalNumbers};
-ghost use Rattle.model.specs.Tables.{factIn, cell_of};
+ghost use Rattle.model.specs.Fact.{join, equal_numbers};
+ghost use Rattle.model.specs.Tables.{fact_in, cell_of};
 
 use model::FactCell;
 
 // The join, where `equal` says whether the two are equal if both are known. Of equal facts the old numbers stay.
 pub fn merge_fact(old: FactCell, new: FactCell, equal: bool) -> FactCell
-    ensures { result ≡ cell_of (join (λ k v l w. equal) (factIn old) (factIn new)) }
+    ensures { result ≡ cell_of (join (λ k v l w. equal) (fact_in old) (fact_in new)) }
 {
     let was = old.kind;
     let is = new.kind;
@@ -31,7 +31,7 @@ pub fn merge_fact(old: FactCell, new: FactCell, equal: bool) -> FactCell
 
 // Constants and checks are equal by kind and value: a kind tells −1 from 2^64 − 1.
 pub fn equal_numbers(old: FactCell, new: FactCell) -> bool
-    ensures { result ≡ equalNumbers old.kind old.value new.kind new.value }
+    ensures { result ≡ equal_numbers old.kind old.value new.kind new.value }
 {
     if old.kind != new.kind {
         return false;
@@ -41,14 +41,14 @@ pub fn equal_numbers(old: FactCell, new: FactCell) -> bool
 
 // The join of two constant facts.
 pub fn merge_constant_fact(old: FactCell, new: FactCell) -> FactCell
-    ensures { result ≡ cell_of (join equalNumbers (factIn old) (factIn new)) }
+    ensures { result ≡ cell_of (join equal_numbers (fact_in old) (fact_in new)) }
 {
     merge_fact(old, new, equal_numbers(old, new))
 }
 
 // The join of two index-check facts: the rule is the same, by kind and value.
 pub fn merge_index_check_fact(old: FactCell, new: FactCell) -> FactCell
-    ensures { result ≡ cell_of (join equalNumbers (factIn old) (factIn new)) }
+    ensures { result ≡ cell_of (join equal_numbers (fact_in old) (fact_in new)) }
 {
     merge_constant_fact(old, new)
 }

@@ -1,5 +1,7 @@
 // "Join" of two facts as they lie in the tables: the three merges.
 // The join of a row: its cells are parts of the tables' kinds and values.
+#![tactic(auto)]
+
 mod containers;
 mod facts;
 mod rows;

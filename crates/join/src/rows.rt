@@ -1,9 +1,9 @@
 // The join of a row: its cells are parts of the tables' kinds and values.
 ghost use Rattle.std.specs.Prelude.{◌≡◌, length};
 ghost use Rattle.model.specs.Fact.{join};
-ghost use Rattle.model.specs.Promise.{lentRow};
-ghost use Rattle.model.specs.Tables.{rowSlices, RowLies, factIn, cell_of, factsIn};
-ghost use Rattle.sheet_layouts.specs.Classes.{equalBy};
+ghost use Rattle.model.specs.Promise.{lent_row};
+ghost use Rattle.model.specs.Tables.{row_slices, RowLies, fact_in, cell_of, facts_in};
+ghost use Rattle.sheet_layouts.specs.Classes.{equal_by};
 ghost use Rattle.join.specs.Rows.{JoinedRow};
 
 use crate::containers::merge_container_fact;
@@ -12,7 +12,7 @@ use model::{AnalysisKind, FactCell};
 
 // The join of two facts of an analysis.
 fn merge_fact_of(which: AnalysisKind, classes: &[u16], old: FactCell, new: FactCell) -> FactCell
-    ensures { result ≡ cell_of (join (equalBy which classes.now) (factIn old) (factIn new)) }
+    ensures { result ≡ cell_of (join (equal_by which classes.now) (fact_in old) (fact_in new)) }
 {
     match which {
         AnalysisKind::Constant => merge_constant_fact(old, new),
@@ -31,11 +31,11 @@ pub fn join_row(
     new_kinds: &[u8],
     new_values: &[u64],
 ) -> bool
-    requires fact { let row = rowSlices kinds.old values.old in RowLies (factsIn row) row }
+    requires row_lies { let row = row_slices kinds.old values.old in RowLies (facts_in row) row }
     requires new_kinds_len { (length new_kinds.now ≡ length kinds.old) × (length new_values.now ≡ length kinds.old) }
-    ensures { let row = lentRow kinds values in
-        let new = lentRow new_kinds new_values in
-        JoinedRow (equalBy which classes.now) row.entry new.entry row.exit result }
+    ensures { let row = lent_row kinds values in
+        let new = lent_row new_kinds new_values in
+        JoinedRow (equal_by which classes.now) row.entry new.entry row.exit result }
 {
     let mut changed = false;
     let mut i = 0;

@@ -2,13 +2,13 @@
 -- Assumes nothing.
 use Rattle.std.specs.Prelude.{◌≡◌, List, ℕ, ◌*◌, length, take}
 use Rattle.std.proofs.Math.Option.{Option, none, some}
-use Rattle.model.specs.Sheet.{codeCount}
+use Rattle.model.specs.Sheet.{code_count}
 use Rattle.model.specs.Fact.{Fact, kind, value, Row}
-use Rattle.model.specs.Transfer.{factFor}
+use Rattle.model.specs.Transfer.{fact_for}
 use Rattle.model.specs.Analyses.{Analysed, Facts}
 use Rattle.model.specs.Run.{row_at}
 use Rattle.model.specs.Call.{Table, Lent, table_of}
-use Rattle.model.specs.Lookup.{place, factForSlot, isReachable, fixed_at, fixed}
+use Rattle.model.specs.Lookup.{place, fact_for_slot, is_reachable, fixed_at, fixed}
 use Rattle.model.specs.declared.AnalysisKind.{AnalysisKind}
 use Rattle.model.specs.declared.AnalysisKind.TheVariants.{Constant, IndexCheck, Container}
 use Rattle.model.specs.declared.SlotFact.{SlotFact}
@@ -17,25 +17,25 @@ use Rattle.model.specs.declared.Reachability.{Reachability}
 use Rattle.model.specs.declared.Reachability.TheVariants.{Yes, No}
 
 -- "none" of an untracked slot, the fact's kind and value of a tracked one
-unfoldable pub trackedFact : Option ℕ → Fact → SlotFact
-trackedFact none fact = Absent
-trackedFact (some j) fact = Cell (kind fact) (value fact)
+unfoldable pub tracked_fact : Option ℕ → Fact → SlotFact
+tracked_fact none fact = Absent
+tracked_fact (some j) fact = Cell (kind fact) (value fact)
 
 -- "none" of an absent instruction; of a present one the run's fact
-unfoldable pub runFact : List ℕ → Option Row → ℕ → SlotFact
-runFact slots none slot = Absent
-runFact slots (some row) slot = trackedFact (place slots slot) (factFor slots row slot)
+unfoldable pub run_fact : List ℕ → Option Row → ℕ → SlotFact
+run_fact slots none slot = Absent
+run_fact slots (some row) slot = tracked_fact (place slots slot) (fact_for slots row slot)
 
 -- "yes" of a present instruction
-unfoldable pub runReached : Option Row → Reachability
-runReached none = No
-runReached (some row) = Yes
+unfoldable pub run_reached : Option Row → Reachability
+run_reached none = No
+run_reached (some row) = Yes
 
 -- the facts of one analysis of a call
-unfoldable pub analysedOf : Facts → AnalysisKind → Analysed
-analysedOf facts Constant = facts.constants
-analysedOf facts IndexCheck = facts.index
-analysedOf facts Container = facts.containers
+unfoldable pub analysed_of : Facts → AnalysisKind → Analysed
+analysed_of facts Constant = facts.constants
+analysed_of facts IndexCheck = facts.index
+analysed_of facts Container = facts.containers
 
 -- "the used parts", for n instructions and s tracked slots
 unfoldable pub used : ℕ → ℕ → Table → Table
@@ -48,8 +48,8 @@ used n s table = record {
 
 -- Lookups in the used part of an analysis' table: none refuses, and each answers what the run has.
 pub record LookedUp (which : AnalysisKind) (a : Analysed) (table : Table) : Type 0 where
-  pub fact : (pc slot : ℕ) → factForSlot which table.slots table.present table.kinds table.values pc slot ≡ runFact a.slots (row_at a.rows pc) slot
-  pub reached : (pc : ℕ) → isReachable table.present pc ≡ runReached (row_at a.rows pc)
+  pub fact : (pc slot : ℕ) → fact_for_slot which table.slots table.present table.kinds table.values pc slot ≡ run_fact a.slots (row_at a.rows pc) slot
+  pub reached : (pc : ℕ) → is_reachable table.present pc ≡ run_reached (row_at a.rows pc)
 
 -- "fixed" does not refuse either: its answer is what the instructions but 0 show
 pub record FixedUp (table : Table) : Type 0 where
@@ -57,10 +57,10 @@ pub record FixedUp (table : Table) : Type 0 where
       ≡ fixed_at (length table.slots) table.present table.kinds table.values (place table.slots slot)
 
 -- the used part of the output of an analysis, in what a call left
-unfoldable pub usedOf : List ℕ → Facts → Lent → AnalysisKind → Table
-usedOf sheet facts lent which = used (codeCount sheet) (length (analysedOf facts which).slots) (table_of lent which)
+unfoldable pub used_of : List ℕ → Facts → Lent → AnalysisKind → Table
+used_of sheet facts lent which = used (code_count sheet) (length (analysed_of facts which).slots) (table_of lent which)
 
 -- all lookups in what a call left
 pub record CallLookups (sheet : List ℕ) (facts : Facts) (lent : Lent) : Type 0 where
-  pub lookups : (which : AnalysisKind) → LookedUp which (analysedOf facts which) (usedOf sheet facts lent which)
-  pub fixed : FixedUp (usedOf sheet facts lent Constant)
+  pub lookups : (which : AnalysisKind) → LookedUp which (analysed_of facts which) (used_of sheet facts lent which)
+  pub fixed : FixedUp (used_of sheet facts lent Constant)

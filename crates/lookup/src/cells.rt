@@ -1,8 +1,8 @@
 // One instruction's present byte and its cell of a slot, with question 9 of both.
 ghost use Rattle.std.specs.Prelude.{◌≡◌, length, get_or, eqb};
-ghost use Rattle.model.specs.Lookup.{rowNamed, cell};
+ghost use Rattle.model.specs.Lookup.{row_named, cell};
 ghost use Rattle.fact_row.specs.Place.{placed};
-ghost use Rattle.lookup.specs.Inside.{Inside, rowsNamed};
+ghost use Rattle.lookup.specs.Inside.{Inside, rows_named};
 
 use fact_row::Place;
 use model::SlotFact;
@@ -21,7 +21,7 @@ pub fn present_at(present: &[u8], pc: u64) -> u8
 // "is the present byte, for pc below n, 0 or 1, is the kind, for a tracked slot in a present row, one that this analysis names"
 pub fn named(last: u8, s: usize, present: &[u8], kinds: &[u8], at: Place, pc: u64) -> bool
     requires { Inside s (length present.now) (length kinds.now) (placed at) }
-    ensures { result ≡ rowNamed last s present.now kinds.now (placed at) pc }
+    ensures { result ≡ row_named last s present.now kinds.now (placed at) pc }
 {
     let byte = present_at(present, pc);
     match at {
@@ -60,7 +60,7 @@ pub fn cell(s: usize, present: &[u8], kinds: &[u8], values: &[u64], at: Place, p
 // Question 9 "of every instruction", for constants.
 pub fn all_named(s: usize, present: &[u8], kinds: &[u8], at: Place) -> bool
     requires { Inside s (length present.now) (length kinds.now) (placed at) }
-    ensures { result ≡ rowsNamed s present.now kinds.now (placed at) (length present.now) }
+    ensures { result ≡ rows_named s present.now kinds.now (placed at) (length present.now) }
 {
     let mut pc = 0;
     while pc < present.len() {

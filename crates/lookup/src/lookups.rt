@@ -1,6 +1,6 @@
 // Lookups in the tables of an analysis, over slices of any length and content: `fact_for_slot` of the three analyses, `is_reachable`, and "fixed".
 ghost use Rattle.std.specs.Prelude.{◌≡◌};
-ghost use Rattle.model.specs.Lookup.{lastKind, factForSlot, isReachable, fixed, factWithNumbers, reachabilityWithNumbers};
+ghost use Rattle.model.specs.Lookup.{last_kind, fact_for_slot, is_reachable, fixed, fact_with_numbers, reachability_with_numbers};
 ghost use Rattle.model.specs.declared.AnalysisKind.TheVariants.{Constant, IndexCheck, Container};
 
 use crate::cells::{all_named, cell, named, present_at};
@@ -11,7 +11,7 @@ use model::{AnalysisKind, Reachability, SlotFact};
 
 // The last kind that the analysis names.
 fn last_kind(which: AnalysisKind) -> u8
-    ensures { result ≡ lastKind which }
+    ensures { result ≡ last_kind which }
 {
     match which {
         AnalysisKind::Constant => 3,
@@ -30,7 +30,7 @@ pub fn fact_for_slot(
     pc: u64,
     slot: u16,
 ) -> SlotFact
-    ensures { factWithNumbers result ≡ factWithNumbers (factForSlot which slots.now present.now kinds.now values.now pc slot) }
+    ensures { fact_with_numbers result ≡ fact_with_numbers (fact_for_slot which slots.now present.now kinds.now values.now pc slot) }
 {
     if !tables_agree(slots, present, kinds, values) {
         return SlotFact::Damaged;
@@ -53,7 +53,7 @@ pub fn constant_fact_for_slot(
     pc: u64,
     slot: u16,
 ) -> SlotFact
-    ensures { factWithNumbers result ≡ factWithNumbers (factForSlot Constant slots.now present.now kinds.now values.now pc slot) }
+    ensures { fact_with_numbers result ≡ fact_with_numbers (fact_for_slot Constant slots.now present.now kinds.now values.now pc slot) }
 {
     fact_for_slot(
         AnalysisKind::Constant,
@@ -75,7 +75,7 @@ pub fn index_check_fact_for_slot(
     pc: u64,
     slot: u16,
 ) -> SlotFact
-    ensures { factWithNumbers result ≡ factWithNumbers (factForSlot IndexCheck slots.now present.now kinds.now values.now pc slot) }
+    ensures { fact_with_numbers result ≡ fact_with_numbers (fact_for_slot IndexCheck slots.now present.now kinds.now values.now pc slot) }
 {
     fact_for_slot(
         AnalysisKind::IndexCheck,
@@ -97,7 +97,7 @@ pub fn container_fact_for_slot(
     pc: u64,
     slot: u16,
 ) -> SlotFact
-    ensures { factWithNumbers result ≡ factWithNumbers (factForSlot Container slots.now present.now kinds.now values.now pc slot) }
+    ensures { fact_with_numbers result ≡ fact_with_numbers (fact_for_slot Container slots.now present.now kinds.now values.now pc slot) }
 {
     fact_for_slot(
         AnalysisKind::Container,
@@ -112,7 +112,7 @@ pub fn container_fact_for_slot(
 
 // "yes for byte 1, no for 0 or pc from n up, 9 for another byte"
 pub fn is_reachable(present: &[u8], pc: u64) -> Reachability
-    ensures { reachabilityWithNumbers result ≡ reachabilityWithNumbers (isReachable present.now pc) }
+    ensures { reachability_with_numbers result ≡ reachability_with_numbers (is_reachable present.now pc) }
 {
     match present_at(present, pc) {
         0 => Reachability::No,
@@ -129,7 +129,7 @@ pub fn fixed_fact(
     values: &[u64],
     slot: u16,
 ) -> SlotFact
-    ensures { factWithNumbers result ≡ factWithNumbers (fixed slots.now present.now kinds.now values.now slot) }
+    ensures { fact_with_numbers result ≡ fact_with_numbers (fixed slots.now present.now kinds.now values.now slot) }
 {
     if !tables_agree(slots, present, kinds, values) {
         return SlotFact::Damaged;

@@ -1,6 +1,6 @@
 // Question 9 of the slots and of the tables' lengths.
 ghost use Rattle.std.specs.Prelude.{◌≡◌, ◌*◌, eqb};
-ghost use Rattle.model.specs.Lookup.{ascends, tablesAgree};
+ghost use Rattle.model.specs.Lookup.{ascends, tables_agree};
 
 // "do the slots ascend strictly"
 fn ascending(slots: &[u16]) -> bool
@@ -31,7 +31,7 @@ fn is_product(len: usize, n: usize, s: usize) -> bool
 
 // "do the slots ascend strictly, are kinds and values exactly n × s long"
 pub fn tables_agree(slots: &[u16], present: &[u8], kinds: &[u8], values: &[u64]) -> bool
-    ensures { result ≡ tablesAgree slots.now present.now kinds.now values.now }
+    ensures { result ≡ tables_agree slots.now present.now kinds.now values.now }
 {
     let n = present.len();
     let s = slots.len();

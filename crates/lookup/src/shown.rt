@@ -1,15 +1,15 @@
 // "A constant slot is fixed when n exceeds 1, some instruction but 0 is present and all such show the same known value."
 ghost use Rattle.std.specs.Prelude.{◌≡◌, ◌*◌, ◌-◌, ◌<◌, length, eqb, leb};
-ghost use Rattle.model.specs.Lookup.{show, showIf, shown, fixed_at};
+ghost use Rattle.model.specs.Lookup.{show, show_if, shown, fixed_at};
 ghost use Rattle.fact_row.specs.Place.{placed};
 ghost use Rattle.lookup.specs.Inside.{Inside};
-ghost use Rattle.lookup.specs.Shown.{shownBy};
+ghost use Rattle.lookup.specs.Shown.{shown_by};
 
 use fact_row::Place;
 use model::SlotFact;
 
 // What the present instructions seen so far show of a slot: none of them, all one known value, or something else.
-#[derive(Drop)]
+#[derive(Clone, Copy)]
 pub enum Seen {
     Nothing,
     One { kind: u8, value: u64 },
@@ -18,7 +18,7 @@ pub enum Seen {
 
 // One more present instruction shows this kind and value.
 fn show(kind: u8, value: u64, seen: Seen) -> Seen
-    ensures { shownBy result ≡ show (leb 2 kind) kind value (shownBy seen) }
+    ensures { shown_by result ≡ show (leb 2 kind) kind value (shown_by seen) }
 {
     if kind < 2 {
         return Seen::Mixed;
@@ -40,7 +40,7 @@ fn show(kind: u8, value: u64, seen: Seen) -> Seen
 
 // An absent instruction shows nothing.
 fn show_if(byte: u8, kind: u8, value: u64, seen: Seen) -> Seen
-    ensures { shownBy result ≡ showIf (eqb byte 1) kind value (shownBy seen) }
+    ensures { shown_by result ≡ show_if (eqb byte 1) kind value (shown_by seen) }
 {
     if byte == 1 {
         return show(kind, value, seen);
@@ -51,7 +51,7 @@ fn show_if(byte: u8, kind: u8, value: u64, seen: Seen) -> Seen
 // The instructions 1 to n − 1, which are all but 0.
 fn shown(s: usize, present: &[u8], kinds: &[u8], values: &[u64], j: usize) -> Seen
     requires { (j < s) × (length kinds.now ≡ length present.now * s) × (length values.now ≡ length kinds.now) }
-    ensures { shownBy result ≡ shown s present.now kinds.now values.now j (length present.now - 1) }
+    ensures { shown_by result ≡ shown s present.now kinds.now values.now j (length present.now - 1) }
 {
     let mut seen = Seen::Nothing;
     let mut pc = 1;

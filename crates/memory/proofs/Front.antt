@@ -12,13 +12,13 @@ use lib.Seq.{get_or-set_same, get_or-set_other, ext_get_or}
 use Rattle.memory.specs.Front.{front, Holds}
 
 module _ {A : Type 0} (f : ℕ → A) where
-  pub front-none : (old : List A) → old ≡ front f 0 old
+  pub front_none : (old : List A) → old ≡ front f 0 old
   unfolding front
-  front-none old = refl
+  front_none old = refl
 
-  pub front-more : (i : ℕ) (old : List A) {out : List A} {v : A} → out ≡ front f i old → v ≡ f i → set out i v ≡ front f (i + 1) old
+  pub front_more : (i : ℕ) (old : List A) {out : List A} {v : A} → out ≡ front f i old → v ≡ f i → set out i v ≡ front f (i + 1) old
   unfolding front
-  front-more i old p q = rw (add-one, p, q)
+  front_more i old p q = rw (add-one, p, q)
 
   pub length_front : (count : ℕ) (old : List A) → length (front f count old) ≡ length old
   unfolding front
@@ -36,14 +36,14 @@ module _ {A : Type 0} (f : ℕ → A) where
       go (inr l) before = get_or-set_other (front f n old) n i (f n) d (λ e. omega arith) ∙ before (omega arith)
 
   -- a list written whole is any list with those elements
-  pub front-whole : (count : ℕ) (d : A) (old goal : List A) → count ≡ length old → length goal ≡ length old → ((i : ℕ) → i < length goal → get_or goal i d ≡ f i) → front f count old ≡ goal
-  front-whole count d old goal all long at =
+  pub front_whole : (count : ℕ) (d : A) (old goal : List A) → count ≡ length old → length goal ≡ length old → ((i : ℕ) → i < length goal → get_or goal i d ≡ f i) → front f count old ≡ goal
+  front_whole count d old goal all long at =
       ext_get_or d (front f count old) goal (length_front count old ∙ sym long)
       (λ i h. get_d_front count old i d (omega (arith, length_front count old)) (omega arith) ∙ sym (at i (omega (arith, length_front count old))))
 
 -- a written front is a table of f
-pub front-holds : (f : ℕ → ℕ) (count : ℕ) (old : List ℕ) → count ≤ length old → {table : List ℕ} → table ≡ front f count old → Holds f count table
-front-holds f count old h e = rw e (record {
+pub front_holds : (f : ℕ → ℕ) (count : ℕ) (old : List ℕ) → count ≤ length old → {table : List ℕ} → table ≡ front f count old → Holds f count table
+front_holds f count old h e = rw e (record {
   long = omega (arith, length_front f count old);
   at = λ i l. get_d_front f count old i 0 l h;
 })

@@ -1,4 +1,6 @@
 // Clearing and copying of lent memory, a file for each width in use. The loops' laws are said once, for any element (proofs/StoreLoops).
+#![tactic(auto)]
+
 mod width_16;
 mod width_64;
 mod width_8;

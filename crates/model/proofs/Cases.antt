@@ -8,12 +8,12 @@ use Prim.Native.Nat.{ℕ, ◌+◌, ◌*◌, ◌/◌, ◌%◌}
 use lib.ListN.{length, replicate}
 use lib.IntN.{pos, negsuc}
 use Rattle.model.specs.Count.{collect}
-use Rattle.model.specs.Successors.{sheetSuccessors}
-use Rattle.model.specs.Fact.{Fact, unknown, conflict, kind, value, Row, equalKnown, join}
-use Rattle.model.specs.Transfer.{integer, checked, transferRow}
-use Rattle.model.specs.Analyses.{Analysed, lengthFacts}
+use Rattle.model.specs.Successors.{sheet_successors}
+use Rattle.model.specs.Fact.{Fact, unknown, conflict, kind, value, Row, equal_known, join}
+use Rattle.model.specs.Transfer.{integer, checked, transfer_row}
+use Rattle.model.specs.Analyses.{Analysed, length_facts}
 use Rattle.model.specs.Charges.{fresh}
-use Rattle.model.specs.Listing.{ascii, listing, listingCompute}
+use Rattle.model.specs.Listing.{ascii, listing, listing_compute}
 use Rattle.model.specs.declared.AnalysisKind.TheVariants.{Constant, IndexCheck}
 
 -- ---- sheets without constants, parameters, layouts and notes
@@ -72,13 +72,13 @@ cell f = kind f ∷ value f ∷ []
 number : ℕ → Fact
 number v = integer (pos v)
 
-minusOne : Fact
-minusOne = integer (negsuc 0)
+minus_one : Fact
+minus_one = integer (negsuc 0)
 
 -- facts joined in turn
 joins : Fact → List Fact → Fact
 joins f [] = f
-joins f (g ∷ gs) = joins (join (equalKnown Constant []) f g) gs
+joins f (g ∷ gs) = joins (join (equal_known Constant []) f g) gs
 
 -- the kinds and values of a row
 cells : Row → List ℕ
@@ -87,11 +87,11 @@ cells (h ∷ hs) = cell h ++ cells hs
 
 -- the row of slots 0, 1 and 2 behind an instruction with a 2, b 0 and c 1 that writes slot 2
 folded : ℕ → Fact → Fact → List ℕ
-folded code f g = cells (transferRow Constant (script 3 (writing 2 (op code 2 0 1) ∷ [])) (0 ∷ 1 ∷ 2 ∷ []) (λ pc. unknown) 0 (f ∷ g ∷ unknown ∷ []))
+folded code f g = cells (transfer_row Constant (script 3 (writing 2 (op code 2 0 1) ∷ [])) (0 ∷ 1 ∷ 2 ∷ []) (λ pc. unknown) 0 (f ∷ g ∷ unknown ∷ []))
 
 -- the index fact of slot 0 behind IndexCheck a 0, b 1, where the constant run ended with this fact of slot 1
-indexChecked : Fact → List ℕ
-indexChecked constant = cells (transferRow IndexCheck sheet (0 ∷ []) (lengthFacts sheet constants) 0 (unknown ∷ []))
+index_checked : Fact → List ℕ
+index_checked constant = cells (transfer_row IndexCheck sheet (0 ∷ []) (length_facts sheet constants) 0 (unknown ∷ []))
   where
     sheet : List ℕ
     sheet = script 2 (silent (op 121 0 1 0) ∷ [])
@@ -109,8 +109,8 @@ among before code behind = script 0 (lines before ++ (silent code ∷ lines behi
     lines count = collect (λ i. silent (op 0 0 0 0) ∷ []) count
 
 -- the index facts of slots 0 to 3 behind a SlotSet with a 0 and b 1
-slotSet : Row → List ℕ
-slotSet row = cells (transferRow IndexCheck (script 4 (silent (op 6 0 1 0) ∷ [])) (0 ∷ 1 ∷ 2 ∷ 3 ∷ []) (λ pc. unknown) 0 row)
+slot_set : Row → List ℕ
+slot_set row = cells (transfer_row IndexCheck (script 4 (silent (op 6 0 1 0) ∷ [])) (0 ∷ 1 ∷ 2 ∷ 3 ∷ []) (λ pc. unknown) 0 row)
 
 -- "L 2; LoadInt a 0, 7; JumpIfNot a 1, +2; LoadInt a 0, 9; IndexCheck a 1, b 0; Return; ranges (0, 1) for instructions 0 and 2"
 worked : List ℕ
@@ -123,8 +123,8 @@ printed (some text) = text
 
 -- ---- the table
 
-pub caseTable : List (List ℕ × List ℕ)
-caseTable =
+pub case_table : List (List ℕ × List ℕ)
+case_table =
     -- "Unknown and 7 join to Unknown; 7 and 9 to Conflict; 7, 9, Unknown in turn give Conflict; 7, Unknown, 9 give Unknown"
     (cell (joins unknown (number 7 ∷ [])), 0 ∷ 0 ∷ [])
     ∷ (cell (joins (number 7) (number 9 ∷ [])), 1 ∷ 0 ∷ [])
@@ -134,19 +134,19 @@ caseTable =
     ∷ (folded 53 (number 1) (number 63), 2 ∷ 1 ∷ 2 ∷ 63 ∷ 2 ∷ 9223372036854775808 ∷ [])
     ∷ (folded 53 (number 1) (number 64), 2 ∷ 1 ∷ 2 ∷ 64 ∷ 0 ∷ 0 ∷ [])
     -- "−1 Or 0 (the opcode) gives Unknown"
-    ∷ (folded 49 minusOne (number 0), 3 ∷ 18446744073709551615 ∷ 2 ∷ 0 ∷ 0 ∷ 0 ∷ [])
+    ∷ (folded 49 minus_one (number 0), 3 ∷ 18446744073709551615 ∷ 2 ∷ 0 ∷ 0 ∷ 0 ∷ [])
     -- "IndexCheck of 65,535 is Checked, of 65,536 and −1 Conflict"
-    ∷ (indexChecked (number 65535), 2 ∷ 65535 ∷ [])
-    ∷ (indexChecked (number 65536), 1 ∷ 0 ∷ [])
-    ∷ (indexChecked minusOne, 1 ∷ 0 ∷ [])
+    ∷ (index_checked (number 65535), 2 ∷ 65535 ∷ [])
+    ∷ (index_checked (number 65536), 1 ∷ 0 ∷ [])
+    ∷ (index_checked minus_one, 1 ∷ 0 ∷ [])
     -- "ForLoop at 5 of 10 with c 65,533 goes to 6, 3"
-    ∷ (sheetSuccessors (among 5 (op 124 0 0 65533) 4) 5, 6 ∷ 3 ∷ [])
+    ∷ (sheet_successors (among 5 (op 124 0 0 65533) 4) 5, 6 ∷ 3 ∷ [])
     -- "Jump −3 at 2 goes nowhere"
-    ∷ (sheetSuccessors (among 2 (op 57 0 65533 65535) 7) 2, [])
+    ∷ (sheet_successors (among 2 (op 57 0 65533 65535) 7) 2, [])
     -- "JumpIf +1 at 1 of 3 goes to 2 alone"
-    ∷ (sheetSuccessors (among 1 (op 58 0 1 0) 1) 1, 2 ∷ [])
+    ∷ (sheet_successors (among 1 (op 58 0 1 0) 1) 1, 2 ∷ [])
     -- "SlotSet under Checked 0 writes nothing": slot 1 is b
-    ∷ (slotSet (checked 5 ∷ checked 0 ∷ conflict ∷ checked 9 ∷ []), 2 ∷ 5 ∷ 2 ∷ 0 ∷ 1 ∷ 0 ∷ 2 ∷ 9 ∷ [])
+    ∷ (slot_set (checked 5 ∷ checked 0 ∷ conflict ∷ checked 9 ∷ []), 2 ∷ 5 ∷ 2 ∷ 0 ∷ 1 ∷ 0 ∷ 2 ∷ 9 ∷ [])
     -- "the listing's 7 pops", with all the rest of it
     ∷ (
       printed (listing worked),
@@ -155,6 +155,6 @@ caseTable =
     ∷ []
 
 -- Row by row they are the same.
-pub cases : map (λ row. row.0) caseTable ≡ map (λ row. row.1) caseTable
-unfolding bytes2 bytes4 op silent writing each script cell number minusOne joins cells folded indexChecked among slotSet worked printed caseTable listingCompute
+pub cases : map (λ row. row.0) case_table ≡ map (λ row. row.1) case_table
+unfolding bytes2 bytes4 op silent writing each script cell number minus_one joins cells folded index_checked among slot_set worked printed case_table listing_compute
 cases = refl

@@ -2,12 +2,12 @@
 -- Assumes nothing.
 use mathlib.Core.Path.{◌≡◌}
 use Prim.Native.Nat.{ℕ, zero, suc, ◌+◌}
-use Rattle.model.specs.Charges.{Refusal, stop, Metered, continue, ◌>>◌, forEach}
+use Rattle.model.specs.Charges.{Refusal, stop, Metered, continue, ◌>>◌, for_each}
 use Rattle.model.specs.declared.VerifierResources.{VerifierResources}
 
 -- once a part has refused, no later one is reached
-pub each-stops : (f : ℕ → Metered (Unit {0})) (i more : ℕ) (budget : VerifierResources) (refusal : Refusal) (left : VerifierResources)
-    → forEach f i budget ≡ stop refusal left → forEach f (more + i) budget ≡ stop refusal left
-unfolding forEach ◌>>◌ continue
-each-stops f i zero budget refusal left e = rw (native.Mathlib.Nat.zero-add i) e
-each-stops f i (suc more) budget refusal left e = rw (native.Mathlib.Nat.suc-add more i) (rw (each-stops f i more budget refusal left e))
+pub each_stops : (f : ℕ → Metered (Unit {0})) (i more : ℕ) (budget : VerifierResources) (refusal : Refusal) (left : VerifierResources)
+    → for_each f i budget ≡ stop refusal left → for_each f (more + i) budget ≡ stop refusal left
+unfolding for_each ◌>>◌ continue
+each_stops f i zero budget refusal left e = rw (native.Mathlib.Nat.zero-add i) e
+each_stops f i (suc more) budget refusal left e = rw (native.Mathlib.Nat.suc-add more i) (rw (each_stops f i more budget refusal left e))

@@ -3,7 +3,7 @@
 use mathlib.Core.Path.{◌≡◌, refl}
 use Prim.Native.Nat.{ℕ, zero, suc}
 use native.Mathlib.Omega.{arith}
-use Rattle.model.specs.Charges.{Spent, ok, stop, unfinished, Metered, give, continue, ◌>>=◌, ◌>>◌, inStage, spendBytes, spendWork, forEach}
+use Rattle.model.specs.Charges.{Spent, ok, stop, unfinished, Metered, give, continue, ◌>>=◌, ◌>>◌, in_stage, spend_bytes, spend_work, for_each}
 use Rattle.model.specs.declared.Charge.{Charge}
 use Rattle.model.specs.declared.Charge.TheVariants.{Covered, Refused}
 use Rattle.model.specs.declared.VerifierResources.{VerifierResources}
@@ -17,30 +17,30 @@ pub record Parts {A B : Type 0} (part : Metered A) (next : A → Metered B) (bud
   pub before : part budget ≡ ok a rest
   pub after : next a rest ≡ ok b left
 
-parts-of : {A B : Type 0} (part : Metered A) (next : A → Metered B) (budget : VerifierResources) (b : B) (left : VerifierResources) (first : Spent A)
+parts_of : {A B : Type 0} (part : Metered A) (next : A → Metered B) (budget : VerifierResources) (b : B) (left : VerifierResources) (first : Spent A)
     → part budget ≡ first → continue next first ≡ ok b left → Parts part next budget b left
 unfolding continue
-parts-of part next budget b left (ok a rest) h e = record { a = a; rest = rest; before = h; after = e }
-parts-of part next budget b left (stop refusal rest) h e = let z : ◌≡◌ {A = ℕ} 0 1 = cc in let never : ⊥ = omega arith in absurd never
-parts-of part next budget b left unfinished h e = let z : ◌≡◌ {A = ℕ} 0 1 = cc in let never : ⊥ = omega arith in absurd never
+parts_of part next budget b left (ok a rest) h e = record { a = a; rest = rest; before = h; after = e }
+parts_of part next budget b left (stop refusal rest) h e = let z : ◌≡◌ {A = ℕ} 0 1 = cc in let never : ⊥ = omega arith in absurd never
+parts_of part next budget b left unfinished h e = let z : ◌≡◌ {A = ℕ} 0 1 = cc in let never : ⊥ = omega arith in absurd never
 
-pub bound-parts : {A B : Type 0} {part : Metered A} {next : A → Metered B} {budget : VerifierResources} {b : B} {left : VerifierResources}
+pub bound_parts : {A B : Type 0} {part : Metered A} {next : A → Metered B} {budget : VerifierResources} {b : B} {left : VerifierResources}
     → (part >>= next) budget ≡ ok b left → Parts part next budget b left
 unfolding ◌>>=◌
-bound-parts {part} {next} {budget} {b} {left} e = parts-of part next budget b left (part budget) refl e
+bound_parts {part} {next} {budget} {b} {left} e = parts_of part next budget b left (part budget) refl e
 
-pub then-parts : {A B : Type 0} {part : Metered A} {next : Metered B} {budget : VerifierResources} {b : B} {left : VerifierResources}
+pub then_parts : {A B : Type 0} {part : Metered A} {next : Metered B} {budget : VerifierResources} {b : B} {left : VerifierResources}
     → (part >> next) budget ≡ ok b left → Parts part (λ _. next) budget b left
 unfolding ◌>>◌
-then-parts {part} {next} {budget} {b} {left} e = parts-of part (λ _. next) budget b left (part budget) refl e
+then_parts {part} {next} {budget} {b} {left} e = parts_of part (λ _. next) budget b left (part budget) refl e
 
 pub given : {A : Type 0} (a : A) (budget : VerifierResources) {b : A} {left : VerifierResources} → give a budget ≡ ok b left → a ≡ b
 unfolding give
 given a budget e = cc
 
-pub left-given : {A : Type 0} (a : A) (budget : VerifierResources) {b : A} {left : VerifierResources} → give a budget ≡ ok b left → budget ≡ left
+pub left_given : {A : Type 0} (a : A) (budget : VerifierResources) {b : A} {left : VerifierResources} → give a budget ≡ ok b left → budget ≡ left
 unfolding give
-left-given a budget e = cc
+left_given a budget e = cc
 
 -- ---- that it finishes
 
@@ -48,43 +48,43 @@ left-given a budget e = cc
 abbrev pub Finishes : {A : Type 0} → Metered A → Type 0
 Finishes part = (budget : VerifierResources) → part budget ≡ unfinished → ⊥
 
-pub bound-finishes : {A B : Type 0} {part : Metered A} {next : A → Metered B}
+pub bound_finishes : {A B : Type 0} {part : Metered A} {next : A → Metered B}
     → Finishes part → ((a : A) (budget left : VerifierResources) → part budget ≡ ok a left → next a left ≡ unfinished → ⊥) → Finishes (part >>= next)
 unfolding ◌>>=◌ continue
-bound-finishes {A} {B} {part} {next} f g budget e = go (part budget) refl e
+bound_finishes {A} {B} {part} {next} f g budget e = go (part budget) refl e
   where
     go : (first : Spent A) → part budget ≡ first → continue next first ≡ unfinished → ⊥
     go (ok a left) h k = g a budget left h k
     go (stop refusal left) h k = let z : ◌≡◌ {A = ℕ} 0 1 = cc in omega arith
     go unfinished h k = f budget h
 
-pub then-finishes : {A B : Type 0} {part : Metered A} {next : Metered B} → Finishes part → Finishes next → Finishes (part >> next)
+pub then_finishes : {A B : Type 0} {part : Metered A} {next : Metered B} → Finishes part → Finishes next → Finishes (part >> next)
 unfolding ◌>>◌ continue
-then-finishes {A} {B} {part} {next} f g budget e = go (part budget) refl e
+then_finishes {A} {B} {part} {next} f g budget e = go (part budget) refl e
   where
     go : (first : Spent A) → part budget ≡ first → continue (λ _. next) first ≡ unfinished → ⊥
     go (ok a left) h k = g left k
     go (stop refusal left) h k = let z : ◌≡◌ {A = ℕ} 0 1 = cc in omega arith
     go unfinished h k = f budget h
 
-pub give-finishes : {A : Type 0} (a : A) → Finishes (give a)
+pub give_finishes : {A : Type 0} (a : A) → Finishes (give a)
 unfolding give
-give-finishes a budget e = let z : ◌≡◌ {A = ℕ} 0 1 = cc in omega arith
+give_finishes a budget e = let z : ◌≡◌ {A = ℕ} 0 1 = cc in omega arith
 
-stage-finishes : (stage : ℕ) (left : VerifierResources) (c : Charge) → inStage stage left c ≡ unfinished → ⊥
-unfolding inStage
-stage-finishes stage left (Covered rest) e = let z : ◌≡◌ {A = ℕ} 0 1 = cc in omega arith
-stage-finishes stage left (Refused requested remaining) e = let z : ◌≡◌ {A = ℕ} 0 1 = cc in omega arith
+stage_finishes : (stage : ℕ) (left : VerifierResources) (c : Charge) → in_stage stage left c ≡ unfinished → ⊥
+unfolding in_stage
+stage_finishes stage left (Covered rest) e = let z : ◌≡◌ {A = ℕ} 0 1 = cc in omega arith
+stage_finishes stage left (Refused requested remaining) e = let z : ◌≡◌ {A = ℕ} 0 1 = cc in omega arith
 
-pub bytes-finish : (stage amount : ℕ) → Finishes (spendBytes stage amount)
-unfolding spendBytes
-bytes-finish stage amount budget e = stage-finishes stage budget _ e
+pub bytes_finish : (stage amount : ℕ) → Finishes (spend_bytes stage amount)
+unfolding spend_bytes
+bytes_finish stage amount budget e = stage_finishes stage budget _ e
 
-pub work-finishes : (stage amount : ℕ) → Finishes (spendWork stage amount)
-unfolding spendWork
-work-finishes stage amount budget e = stage-finishes stage budget _ e
+pub work_finishes : (stage amount : ℕ) → Finishes (spend_work stage amount)
+unfolding spend_work
+work_finishes stage amount budget e = stage_finishes stage budget _ e
 
-pub each-finishes : (f : ℕ → Metered (Unit {0})) (count : ℕ) → ((i : ℕ) → Finishes (f i)) → Finishes (forEach f count)
-unfolding forEach
-each-finishes f zero h = give-finishes tt
-each-finishes f (suc i) h = then-finishes (each-finishes f i h) (h i)
+pub each_finishes : (f : ℕ → Metered (Unit {0})) (count : ℕ) → ((i : ℕ) → Finishes (f i)) → Finishes (for_each f count)
+unfolding for_each
+each_finishes f zero h = give_finishes tt
+each_finishes f (suc i) h = then_finishes (each_finishes f i h) (h i)

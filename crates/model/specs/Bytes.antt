@@ -19,7 +19,7 @@ u32 bytes i = u16 bytes i + 65536 * u16 bytes (i + 2)
 unfoldable pub u64 : List ℕ → ℕ → ℕ
 u64 bytes i = u32 bytes i + 4294967296 * u32 bytes (i + 4)
 
--- `unfolding bytesCompute` unfolds all of this file.
-unfoldable pub bytesCompute : Unit {0}
+-- `unfolding bytes_compute` unfolds all of this file.
+unfoldable pub bytes_compute : Unit {0}
 unfolding byte u16 u32 u64
-bytesCompute = tt
+bytes_compute = tt

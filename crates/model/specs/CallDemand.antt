@@ -4,14 +4,14 @@ use Rattle.std.specs.Prelude.{◌≡◌, true, false, ℕ, ◌+◌, ◌*◌, ◌
 use mathlib.Core.List.{List, ◌∷◌, Memᴰ}
 use Rattle.std.proofs.Math.Option.{some}
 use Rattle.std.specs.Int.Bits.{bit_and}
-use Rattle.model.specs.Sheet.{codeCount, localSlots, instruction}
+use Rattle.model.specs.Sheet.{code_count, local_slots, instruction}
 use Rattle.model.specs.Charges.{ok}
-use Rattle.model.specs.Dependencies.{dependencyBit, FactDependency, edges_to, Field, field, seedFields, chargeDependencies}
-use Rattle.model.specs.Closure.{Marked, mark, unmarked, trackedSlots}
+use Rattle.model.specs.Dependencies.{dependency_bit, FactDependency, edges_to, Field, field, seed_fields, charge_dependencies}
+use Rattle.model.specs.Closure.{Marked, mark, unmarked, tracked_slots}
 use Rattle.model.specs.Fact.{Fact, unknown}
 use Rattle.model.specs.Run.{Analysis, finished, bound, run}
-use Rattle.model.specs.Analyses.{Analysed, Facts, analysis, lengthFacts, chargeMatrix, firstRow, chargeFlow}
-use Rattle.model.specs.Call.{Table, Lent, completed, call, tables, filledTable}
+use Rattle.model.specs.Analyses.{Analysed, Facts, analysis, length_facts, charge_matrix, first_row, charge_flow}
+use Rattle.model.specs.Call.{Table, Lent, completed, call, tables, filled_table}
 use Rattle.model.specs.Lookup.{ascends}
 use Rattle.model.specs.Demand.{Final, FinalTable, Demand3}
 use Rattle.model.specs.declared.Counts.{Counts}
@@ -23,15 +23,15 @@ use Rattle.model.specs.declared.AnalysisKind.TheVariants.{Constant, IndexCheck, 
 
 -- The slots that an analysis tracks: the seeds below L, and what its dependencies lead to from a tracked slot.
 pub data Tracked (which : AnalysisKind) (sheet : List ℕ) : ℕ → Type 0 where
-  seed : {slot pc : ℕ} {f : Field} → pc < codeCount sheet → Memᴰ f (seedFields which (instruction sheet pc).op)
-      → slot ≡ field (instruction sheet pc) f → slot < localSlots sheet → Tracked which sheet slot
+  seed : {slot pc : ℕ} {f : Field} → pc < code_count sheet → Memᴰ f (seed_fields which (instruction sheet pc).op)
+      → slot ≡ field (instruction sheet pc) f → slot < local_slots sheet → Tracked which sheet slot
   source : {slot d : ℕ} {e : FactDependency} → Tracked which sheet d → Memᴰ e (edges_to sheet d)
-      → eqb (bit_and e.kinds (dependencyBit which)) 0 ≡ false → slot ≡ e.source → Tracked which sheet slot
+      → eqb (bit_and e.kinds (dependency_bit which)) 0 ≡ false → slot ≡ e.source → Tracked which sheet slot
 
 -- What the tracked slots are: "The result ascends", strictly and below L, and holds exactly the slots above.
 pub record TrackedExactly (which : AnalysisKind) (sheet slots : List ℕ) : Type 0 where
   pub ascending : ascends slots ≡ true
-  pub below : (slot : ℕ) → Memᴰ slot slots → slot < localSlots sheet
+  pub below : (slot : ℕ) → Memᴰ slot slots → slot < local_slots sheet
   pub only : (slot : ℕ) → Memᴰ slot slots → Tracked which sheet slot
   pub all : (slot : ℕ) → Tracked which sheet slot → Memᴰ slot slots
 
@@ -44,61 +44,61 @@ pub data Passed (sheet : List ℕ) : Marked → Type 0 where
 -- ---- one analysis of a call
 
 -- The run of an analysis that was fed and ended so.
-abbrev pub analysisOf : AnalysisKind → List ℕ → (ℕ → Fact) → Analysed → Analysis
-analysisOf which sheet lengthFact a = analysis which sheet a.slots lengthFact a.entry
+abbrev pub analysis_of : AnalysisKind → List ℕ → (ℕ → Fact) → Analysed → Analysis
+analysis_of which sheet length_fact a = analysis which sheet a.slots length_fact a.entry
 
 -- How an analysis of a call came about, from the budget before it to the budget after it: its slots are what the closure gave, its first
 -- row what the parameters gave, its budget what was left at that point.
-pub record Made (which : AnalysisKind) (sheet : List ℕ) (lengthFact : ℕ → Fact) (before : VerifierResources) (a : Analysed) (after : VerifierResources) : Type 0 where
+pub record Made (which : AnalysisKind) (sheet : List ℕ) (length_fact : ℕ → Fact) (before : VerifierResources) (a : Analysed) (after : VerifierResources) : Type 0 where
   pub closed : VerifierResources
-  pub tracked : trackedSlots which sheet before ≡ ok a.slots closed
+  pub tracked : tracked_slots which sheet before ≡ ok a.slots closed
   pub charged : VerifierResources
-  pub matrix : chargeMatrix which sheet a.slots closed ≡ ok tt charged
-  pub entry : firstRow which sheet a.slots charged ≡ ok a.entry a.started
-  pub ran : run (analysisOf which sheet lengthFact a) a.started.work ≡ finished a.rows a.pops after.work
+  pub matrix : charge_matrix which sheet a.slots closed ≡ ok tt charged
+  pub entry : first_row which sheet a.slots charged ≡ ok a.entry a.started
+  pub ran : run (analysis_of which sheet length_fact a) a.started.work ≡ finished a.rows a.pops after.work
   pub bytes : after.bytes ≡ a.started.bytes
 
 -- Demand 3 of an analysis of a call: of its slots, of its run, of its rows, and of its tables in memory.
-pub record Demanded (which : AnalysisKind) (sheet : List ℕ) (lengthFact : ℕ → Fact) (a : Analysed) : Type 0 where
+pub record Demanded (which : AnalysisKind) (sheet : List ℕ) (length_fact : ℕ → Fact) (a : Analysed) : Type 0 where
   pub slots : TrackedExactly which sheet a.slots
-  pub run : Demand3 (analysisOf which sheet lengthFact a) a.started.work
-  pub pops : a.pops ≤ bound (analysisOf which sheet lengthFact a)
-  pub rows : 0 < codeCount sheet → 0 < length a.slots → Final (analysisOf which sheet lengthFact a) a.rows
+  pub run : Demand3 (analysis_of which sheet length_fact a) a.started.work
+  pub pops : a.pops ≤ bound (analysis_of which sheet length_fact a)
+  pub rows : 0 < code_count sheet → 0 < length a.slots → Final (analysis_of which sheet length_fact a) a.rows
   -- of the tables as they lie in what was lent, whatever that held before
-  pub memory : (old : Table) → 0 < codeCount sheet → 0 < length a.slots
-      → FinalTable (analysisOf which sheet lengthFact a) (filledTable (tables a) old).present (filledTable (tables a) old).kinds (filledTable (tables a) old).values
+  pub memory : (old : Table) → 0 < code_count sheet → 0 < length a.slots
+      → FinalTable (analysis_of which sheet length_fact a) (filled_table (tables a) old).present (filled_table (tables a) old).kinds (filled_table (tables a) old).values
 
 -- ---- the three
 
 -- the facts of a call, from the budget it was given to the budget left
 pub record CallDemand (sheet : List ℕ) (budget : VerifierResources) (facts : Facts) (left : VerifierResources) : Type 0 where
-  pub afterFlow : VerifierResources
-  pub flow : chargeFlow sheet budget ≡ ok tt afterFlow
-  pub afterDependencies : VerifierResources
-  pub dependencies : chargeDependencies sheet afterFlow ≡ ok tt afterDependencies
-  pub afterConstants : VerifierResources
-  pub constantsMade : Made Constant sheet (λ pc. unknown) afterDependencies facts.constants afterConstants
-  pub afterIndex : VerifierResources
-  pub indexMade : Made IndexCheck sheet (lengthFacts sheet facts.constants) afterConstants facts.index afterIndex
-  pub containersMade : Made Container sheet (λ pc. unknown) afterIndex facts.containers left
+  pub after_flow : VerifierResources
+  pub flow : charge_flow sheet budget ≡ ok tt after_flow
+  pub after_dependencies : VerifierResources
+  pub dependencies : charge_dependencies sheet after_flow ≡ ok tt after_dependencies
+  pub after_constants : VerifierResources
+  pub constants_made : Made Constant sheet (λ pc. unknown) after_dependencies facts.constants after_constants
+  pub after_index : VerifierResources
+  pub index_made : Made IndexCheck sheet (length_facts sheet facts.constants) after_constants facts.index after_index
+  pub containers_made : Made Container sheet (λ pc. unknown) after_index facts.containers left
   pub constants : Demanded Constant sheet (λ pc. unknown) facts.constants
-  pub index : Demanded IndexCheck sheet (lengthFacts sheet facts.constants) facts.index
+  pub index : Demanded IndexCheck sheet (length_facts sheet facts.constants) facts.index
   pub containers : Demanded Container sheet (λ pc. unknown) facts.containers
 
 -- ---- the lent memory
 
 -- Demand 3 of one analysis' answer and output: s and the slots are the analysis' own, the bound on pops holds always, and with n and s above zero the
 -- lent tables are final.
-pub record TableDemand (which : AnalysisKind) (sheet : List ℕ) (lengthFact : ℕ → Fact) (a : Analysed) (given : Counts) (table : Table) : Type 0 where
+pub record TableDemand (which : AnalysisKind) (sheet : List ℕ) (length_fact : ℕ → Fact) (a : Analysed) (given : Counts) (table : Table) : Type 0 where
   pub tracked : given.tracked ≡ length a.slots
   pub slots : take given.tracked table.slots ≡ a.slots
-  pub pops : given.pops ≤ codeCount sheet * (1 + 2 * given.tracked)
-  pub final : 0 < codeCount sheet → 0 < given.tracked → FinalTable (analysisOf which sheet lengthFact a) table.present table.kinds table.values
+  pub pops : given.pops ≤ code_count sheet * (1 + 2 * given.tracked)
+  pub final : 0 < code_count sheet → 0 < given.tracked → FinalTable (analysis_of which sheet length_fact a) table.present table.kinds table.values
 
 -- Demand 3 as a caller sees it: of an answer with facts, and of what is lent afterwards. The facts are those of the call itself.
 pub record LentDemand (sheet : List ℕ) (budget : VerifierResources) (before : Lent) (constant index container : Counts) (left : VerifierResources) (after : Lent) : Type 0 where
   pub facts : Facts
   pub ended : call sheet budget before ≡ some (completed facts left)
-  pub constants-final : TableDemand Constant sheet (λ pc. unknown) facts.constants constant after.constants
-  pub index-final : TableDemand IndexCheck sheet (lengthFacts sheet facts.constants) facts.index index after.index
-  pub containers-final : TableDemand Container sheet (λ pc. unknown) facts.containers container after.containers
+  pub constants_final : TableDemand Constant sheet (λ pc. unknown) facts.constants constant after.constants
+  pub index_final : TableDemand IndexCheck sheet (length_facts sheet facts.constants) facts.index index after.index
+  pub containers_final : TableDemand Container sheet (λ pc. unknown) facts.containers container after.containers

@@ -11,45 +11,45 @@ fresh = record { bytes = 268435456; work = 268435456 }
 
 -- The bytes of one of each thing that is charged by number.
 pub record ByteUnits : Type 0 where
-  pub successorRecord : ℕ
+  pub successor_record : ℕ
   pub dependency : ℕ
-  pub constantFact : ℕ
-  pub indexFact : ℕ
-  pub containerFact : ℕ
+  pub constant_fact : ℕ
+  pub index_fact : ℕ
+  pub container_fact : ℕ
   pub mark : ℕ
-  pub workSlot : ℕ
-  pub slotKind : ℕ
+  pub work_slot : ℕ
+  pub slot_kind : ℕ
 
 -- "Byte units: successor record 24, dependency 4, constant fact 32, index fact 4, container fact 40, mark 1, work slot 2, slot kind 1"
 abbrev pub units : ByteUnits
-units = record { successorRecord = 24; dependency = 4; constantFact = 32; indexFact = 4; containerFact = 40; mark = 1; workSlot = 2; slotKind = 1 }
+units = record { successor_record = 24; dependency = 4; constant_fact = 32; index_fact = 4; container_fact = 40; mark = 1; work_slot = 2; slot_kind = 1 }
 
 -- ---- one charge
 
 -- "7. Does what is left cover the charge?" "A refused charge takes nothing."
-unfoldable pub bytesCharged : Bool → ℕ → VerifierResources → Charge
-bytesCharged true amount left = Covered (record { bytes = left.bytes - amount; work = left.work })
-bytesCharged false amount left = Refused amount left.bytes
+unfoldable pub bytes_charged : Bool → ℕ → VerifierResources → Charge
+bytes_charged true amount left = Covered (record { bytes = left.bytes - amount; work = left.work })
+bytes_charged false amount left = Refused amount left.bytes
 
 -- `charge_bytes`: the amount is the count times the unit
-unfoldable pub chargeBytes : ℕ → VerifierResources → Charge
-chargeBytes amount left = bytesCharged (leb amount left.bytes) amount left
+unfoldable pub charge_bytes : ℕ → VerifierResources → Charge
+charge_bytes amount left = bytes_charged (leb amount left.bytes) amount left
 
 -- the same for work
-unfoldable pub workCharged : Bool → ℕ → VerifierResources → Charge
-workCharged true amount left = Covered (record { bytes = left.bytes; work = left.work - amount })
-workCharged false amount left = Refused amount left.work
+unfoldable pub work_charged : Bool → ℕ → VerifierResources → Charge
+work_charged true amount left = Covered (record { bytes = left.bytes; work = left.work - amount })
+work_charged false amount left = Refused amount left.work
 
 -- `charge_work`
-unfoldable pub chargeWork : ℕ → VerifierResources → Charge
-chargeWork amount left = workCharged (leb amount left.work) amount left
+unfoldable pub charge_work : ℕ → VerifierResources → Charge
+charge_work amount left = work_charged (leb amount left.work) amount left
 
 -- ---- parts that spend
 
 -- A refusal on the way: "7, with stage (1 to 5 in charge order), requested, remaining", or 8.
 pub data Refusal : Type 0 where
-  overBudget : ℕ → ℕ → ℕ → Refusal
-  noRoom : Refusal
+  over_budget : ℕ → ℕ → ℕ → Refusal
+  no_room : Refusal
 
 -- What a part of the call comes to: what it gives, or a refusal, each with "what the covered charges left". `unfinished` says that a
 -- loop's fuel was too little, which the theorems about runs, closures and calls exclude.
@@ -68,8 +68,8 @@ module _ {A : Type 0} where
   give a left = ok a left
 
   -- a loop whose fuel was too little
-  unfoldable pub giveUp : Metered A
-  giveUp left = unfinished
+  unfoldable pub give_up : Metered A
+  give_up left = unfinished
 
   module _ {B : Type 0} where
     -- what follows a part: the next one with what it gave and left, or its refusal
@@ -88,23 +88,23 @@ module _ {A : Type 0} where
     ◌>>◌ part next left = continue (λ _. next) (part left)
 
 -- a charge as a part of the call: what is left is the budget it was made from where it is refused
-unfoldable pub inStage : ℕ → VerifierResources → Charge → Spent (Unit {0})
-inStage stage left (Covered rest) = ok tt rest
-inStage stage left (Refused requested remaining) = stop (overBudget stage requested remaining) left
+unfoldable pub in_stage : ℕ → VerifierResources → Charge → Spent (Unit {0})
+in_stage stage left (Covered rest) = ok tt rest
+in_stage stage left (Refused requested remaining) = stop (over_budget stage requested remaining) left
 
 -- bytes charged to a stage
-unfoldable pub spendBytes : ℕ → ℕ → Metered (Unit {0})
-spendBytes stage amount left = inStage stage left (chargeBytes amount left)
+unfoldable pub spend_bytes : ℕ → ℕ → Metered (Unit {0})
+spend_bytes stage amount left = in_stage stage left (charge_bytes amount left)
 
 -- work charged to a stage
-unfoldable pub spendWork : ℕ → ℕ → Metered (Unit {0})
-spendWork stage amount left = inStage stage left (chargeWork amount left)
+unfoldable pub spend_work : ℕ → ℕ → Metered (Unit {0})
+spend_work stage amount left = in_stage stage left (charge_work amount left)
 
 -- f 0, .., f (count − 1), one after the other
-unfoldable pub forEach : (ℕ → Metered (Unit {0})) → ℕ → Metered (Unit {0})
-forEach f zero = give tt
-forEach f (suc i) = forEach f i >> f i
+unfoldable pub for_each : (ℕ → Metered (Unit {0})) → ℕ → Metered (Unit {0})
+for_each f zero = give tt
+for_each f (suc i) = for_each f i >> f i
 
-unfoldable pub chargesCompute : Unit {0}
-unfolding bytesCharged chargeBytes workCharged chargeWork give giveUp continue ◌>>=◌ ◌>>◌ inStage spendBytes spendWork forEach
-chargesCompute = tt
+unfoldable pub charges_compute : Unit {0}
+unfolding bytes_charged charge_bytes work_charged charge_work give give_up continue ◌>>=◌ ◌>>◌ in_stage spend_bytes spend_work for_each
+charges_compute = tt

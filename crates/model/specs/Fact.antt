@@ -1,7 +1,7 @@
 -- "Join": facts, when known ones are equal, and how they are joined, one by one and in rows.
 -- Assumes nothing.
 use Rattle.std.specs.Prelude.{Bool, true, false, not, cond, ◌&&◌, ◌||◌, List, [], ◌∷◌, ℕ, suc, ◌/◌, ◌%◌, eqb}
-use Rattle.model.specs.Sheet.{layout, sheetCompute}
+use Rattle.model.specs.Sheet.{layout, sheet_compute}
 use Rattle.model.specs.declared.AnalysisKind.{AnalysisKind}
 use Rattle.model.specs.declared.AnalysisKind.TheVariants.{Constant, IndexCheck, Container}
 
@@ -29,29 +29,29 @@ Row = List Fact
 -- ---- "equal known facts"
 
 -- constants and checks: by kind and value
-unfoldable pub equalNumbers : ℕ → ℕ → ℕ → ℕ → Bool
-equalNumbers k v l w = eqb k l && eqb v w
+unfoldable pub equal_numbers : ℕ → ℕ → ℕ → ℕ → Bool
+equal_numbers k v l w = eqb k l && eqb v w
 
 -- whether two lists of slot kinds are equal "by length and content"
-unfoldable pub equalContent : List ℕ → List ℕ → Bool
-equalContent [] [] = true
-equalContent [] (y ∷ ys) = false
-equalContent (x ∷ xs) [] = false
-equalContent (x ∷ xs) (y ∷ ys) = eqb x y && equalContent xs ys
+unfoldable pub equal_content : List ℕ → List ℕ → Bool
+equal_content [] [] = true
+equal_content [] (y ∷ ys) = false
+equal_content (x ∷ xs) [] = false
+equal_content (x ∷ xs) (y ∷ ys) = eqb x y && equal_content xs ys
 
 -- "Layouts are equal by length and content"
-unfoldable pub equalLayouts : List ℕ → ℕ → ℕ → Bool
-equalLayouts sheet i j = equalContent (layout sheet i) (layout sheet j)
+unfoldable pub equal_layouts : List ℕ → ℕ → ℕ → Bool
+equal_layouts sheet i j = equal_content (layout sheet i) (layout sheet j)
 
 -- containers: by kind, and A and B by content ("value A × 65,536 + B"). A queue's B is 0, so its second test compares layout 0 with itself.
-unfoldable pub equalContainers : List ℕ → ℕ → ℕ → ℕ → ℕ → Bool
-equalContainers sheet k v l w = eqb k l && equalLayouts sheet (v / 65536) (w / 65536) && equalLayouts sheet (v % 65536) (w % 65536)
+unfoldable pub equal_containers : List ℕ → ℕ → ℕ → ℕ → ℕ → Bool
+equal_containers sheet k v l w = eqb k l && equal_layouts sheet (v / 65536) (w / 65536) && equal_layouts sheet (v % 65536) (w % 65536)
 
 -- when two known facts of an analysis are equal, by kind and value of each
-unfoldable pub equalKnown : AnalysisKind → List ℕ → ℕ → ℕ → ℕ → ℕ → Bool
-equalKnown Constant sheet = equalNumbers
-equalKnown IndexCheck sheet = equalNumbers
-equalKnown Container sheet = equalContainers sheet
+unfoldable pub equal_known : AnalysisKind → List ℕ → ℕ → ℕ → ℕ → ℕ → Bool
+equal_known Constant sheet = equal_numbers
+equal_known IndexCheck sheet = equal_numbers
+equal_known Container sheet = equal_containers sheet
 
 -- ---- "a kind or value changed"
 
@@ -60,10 +60,10 @@ unfoldable pub differs : Fact → Fact → Bool
 differs f g = not (eqb (kind f) (kind g) && eqb (value f) (value g))
 
 -- whether that is so in some slot
-unfoldable pub rowDiffers : Row → Row → Bool
-rowDiffers [] r = false
-rowDiffers (f ∷ fs) [] = false
-rowDiffers (f ∷ fs) (g ∷ gs) = differs f g || rowDiffers fs gs
+unfoldable pub row_differs : Row → Row → Bool
+row_differs [] r = false
+row_differs (f ∷ fs) [] = false
+row_differs (f ∷ fs) (g ∷ gs) = differs f g || row_differs fs gs
 
 -- ---- the join, by when known facts are equal
 
@@ -80,11 +80,11 @@ module _ (same : ℕ → ℕ → ℕ → ℕ → Bool) where
   join (known k v) (known l w) = cond (same k v l w) (known k v) conflict
 
   -- "joined into it slot by slot, the old fact first". Both rows have s facts.
-  unfoldable pub joinRow : Row → Row → Row
-  joinRow [] new = []
-  joinRow (f ∷ fs) [] = f ∷ fs
-  joinRow (f ∷ fs) (g ∷ gs) = join f g ∷ joinRow fs gs
+  unfoldable pub join_row : Row → Row → Row
+  join_row [] new = []
+  join_row (f ∷ fs) [] = f ∷ fs
+  join_row (f ∷ fs) (g ∷ gs) = join f g ∷ join_row fs gs
 
-unfoldable pub factCompute : Unit {0}
-unfolding sheetCompute kind value equalNumbers equalContent equalLayouts equalContainers equalKnown differs rowDiffers join joinRow
-factCompute = tt
+unfoldable pub fact_compute : Unit {0}
+unfolding sheet_compute kind value equal_numbers equal_content equal_layouts equal_containers equal_known differs row_differs join join_row
+fact_compute = tt

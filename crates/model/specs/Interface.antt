@@ -4,7 +4,7 @@
 use Rattle.std.specs.Prelude.{Bool, true, false, List, ◌∷◌, ◌++◌, ℕ, ◌-◌, length, get_or, drop, replicate}
 use Rattle.std.proofs.Math.Option.{Option, none, some}
 use Rattle.model.specs.Call.{Lent, AnswerNumbered, Result, analyzed}
-use Rattle.model.specs.Lookup.{slotFactNumbered, reachabilityNumbered}
+use Rattle.model.specs.Lookup.{slot_fact_numbered, reachability_numbered}
 use Rattle.model.specs.declared.VerifierResources.{VerifierResources}
 use Rattle.model.specs.declared.SlotFact.{SlotFact}
 use Rattle.model.specs.declared.SlotFact.TheVariants.{Cell, Absent, Damaged}
@@ -13,12 +13,12 @@ use Rattle.model.specs.declared.Reachability.{Reachability}
 -- ---- the call
 
 -- as many entries as given: the values, and zeros for what an outcome does not have
-unfoldable pub orZeros : ℕ → List ℕ → List ℕ
-orZeros entries values = values ++ replicate (entries - length values) 0
+unfoldable pub or_zeros : ℕ → List ℕ → List ℕ
+or_zeros entries values = values ++ replicate (entries - length values) 0
 
 -- The twelve entries of an answer, in this order: the number; s and pops of constants, index, containers; bytes and work left; stage, requested, remaining.
 unfoldable pub twelve : AnswerNumbered → List ℕ
-twelve n = n.number ∷ orZeros 6 n.counted ++ n.budget ++ orZeros 3 n.refused
+twelve n = n.number ∷ or_zeros 6 n.counted ++ n.budget ++ or_zeros 3 n.refused
 
 -- What the call leaves: the number that it returns, all that was lent, and the memory for the answer.
 pub record Exported : Type 0 where
@@ -36,9 +36,9 @@ handed old none = none
 handed old (some r) = some (exported r.numbered.number r.lent (twelve r.numbered ++ drop 12 old))
 
 -- Where the answer's memory has fewer than 12 entries, which is asked first, it returns 255 and changes nothing.
-unfoldable pub exportedOf : Bool → List ℕ → VerifierResources → Lent → List ℕ → Option Exported
-exportedOf false sheet budget lent old = some (exported 255 lent old)
-exportedOf true sheet budget lent old = handed old (analyzed sheet budget lent)
+unfoldable pub exported_of : Bool → List ℕ → VerifierResources → Lent → List ℕ → Option Exported
+exported_of false sheet budget lent old = some (exported 255 lent old)
+exported_of true sheet budget lent old = handed old (analyzed sheet budget lent)
 
 -- ---- the lookups
 
@@ -52,24 +52,24 @@ abbrev pub looked : ℕ → List ℕ → Looked
 looked returned out = record { returned = returned; out = out }
 
 -- document 01's number, but for "none", which has that of a cell there
-unfoldable pub factNumber : SlotFact → ℕ
-factNumber (Cell kind value) = (slotFactNumbered (Cell kind value)).number
-factNumber Absent = 254
-factNumber Damaged = (slotFactNumbered Damaged).number
+unfoldable pub fact_number : SlotFact → ℕ
+fact_number (Cell kind value) = (slot_fact_numbered (Cell kind value)).number
+fact_number Absent = 254
+fact_number Damaged = (slot_fact_numbered Damaged).number
 
 -- values at the front of the memory, which keeps what is behind them
-unfoldable pub inFront : List ℕ → List ℕ → List ℕ
-inFront values old = values ++ drop (length values) old
+unfoldable pub in_front : List ℕ → List ℕ → List ℕ
+in_front values old = values ++ drop (length values) old
 
 -- 255 where the fact's memory has fewer than 2 entries; else the number, with "the cell's kind and value" in front. But for 0 the memory keeps its content.
-unfoldable pub lookedUp : Bool → SlotFact → List ℕ → Looked
-lookedUp false fact old = looked 255 old
-lookedUp true fact old = looked (factNumber fact) (inFront (slotFactNumbered fact).given old)
+unfoldable pub looked_up : Bool → SlotFact → List ℕ → Looked
+looked_up false fact old = looked 255 old
+looked_up true fact old = looked (fact_number fact) (in_front (slot_fact_numbered fact).given old)
 
 -- 1 for "yes", 0 for "no", 9: the value that comes with document 01's number, or the number where there is none
-unfoldable pub reachedNumber : Reachability → ℕ
-reachedNumber answer = get_or (reachabilityNumbered answer).given 0 (reachabilityNumbered answer).number
+unfoldable pub reached_number : Reachability → ℕ
+reached_number answer = get_or (reachability_numbered answer).given 0 (reachability_numbered answer).number
 
-unfoldable pub interfaceCompute : Unit {0}
-unfolding slotFactNumbered reachabilityNumbered orZeros twelve handed exportedOf factNumber inFront lookedUp reachedNumber
-interfaceCompute = tt
+unfoldable pub interface_compute : Unit {0}
+unfolding slot_fact_numbered reachability_numbered or_zeros twelve handed exported_of fact_number in_front looked_up reached_number
+interface_compute = tt

@@ -11,10 +11,10 @@ use Rattle.model.specs.declared.Reachability.{Reachability}
 use Rattle.model.specs.declared.Reachability.TheVariants.{Yes, No, Unreadable}
 
 -- the last kind "that this analysis names": "Constants: 2 .., 3 negative", "Index: 2 Checked", "Containers: 2 map, 3 iterator, 4 queue"
-unfoldable pub lastKind : AnalysisKind → ℕ
-lastKind Constant = 3
-lastKind IndexCheck = 2
-lastKind Container = 4
+unfoldable pub last_kind : AnalysisKind → ℕ
+last_kind Constant = 3
+last_kind IndexCheck = 2
+last_kind Container = 4
 
 -- "do the slots ascend strictly"
 unfoldable pub ascends : List ℕ → Bool
@@ -23,17 +23,17 @@ ascends (x ∷ []) = true
 ascends (x ∷ y ∷ rest) = ltb x y && ascends (y ∷ rest)
 
 -- where the slot stands among the tracked ones, the first place being i
-unfoldable pub placeFrom : ℕ → List ℕ → ℕ → Option ℕ
-placeFrom i [] slot = none
-placeFrom i (t ∷ ts) slot = cond (eqb slot t) (some i) (placeFrom (suc i) ts slot)
+unfoldable pub place_from : ℕ → List ℕ → ℕ → Option ℕ
+place_from i [] slot = none
+place_from i (t ∷ ts) slot = cond (eqb slot t) (some i) (place_from (suc i) ts slot)
 
 -- where the slot stands among the tracked ones; none for an "untracked slot"
 unfoldable pub place : List ℕ → ℕ → Option ℕ
-place slots slot = placeFrom 0 slots slot
+place slots slot = place_from 0 slots slot
 
 -- "do the slots ascend strictly, are kinds and values exactly n × s long": "takes s and n from slots and present"
-unfoldable pub tablesAgree : List ℕ → List ℕ → List ℕ → List ℕ → Bool
-tablesAgree slots present kinds values =
+unfoldable pub tables_agree : List ℕ → List ℕ → List ℕ → List ℕ → Bool
+tables_agree slots present kinds values =
     ascends slots && eqb (length kinds) (length present * length slots) && eqb (length values) (length present * length slots)
 
 -- the cell at place j of row pc in a table of kinds or of values, s cells to a row
@@ -41,13 +41,13 @@ unfoldable pub cell_at : ℕ → List ℕ → ℕ → ℕ → ℕ
 cell_at s cells pc j = get_or cells (pc * s + j) 0
 
 -- "is the kind, for a tracked slot in a present row, one that this analysis names"
-unfoldable pub kindNamed : ℕ → ℕ → List ℕ → ℕ → ℕ → Option ℕ → Bool
-kindNamed last s kinds byte pc none = true
-kindNamed last s kinds byte pc (some j) = eqb byte 0 || leb (cell_at s kinds pc j) last
+unfoldable pub kind_named : ℕ → ℕ → List ℕ → ℕ → ℕ → Option ℕ → Bool
+kind_named last s kinds byte pc none = true
+kind_named last s kinds byte pc (some j) = eqb byte 0 || leb (cell_at s kinds pc j) last
 
 -- "is the present byte, for pc below n, 0 or 1": question 9 of one instruction, for the slot at this place. (From n up the byte reads 0.)
-unfoldable pub rowNamed : ℕ → ℕ → List ℕ → List ℕ → Option ℕ → ℕ → Bool
-rowNamed last s present kinds j pc = leb (get_or present pc 0) 1 && kindNamed last s kinds (get_or present pc 0) pc j
+unfoldable pub row_named : ℕ → ℕ → List ℕ → List ℕ → Option ℕ → ℕ → Bool
+row_named last s present kinds j pc = leb (get_or present pc 0) 1 && kind_named last s kinds (get_or present pc 0) pc j
 
 -- "else the cell's kind and value", for a tracked slot in a present row
 unfoldable pub cell : Bool → ℕ → List ℕ → List ℕ → ℕ → Option ℕ → SlotFact
@@ -56,69 +56,69 @@ cell true s kinds values pc none = Absent
 cell true s kinds values pc (some j) = Cell (cell_at s kinds pc j) (cell_at s values pc j)
 
 -- "No: 9."
-unfoldable pub orDamaged : Bool → SlotFact → SlotFact
-orDamaged true answer = answer
-orDamaged false answer = Damaged
+unfoldable pub or_damaged : Bool → SlotFact → SlotFact
+or_damaged true answer = answer
+or_damaged false answer = Damaged
 
 -- "A lookup of an untracked slot, absent instruction or pc from n up answers "none", which is no refusal": `fact_for_slot`
-unfoldable pub factForSlot : AnalysisKind → List ℕ → List ℕ → List ℕ → List ℕ → ℕ → ℕ → SlotFact
-factForSlot which slots present kinds values pc slot =
-    orDamaged (tablesAgree slots present kinds values && rowNamed (lastKind which) (length slots) present kinds (place slots slot) pc)
+unfoldable pub fact_for_slot : AnalysisKind → List ℕ → List ℕ → List ℕ → List ℕ → ℕ → ℕ → SlotFact
+fact_for_slot which slots present kinds values pc slot =
+    or_damaged (tables_agree slots present kinds values && row_named (last_kind which) (length slots) present kinds (place slots slot) pc)
     (cell (eqb (get_or present pc 0) 1) (length slots) kinds values pc (place slots slot))
 
 -- ---- `is_reachable`
 
 -- "yes for byte 1, no for 0 .., 9 for another byte"
-unfoldable pub reachedBy : ℕ → Reachability
-reachedBy zero = No
-reachedBy (suc zero) = Yes
-reachedBy (suc (suc byte)) = Unreadable
+unfoldable pub reached_by : ℕ → Reachability
+reached_by zero = No
+reached_by (suc zero) = Yes
+reached_by (suc (suc byte)) = Unreadable
 
 -- "no for .. pc from n up": no byte stands there, and it reads as 0
-unfoldable pub isReachable : List ℕ → ℕ → Reachability
-isReachable present pc = reachedBy (get_or present pc 0)
+unfoldable pub is_reachable : List ℕ → ℕ → Reachability
+is_reachable present pc = reached_by (get_or present pc 0)
 
 -- ---- "fixed"
 
 -- What the present instructions seen so far show of a slot: none of them, all one known value, or something else.
 pub data Shown : Type 0 where
-  noneShown : Shown
-  oneShown : ℕ → ℕ → Shown
-  mixedShown : Shown
+  none_shown : Shown
+  one_shown : ℕ → ℕ → Shown
+  mixed_shown : Shown
 
 -- one more present instruction shows this kind and value; the test says whether it is known
 unfoldable pub show : Bool → ℕ → ℕ → Shown → Shown
-show false k v seen = mixedShown
-show true k v noneShown = oneShown k v
-show true k v (oneShown l w) = cond (eqb k l && eqb v w) (oneShown l w) mixedShown
-show true k v mixedShown = mixedShown
+show false k v seen = mixed_shown
+show true k v none_shown = one_shown k v
+show true k v (one_shown l w) = cond (eqb k l && eqb v w) (one_shown l w) mixed_shown
+show true k v mixed_shown = mixed_shown
 
 -- an absent instruction shows nothing
-unfoldable pub showIf : Bool → ℕ → ℕ → Shown → Shown
-showIf false k v seen = seen
-showIf true k v seen = show (leb 2 k) k v seen
+unfoldable pub show_if : Bool → ℕ → ℕ → Shown → Shown
+show_if false k v seen = seen
+show_if true k v seen = show (leb 2 k) k v seen
 
 -- "gives that kind and value, else "none""
-unfoldable pub fixedFact : Shown → SlotFact
-fixedFact noneShown = Absent
-fixedFact (oneShown k v) = Cell k v
-fixedFact mixedShown = Absent
+unfoldable pub fixed_fact : Shown → SlotFact
+fixed_fact none_shown = Absent
+fixed_fact (one_shown k v) = Cell k v
+fixed_fact mixed_shown = Absent
 
 -- the instructions 1 to count: "some instruction but 0 is present and all such show the same known value"
 unfoldable pub shown : ℕ → List ℕ → List ℕ → List ℕ → ℕ → ℕ → Shown
-shown s present kinds values j zero = noneShown
+shown s present kinds values j zero = none_shown
 shown s present kinds values j (suc i) =
-    showIf (eqb (get_or present (suc i) 0) 1) (cell_at s kinds (suc i) j) (cell_at s values (suc i) j) (shown s present kinds values j i)
+    show_if (eqb (get_or present (suc i) 0) 1) (cell_at s kinds (suc i) j) (cell_at s values (suc i) j) (shown s present kinds values j i)
 
 -- the n − 1 instructions but 0, of a tracked slot
 unfoldable pub fixed_at : ℕ → List ℕ → List ℕ → List ℕ → Option ℕ → SlotFact
 fixed_at s present kinds values none = Absent
-fixed_at s present kinds values (some j) = fixedFact (shown s present kinds values j (length present - 1))
+fixed_at s present kinds values (some j) = fixed_fact (shown s present kinds values j (length present - 1))
 
 -- "A lookup lent all the constant tables gives that kind and value, else "none"; it asks 9 of every instruction."
 unfoldable pub fixed : List ℕ → List ℕ → List ℕ → List ℕ → ℕ → SlotFact
 fixed slots present kinds values slot =
-    orDamaged (tablesAgree slots present kinds values && every (λ pc. rowNamed (lastKind Constant) (length slots) present kinds (place slots slot) pc) (length present))
+    or_damaged (tables_agree slots present kinds values && every (λ pc. row_named (last_kind Constant) (length slots) present kinds (place slots slot) pc) (length present))
     (fixed_at (length slots) present kinds values (place slots slot))
 
 -- ---- numbers
@@ -129,16 +129,16 @@ pub record Numbered : Type 0 where
   pub given : List ℕ
 
 -- "the cell's kind and value"; ""none", which is no refusal", with no values; 9
-unfoldable pub slotFactNumbered : SlotFact → Numbered
-slotFactNumbered (Cell k v) = record { number = 0; given = k ∷ v ∷ [] }
-slotFactNumbered Absent = record { number = 0; given = [] }
-slotFactNumbered Damaged = record { number = 9; given = [] }
+unfoldable pub slot_fact_numbered : SlotFact → Numbered
+slot_fact_numbered (Cell k v) = record { number = 0; given = k ∷ v ∷ [] }
+slot_fact_numbered Absent = record { number = 0; given = [] }
+slot_fact_numbered Damaged = record { number = 9; given = [] }
 
 -- "yes", as 1, "no", as 0, "9 for another byte"
-unfoldable pub reachabilityNumbered : Reachability → Numbered
-reachabilityNumbered Yes = record { number = 0; given = 1 ∷ [] }
-reachabilityNumbered No = record { number = 0; given = 0 ∷ [] }
-reachabilityNumbered Unreadable = record { number = 9; given = [] }
+unfoldable pub reachability_numbered : Reachability → Numbered
+reachability_numbered Yes = record { number = 0; given = 1 ∷ [] }
+reachability_numbered No = record { number = 0; given = 0 ∷ [] }
+reachability_numbered Unreadable = record { number = 9; given = [] }
 
 -- What a lookup promises: its answer, with the number and values of document 01. "The promises use that definition."
 pub record WithNumbers (A : Type 0) : Type 0 where
@@ -146,9 +146,9 @@ pub record WithNumbers (A : Type 0) : Type 0 where
   pub numbered : Numbered
 
 -- the answer of `fact_for_slot` or of the lookup of "fixed", so
-abbrev pub factWithNumbers : SlotFact → WithNumbers SlotFact
-factWithNumbers answered = record { answered = answered; numbered = slotFactNumbered answered }
+abbrev pub fact_with_numbers : SlotFact → WithNumbers SlotFact
+fact_with_numbers answered = record { answered = answered; numbered = slot_fact_numbered answered }
 
 -- the answer of `is_reachable`, so
-abbrev pub reachabilityWithNumbers : Reachability → WithNumbers Reachability
-reachabilityWithNumbers answered = record { answered = answered; numbered = reachabilityNumbered answered }
+abbrev pub reachability_with_numbers : Reachability → WithNumbers Reachability
+reachability_with_numbers answered = record { answered = answered; numbered = reachability_numbered answered }

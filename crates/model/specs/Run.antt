@@ -2,7 +2,7 @@
 -- Assumes nothing.
 use Rattle.std.specs.Prelude.{Bool, true, false, cond, ◌||◌, List, [], ◌∷◌, ℕ, zero, suc, ◌+◌, ◌*◌, ◌-◌, leb, eqb, get_or, set, replicate}
 use Rattle.std.proofs.Math.Option.{Option, none, some}
-use Rattle.model.specs.Fact.{Row, rowDiffers, joinRow, factCompute}
+use Rattle.model.specs.Fact.{Row, row_differs, join_row, fact_compute}
 
 -- What one analysis brings to the run.
 pub record Analysis : Type 0 where
@@ -27,11 +27,11 @@ pub record State : Type 0 where
   pub left : ℕ
 
 -- How a run ends: "The empty list ends the run: its rows are the tables, its count the pop count"; "a refused one ends it with 7", with
--- requested and remaining. `fuelSpent` says that the fuel below was too little; `Demand3` says that no run ends so.
+-- requested and remaining. `fuel_spent` says that the fuel below was too little; `Demand3` says that no run ends so.
 pub data RunEnd : Type 0 where
   finished : List (Option Row) → ℕ → ℕ → RunEnd
   overdrawn : ℕ → ℕ → RunEnd
-  fuelSpent : RunEnd
+  fuel_spent : RunEnd
 
 -- One step: on to another state, or the end.
 pub data Step : Type 0 where
@@ -51,12 +51,12 @@ module _ (same : ℕ → ℕ → ℕ → ℕ → Bool) where
   -- "without a row, it gets the copy; with one, the copy is joined into it slot by slot, the old fact first"
   unfoldable pub merged : Option Row → Row → Row
   merged none copy = copy
-  merged (some old) copy = joinRow same old copy
+  merged (some old) copy = join_row same old copy
 
   -- "If the row is new or a kind or value changed"
   unfoldable pub news : Option Row → Row → Bool
   news none copy = true
-  news (some old) copy = rowDiffers old (joinRow same old copy)
+  news (some old) copy = row_differs old (join_row same old copy)
 
   -- One successor q: it gets the copy or is joined with it, and with news "is added once, even if it is listed already".
   unfoldable pub visit : Row → ℕ → State → State
@@ -100,7 +100,7 @@ module _ (a : Analysis) where
 
   -- Step after step, at most `fuel` of them and the end.
   unfoldable pub loop : ℕ → State → RunEnd
-  loop zero st = and_then (λ st'. fuelSpent) (step st)
+  loop zero st = and_then (λ st'. fuel_spent) (step st)
   loop (suc fuel) st = and_then (λ st'. loop fuel st') (step st)
 
   -- "n × (1 + 2 × s)"
@@ -112,13 +112,13 @@ module _ (a : Analysis) where
   start left = record { rows = set (replicate n none) 0 (some entry); list = 0 ∷ []; count = 0; left = left }
 
   -- The run with a given fuel from the work units left. "With s or n zero it ends at once, without rows."
-  unfoldable pub runWith : ℕ → ℕ → RunEnd
-  runWith fuel left = cond (eqb n 0 || eqb s 0) (finished (replicate n none) 0 left) (loop fuel (start left))
+  unfoldable pub run_with : ℕ → ℕ → RunEnd
+  run_with fuel left = cond (eqb n 0 || eqb s 0) (finished (replicate n none) 0 left) (loop fuel (start left))
 
   -- the defined run: its fuel is the bound, and more changes nothing (`Demand3`)
   unfoldable pub run : ℕ → RunEnd
-  run left = runWith bound left
+  run left = run_with bound left
 
-unfoldable pub runCompute : Unit {0}
-unfolding factCompute and_then merged news visit visits carry popped charged pop step loop start runWith run
-runCompute = tt
+unfoldable pub run_compute : Unit {0}
+unfolding fact_compute and_then merged news visit visits carry popped charged pop step loop start run_with run
+run_compute = tt

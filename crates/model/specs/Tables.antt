@@ -9,24 +9,24 @@ use Rattle.model.specs.declared.FactCell.{FactCell}
 -- ---- from rows to tables
 
 -- one present byte, "0 or 1"
-unfoldable pub presentByte : Option Row → ℕ
-presentByte none = 0
-presentByte (some r) = 1
+unfoldable pub present_byte : Option Row → ℕ
+present_byte none = 0
+present_byte (some r) = 1
 
 -- "present bytes (n, 0 or 1)"
-unfoldable pub presentBytes : List (Option Row) → List ℕ
-presentBytes [] = []
-presentBytes (o ∷ os) = presentByte o ∷ presentBytes os
+unfoldable pub present_bytes : List (Option Row) → List ℕ
+present_bytes [] = []
+present_bytes (o ∷ os) = present_byte o ∷ present_bytes os
 
 -- One row's s cells, by `kind` or by `value`. "Absent rows are zero."
-unfoldable pub rowCells : (Fact → ℕ) → ℕ → Option Row → List ℕ
-rowCells f s none = replicate s 0
-rowCells f s (some r) = map f r
+unfoldable pub row_cells : (Fact → ℕ) → ℕ → Option Row → List ℕ
+row_cells f s none = replicate s 0
+row_cells f s (some r) = map f r
 
 -- "n × s kind bytes and 64-bit values"
 unfoldable pub cells : (Fact → ℕ) → ℕ → List (Option Row) → List ℕ
 cells f s [] = []
-cells f s (o ∷ os) = rowCells f s o ++ cells f s os
+cells f s (o ∷ os) = row_cells f s o ++ cells f s os
 
 -- "present bytes (n, 0 or 1), and n × s kind bytes and 64-bit values"
 pub record TableSlices : Type 0 where
@@ -34,28 +34,28 @@ pub record TableSlices : Type 0 where
   pub kinds : List ℕ
   pub values : List ℕ
 
-abbrev pub tableSlices : List ℕ → List ℕ → List ℕ → TableSlices
-tableSlices present kinds values = record { present = present; kinds = kinds; values = values }
+abbrev pub table_slices : List ℕ → List ℕ → List ℕ → TableSlices
+table_slices present kinds values = record { present = present; kinds = kinds; values = values }
 
 -- the rows lie in the tables, each of s facts
 pub record RowsLie (s : ℕ) (rows : List (Option Row)) (t : TableSlices) : Type 0 where
   pub sized : (p : ℕ) (row : Row) → row_at rows p ≡ some row → length row ≡ s
-  pub present-are : t.present ≡ presentBytes rows
-  pub kinds-are : t.kinds ≡ cells kind s rows
-  pub values-are : t.values ≡ cells value s rows
+  pub present_are : t.present ≡ present_bytes rows
+  pub kinds_are : t.kinds ≡ cells kind s rows
+  pub values_are : t.values ≡ cells value s rows
 
 -- "the row of an instruction is handed on as a part of both": the kinds and the values of a row
 pub record RowSlices : Type 0 where
   pub kinds : List ℕ
   pub values : List ℕ
 
-abbrev pub rowSlices : List ℕ → List ℕ → RowSlices
-rowSlices kinds values = record { kinds = kinds; values = values }
+abbrev pub row_slices : List ℕ → List ℕ → RowSlices
+row_slices kinds values = record { kinds = kinds; values = values }
 
 -- the row lies in them
 pub record RowLies (row : Row) (r : RowSlices) : Type 0 where
-  pub kinds-are : r.kinds ≡ map kind row
-  pub values-are : r.values ≡ map value row
+  pub kinds_are : r.kinds ≡ map kind row
+  pub values_are : r.values ≡ map value row
 
 -- The work list in its buffer of `room` numbers: the entry added last lies highest, and zeros above it.
 unfoldable pub stacked : ℕ → List ℕ → List ℕ
@@ -70,8 +70,8 @@ fact_of (suc zero) v = conflict
 fact_of (suc (suc k)) v = known k v
 
 -- the fact of a cell
-unfoldable pub factIn : FactCell → Fact
-factIn cell = fact_of cell.kind cell.value
+unfoldable pub fact_in : FactCell → Fact
+fact_in cell = fact_of cell.kind cell.value
 
 -- "kind byte and 64-bit value": the cell of a fact
 unfoldable pub cell_of : Fact → FactCell
@@ -84,17 +84,17 @@ facts_of (k ∷ kinds) [] = []
 facts_of (k ∷ kinds) (v ∷ values) = fact_of k v ∷ facts_of kinds values
 
 -- the facts of a row's slices
-abbrev pub factsIn : RowSlices → Row
-factsIn r = facts_of r.kinds r.values
+abbrev pub facts_in : RowSlices → Row
+facts_in r = facts_of r.kinds r.values
 
 -- "the row of an instruction is handed on as a part of both": the s cells of kinds and of values from p × s
-unfoldable pub tableRow : ℕ → List ℕ → List ℕ → ℕ → Row
-tableRow s kinds values p = facts_of (take s (drop (p * s) kinds)) (take s (drop (p * s) values))
+unfoldable pub table_row : ℕ → List ℕ → List ℕ → ℕ → Row
+table_row s kinds values p = facts_of (take s (drop (p * s) kinds)) (take s (drop (p * s) values))
 
 -- "for index, the ended constant run": its facts of b, one for each instruction, in two tables
-unfoldable pub lengthTable : List ℕ → List ℕ → ℕ → Fact
-lengthTable kinds values pc = fact_of (get_or kinds pc 0) (get_or values pc 0)
+unfoldable pub length_table : List ℕ → List ℕ → ℕ → Fact
+length_table kinds values pc = fact_of (get_or kinds pc 0) (get_or values pc 0)
 
-unfoldable pub tablesCompute : Unit {0}
-unfolding presentByte presentBytes rowCells cells stacked fact_of factIn cell_of facts_of tableRow lengthTable
-tablesCompute = tt
+unfoldable pub tables_compute : Unit {0}
+unfolding present_byte present_bytes row_cells cells stacked fact_of fact_in cell_of facts_of table_row length_table
+tables_compute = tt

@@ -1,23 +1,25 @@
 // The types that functions take and answer. What each means is said in specs/, from document 01.
+#![tactic(auto)]
+
 ghost use Rattle.std.specs.Prelude.{◌≡◌};
 ghost use Rattle.model.specs.Charges.{fresh};
 
 // What is left to spend: derived bytes and work units.
-#[derive(Drop)]
+#[derive(Clone, Copy)]
 pub struct VerifierResources {
     pub bytes: u64,
     pub work: u64,
 }
 
 // What a charge comes to: what is left, or the refusal, which takes nothing.
-#[derive(Drop)]
+#[derive(Clone, Copy)]
 pub enum Charge {
     Covered { left: VerifierResources },
     Refused { requested: u64, remaining: u64 },
 }
 
 // One instruction of the code.
-#[derive(Drop)]
+#[derive(Clone, Copy)]
 pub struct Instruction {
     pub op: u8,
     pub flags: u8,
@@ -27,14 +29,14 @@ pub struct Instruction {
 }
 
 // The successors of one instruction: the first len of pcs, and zeros after them.
-#[derive(Drop)]
+#[derive(Clone, Copy)]
 pub struct InstructionSuccessors {
     pub pcs: [usize; 2],
     pub len: u8,
 }
 
 // Which of the three analyses.
-#[derive(Drop)]
+#[derive(Clone, Copy)]
 pub enum AnalysisKind {
     Constant,
     IndexCheck,
@@ -42,21 +44,21 @@ pub enum AnalysisKind {
 }
 
 // A fact as it lies in a table: a kind byte and a 64-bit value.
-#[derive(Drop)]
+#[derive(Clone, Copy)]
 pub struct FactCell {
     pub kind: u8,
     pub value: u64,
 }
 
 // How many slots an analysis tracks, and how many entries it took from its work list.
-#[derive(Drop)]
+#[derive(Clone, Copy)]
 pub struct Counts {
     pub tracked: u64,
     pub pops: u64,
 }
 
 // What a call answers: 0 with the counts of the analyses; 1 to 6; 7; 8; each with the budget left.
-#[derive(Drop)]
+#[derive(Clone, Copy)]
 pub enum Answer {
     Analyzed {
         constant: Counts,
@@ -80,7 +82,7 @@ pub enum Answer {
 }
 
 // What a lookup answers: a cell, none, or 9.
-#[derive(Drop)]
+#[derive(Clone, Copy)]
 pub enum SlotFact {
     Cell { kind: u8, value: u64 },
     Absent,
@@ -88,7 +90,7 @@ pub enum SlotFact {
 }
 
 // What is_reachable answers: yes, no, or 9.
-#[derive(Drop)]
+#[derive(Clone, Copy)]
 pub enum Reachability {
     Yes,
     No,

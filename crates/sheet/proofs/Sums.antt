@@ -9,26 +9,26 @@ use native.Mathlib.Omega.{arith}
 use Rattle.model.specs.Count.{sum}
 
 module _ (f : ℕ → ℕ) where
-  pub sum-none : sum f 0 ≡ 0
+  pub sum_none : sum f 0 ≡ 0
   unfolding sum
-  sum-none = refl
+  sum_none = refl
 
   pub sum_more : (i : ℕ) → sum f (i + 1) ≡ sum f i + f i
   unfolding sum
   sum_more i = rw add-one
 
-  pub sum-le : (i n : ℕ) → i ≤ n → sum f i ≤ sum f n
+  pub sum_le : (i n : ℕ) → i ≤ n → sum f i ≤ sum f n
   unfolding sum
-  sum-le i zero h = let e : i ≡ 0 = omega arith in rw e (omega arith)
-  sum-le i (suc n) h = go (eq-or-lt_of_le h) (λ u. sum-le i n u)
+  sum_le i zero h = let e : i ≡ 0 = omega arith in rw e (omega arith)
+  sum_le i (suc n) h = go (eq-or-lt_of_le h) (λ u. sum_le i n u)
     where
       go : (i ≡ suc n) ⊎ (i < suc n) → (i ≤ n → sum f i ≤ sum f n) → sum f i ≤ sum f n + f n
       go (inl e) before = rw e (omega (arith, sum_more n))
       go (inr l) before = omega (arith, before (omega arith))
 
   -- one of the numbers added, behind those before it
-  pub sum-part : (i n : ℕ) → i < n → sum f i + f i ≤ sum f n
-  sum-part i n h = omega (arith, sum_more i, sum-le (i + 1) n (omega arith))
+  pub sum_part : (i n : ℕ) → i < n → sum f i + f i ≤ sum f n
+  sum_part i n h = omega (arith, sum_more i, sum_le (i + 1) n (omega arith))
 
 -- after i of n turns of a loop that adds f, at most 65,535 a turn
 pub record SumUpto (f : ℕ → ℕ) (n total i : ℕ) : Type 0 where
@@ -47,5 +47,5 @@ added_more {f} {n} {total} {i} {v} a h e k = record {
   most = omega (arith, a.most);
 }
 
-pub added-all : {f : ℕ → ℕ} {n total i : ℕ} → SumUpto f n total i → n ≤ i → {m : ℕ} → n ≡ m → total ≡ sum f m
-added-all {f} {n} {total} {i} a h {m} e = let p : i ≡ m = omega (arith, a.within) in rw p at a.is
+pub added_all : {f : ℕ → ℕ} {n total i : ℕ} → SumUpto f n total i → n ≤ i → {m : ℕ} → n ≡ m → total ≡ sum f m
+added_all {f} {n} {total} {i} a h {m} e = let p : i ≡ m = omega (arith, a.within) in rw p at a.is

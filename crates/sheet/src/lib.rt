@@ -1,4 +1,6 @@
 // The sheet: little-endian numbers in its bytes, its sizes, and where its arrays begin.
+#![tactic(auto)]
+
 mod bytes;
 mod head;
 
@@ -8,7 +10,7 @@ pub use bytes::{
 pub use head::size_at;
 
 // Where each array of a sheet begins; the code begins at 40.
-#[derive(Drop)]
+#[derive(Clone, Copy)]
 pub struct Places {
     pub note_kinds: usize,
     pub note_as: usize,
@@ -27,7 +29,7 @@ pub struct Places {
 }
 
 // The ten sizes of a sheet, and where its arrays begin.
-#[derive(Drop)]
+#[derive(Clone, Copy)]
 pub struct Sizes {
     pub code_count: usize,
     pub range_count: usize,

@@ -1,6 +1,6 @@
 // What a sheet says of each instruction: its code, its note, and the slots that it writes.
 ghost use Rattle.std.specs.Prelude.{◌≡◌, ◌+◌, ◌*◌, ◌<◌, ◌≤◌, length};
-ghost use Rattle.model.specs.Sheet.{instruction, noteKind, noteA, noteB, writeCount, rangesOf, rangeStart, rangeLength};
+ghost use Rattle.model.specs.Sheet.{instruction, note_kind, note_a, note_b, write_count, ranges_of, range_start, range_length};
 ghost use Rattle.sheet.specs.Measured.{Measured};
 
 use model::Instruction;
@@ -24,7 +24,7 @@ pub fn instruction_at(sheet: &[u8], pc: usize) -> Instruction
 // The kind of the note at pc.
 pub fn note_kind_at(sheet: &[u8], sizes: Sizes, pc: usize) -> u8
     requires { Measured sheet.now sizes × (pc < sizes.code_count) }
-    ensures { result ≡ noteKind sheet.now pc }
+    ensures { result ≡ note_kind sheet.now pc }
 {
     byte_in(sheet, sizes.places.note_kinds, pc)
 }
@@ -32,7 +32,7 @@ pub fn note_kind_at(sheet: &[u8], sizes: Sizes, pc: usize) -> u8
 // The layout A of the note at pc.
 pub fn note_a_at(sheet: &[u8], sizes: Sizes, pc: usize) -> u16
     requires { Measured sheet.now sizes × (pc < sizes.code_count) }
-    ensures { result ≡ noteA sheet.now pc }
+    ensures { result ≡ note_a sheet.now pc }
 {
     u16_in(sheet, sizes.places.note_as, pc)
 }
@@ -40,7 +40,7 @@ pub fn note_a_at(sheet: &[u8], sizes: Sizes, pc: usize) -> u16
 // The layout B of the note at pc.
 pub fn note_b_at(sheet: &[u8], sizes: Sizes, pc: usize) -> u16
     requires { Measured sheet.now sizes × (pc < sizes.code_count) }
-    ensures { result ≡ noteB sheet.now pc }
+    ensures { result ≡ note_b sheet.now pc }
 {
     u16_in(sheet, sizes.places.note_bs, pc)
 }
@@ -48,7 +48,7 @@ pub fn note_b_at(sheet: &[u8], sizes: Sizes, pc: usize) -> u16
 // The write count at pc; 65,535 says that the effect visitor erred.
 pub fn write_count_at(sheet: &[u8], sizes: Sizes, pc: usize) -> u16
     requires { Measured sheet.now sizes × (pc < sizes.code_count) }
-    ensures { result ≡ writeCount sheet.now pc }
+    ensures { result ≡ write_count sheet.now pc }
 {
     u16_in(sheet, sizes.places.write_counts, pc)
 }
@@ -56,7 +56,7 @@ pub fn write_count_at(sheet: &[u8], sizes: Sizes, pc: usize) -> u16
 // How many ranges the instruction at pc takes: none where the effect visitor erred.
 pub fn ranges_of(sheet: &[u8], sizes: Sizes, pc: usize) -> u16
     requires { Measured sheet.now sizes × (pc < sizes.code_count) }
-    ensures { result ≡ rangesOf sheet.now pc }
+    ensures { result ≡ ranges_of sheet.now pc }
 {
     let count = write_count_at(sheet, sizes, pc);
     if count == 65535 { 0 } else { count }
@@ -65,7 +65,7 @@ pub fn ranges_of(sheet: &[u8], sizes: Sizes, pc: usize) -> u16
 // The first slot of write range i.
 pub fn range_start_at(sheet: &[u8], sizes: Sizes, i: usize) -> u16
     requires { Measured sheet.now sizes × (i < sizes.range_count) }
-    ensures { result ≡ rangeStart sheet.now i }
+    ensures { result ≡ range_start sheet.now i }
 {
     u16_in(sheet, sizes.places.range_starts, i)
 }
@@ -73,7 +73,7 @@ pub fn range_start_at(sheet: &[u8], sizes: Sizes, i: usize) -> u16
 // How many slots write range i has.
 pub fn range_length_at(sheet: &[u8], sizes: Sizes, i: usize) -> u32
     requires { Measured sheet.now sizes × (i < sizes.range_count) }
-    ensures { result ≡ rangeLength sheet.now i }
+    ensures { result ≡ range_length sheet.now i }
 {
     u32_in(sheet, sizes.places.range_lengths, i)
 }

@@ -1,5 +1,7 @@
 // What a sheet says of each instruction: its code, its note, and the slots that it writes.
 // What a sheet says of each constant, parameter and layout.
+#![tactic(auto)]
+
 mod instructions;
 mod pools;
 

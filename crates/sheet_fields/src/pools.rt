@@ -1,7 +1,7 @@
 // What a sheet says of each constant, parameter and layout.
 ghost use Rattle.std.specs.Prelude.{◌≡◌, ◌+◌, ◌<◌};
 ghost use Rattle.model.specs.Bytes.{byte};
-ghost use Rattle.model.specs.Sheet.{constantKind, constantBits, paramWidth, paramKind, paramA, paramB, layoutLength, slotKindsAt};
+ghost use Rattle.model.specs.Sheet.{constant_kind, constant_bits, param_width, param_kind, param_a, param_b, layout_length, slot_kinds_at};
 ghost use Rattle.sheet.specs.Measured.{Measured};
 
 use sheet::{Sizes, byte_in, u16_in, u64_in};
@@ -9,7 +9,7 @@ use sheet::{Sizes, byte_in, u16_in, u64_in};
 // The kind of constant i.
 pub fn constant_kind_at(sheet: &[u8], sizes: Sizes, i: usize) -> u8
     requires { Measured sheet.now sizes × (i < sizes.constant_count) }
-    ensures { result ≡ constantKind sheet.now i }
+    ensures { result ≡ constant_kind sheet.now i }
 {
     byte_in(sheet, sizes.places.constant_kinds, i)
 }
@@ -17,7 +17,7 @@ pub fn constant_kind_at(sheet: &[u8], sizes: Sizes, i: usize) -> u8
 // The 64 bits of constant i.
 pub fn constant_bits_at(sheet: &[u8], sizes: Sizes, i: usize) -> u64
     requires { Measured sheet.now sizes × (i < sizes.constant_count) }
-    ensures { result ≡ constantBits sheet.now i }
+    ensures { result ≡ constant_bits sheet.now i }
 {
     u64_in(sheet, sizes.places.constant_values, i)
 }
@@ -25,7 +25,7 @@ pub fn constant_bits_at(sheet: &[u8], sizes: Sizes, i: usize) -> u64
 // The width of parameter i.
 pub fn param_width_at(sheet: &[u8], sizes: Sizes, i: usize) -> u16
     requires { Measured sheet.now sizes × (i < sizes.param_count) }
-    ensures { result ≡ paramWidth sheet.now i }
+    ensures { result ≡ param_width sheet.now i }
 {
     u16_in(sheet, sizes.places.param_widths, i)
 }
@@ -33,7 +33,7 @@ pub fn param_width_at(sheet: &[u8], sizes: Sizes, i: usize) -> u16
 // The kind of parameter i.
 pub fn param_kind_at(sheet: &[u8], sizes: Sizes, i: usize) -> u8
     requires { Measured sheet.now sizes × (i < sizes.param_count) }
-    ensures { result ≡ paramKind sheet.now i }
+    ensures { result ≡ param_kind sheet.now i }
 {
     byte_in(sheet, sizes.places.param_kinds, i)
 }
@@ -41,7 +41,7 @@ pub fn param_kind_at(sheet: &[u8], sizes: Sizes, i: usize) -> u8
 // The layout A of parameter i.
 pub fn param_a_at(sheet: &[u8], sizes: Sizes, i: usize) -> u16
     requires { Measured sheet.now sizes × (i < sizes.param_count) }
-    ensures { result ≡ paramA sheet.now i }
+    ensures { result ≡ param_a sheet.now i }
 {
     u16_in(sheet, sizes.places.param_as, i)
 }
@@ -49,7 +49,7 @@ pub fn param_a_at(sheet: &[u8], sizes: Sizes, i: usize) -> u16
 // The layout B of parameter i.
 pub fn param_b_at(sheet: &[u8], sizes: Sizes, i: usize) -> u16
     requires { Measured sheet.now sizes × (i < sizes.param_count) }
-    ensures { result ≡ paramB sheet.now i }
+    ensures { result ≡ param_b sheet.now i }
 {
     u16_in(sheet, sizes.places.param_bs, i)
 }
@@ -57,7 +57,7 @@ pub fn param_b_at(sheet: &[u8], sizes: Sizes, i: usize) -> u16
 // The length of layout i; a number from y up names no layout and has length 0.
 pub fn layout_length_at(sheet: &[u8], sizes: Sizes, i: usize) -> u16
     requires { Measured sheet.now sizes }
-    ensures { result ≡ layoutLength sheet.now i }
+    ensures { result ≡ layout_length sheet.now i }
 {
     if i < sizes.layout_count {
         u16_in(sheet, sizes.places.layout_lengths, i)
@@ -69,7 +69,7 @@ pub fn layout_length_at(sheet: &[u8], sizes: Sizes, i: usize) -> u16
 // Slot kind i of the q.
 pub fn slot_kind_at(sheet: &[u8], sizes: Sizes, i: usize) -> u8
     requires { Measured sheet.now sizes × (i < sizes.slot_kind_count) }
-    ensures { result ≡ byte sheet.now (slotKindsAt sheet.now + i) }
+    ensures { result ≡ byte sheet.now (slot_kinds_at sheet.now + i) }
 {
     byte_in(sheet, sizes.places.slot_kinds, i)
 }

@@ -2,12 +2,12 @@
 -- Assumes nothing.
 use Rattle.std.specs.Prelude.{List, ℕ}
 use Rattle.memory.specs.Front.{front}
-use Rattle.model.specs.Sheet.{codeCount, firstRange, layoutCount, layoutStart}
+use Rattle.model.specs.Sheet.{code_count, first_range, layout_count, layout_start}
 
 -- the number of the first range of each instruction, in the first n places
-unfoldable pub firstRanges : List ℕ → List ℕ → List ℕ
-firstRanges sheet old = front (firstRange sheet) (codeCount sheet) old
+unfoldable pub first_ranges : List ℕ → List ℕ → List ℕ
+first_ranges sheet old = front (first_range sheet) (code_count sheet) old
 
 -- where the slot kinds of each layout begin among the q, in the first y places
-unfoldable pub layoutStarts : List ℕ → List ℕ → List ℕ
-layoutStarts sheet old = front (layoutStart sheet) (layoutCount sheet) old
+unfoldable pub layout_starts : List ℕ → List ℕ → List ℕ
+layout_starts sheet old = front (layout_start sheet) (layout_count sheet) old

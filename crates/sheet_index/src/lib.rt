@@ -1,8 +1,10 @@
 // What is found once a call, so that no later step adds up or compares the sheet's parts again.
+#![tactic(auto)]
+
 ghost use Rattle.std.specs.Prelude.{◌≡◌, ◌≤◌, ◌<◌, length};
 ghost use Rattle.sheet.specs.Measured.{Accepted};
-ghost use Rattle.sheet_layouts.specs.Classes.{layoutClasses};
-ghost use Rattle.sheet_index.specs.Tables.{firstRanges};
+ghost use Rattle.sheet_layouts.specs.Classes.{layout_classes};
+ghost use Rattle.sheet_index.specs.Tables.{first_ranges};
 
 mod offsets;
 
@@ -13,8 +15,8 @@ use sheet_layouts::layout_classes;
 // The number of the first range of each instruction, and the class of each layout.
 pub fn index_sheet(sheet: &[u8], sizes: Sizes, firsts: &mut [u16], classes: &mut [u16])
     requires { Accepted sheet.now sizes × (sizes.code_count ≤ length firsts.old) × (sizes.layout_count < length classes.old) }
-    ensures { (firsts.new ≡ firstRanges sheet.now firsts.old)
-        × (classes.new ≡ layoutClasses sheet.now classes.old) }
+    ensures { (firsts.new ≡ first_ranges sheet.now firsts.old)
+        × (classes.new ≡ layout_classes sheet.now classes.old) }
 {
     first_ranges(sheet, sizes, firsts);
     let mut starts = [0u16; 1024];

@@ -1,7 +1,7 @@
 // What is found once a call, so that no later step adds up the sheet again.
 ghost use Rattle.std.specs.Prelude.{◌≡◌, ◌≤◌, length};
 ghost use Rattle.sheet.specs.Measured.{Accepted};
-ghost use Rattle.sheet_index.specs.Tables.{firstRanges, layoutStarts};
+ghost use Rattle.sheet_index.specs.Tables.{first_ranges, layout_starts};
 
 use sheet::Sizes;
 use sheet_fields::{layout_length_at, ranges_of};
@@ -9,7 +9,7 @@ use sheet_fields::{layout_length_at, ranges_of};
 // The number of the first range of each instruction.
 pub fn first_ranges(sheet: &[u8], sizes: Sizes, out: &mut [u16])
     requires { Accepted sheet.now sizes × (sizes.code_count ≤ length out.old) }
-    ensures { out.new ≡ firstRanges sheet.now out.old }
+    ensures { out.new ≡ first_ranges sheet.now out.old }
 {
     let n = sizes.code_count;
     let mut sum: u16 = 0;
@@ -24,7 +24,7 @@ pub fn first_ranges(sheet: &[u8], sizes: Sizes, out: &mut [u16])
 // Where the slot kinds of each layout begin among the q.
 pub fn layout_starts(sheet: &[u8], sizes: Sizes, out: &mut [u16])
     requires { Accepted sheet.now sizes × (sizes.layout_count ≤ length out.old) }
-    ensures { out.new ≡ layoutStarts sheet.now out.old }
+    ensures { out.new ≡ layout_starts sheet.now out.old }
 {
     let y = sizes.layout_count;
     let mut sum: u16 = 0;

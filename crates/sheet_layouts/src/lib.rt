@@ -1,7 +1,9 @@
 // "with the lowest layout number of equal content": of one layout, and once a call of all, to be read as often as needed
+#![tactic(auto)]
+
 ghost use Rattle.std.specs.Prelude.{◌≡◌, ◌≤◌, ◌<◌, length, replicate};
 ghost use Rattle.model.specs.Listing.{lowest};
-ghost use Rattle.sheet_layouts.specs.Classes.{layoutClasses, class_of};
+ghost use Rattle.sheet_layouts.specs.Classes.{layout_classes, class_of};
 ghost use Rattle.sheet_layouts.specs.Readable.{Readable, start_of};
 
 use sheet::Sizes;
@@ -73,7 +75,7 @@ fn fill(classes: &mut [u16], class: u16)
 // The class of every layout: the lowest number of equal content. From y up a layout is empty, and its class is that of y.
 pub fn layout_classes(sheet: &[u8], sizes: Sizes, starts: &[u16], classes: &mut [u16])
     requires { Readable sheet.now sizes starts.now × (sizes.layout_count < length classes.old) }
-    ensures { classes.new ≡ layoutClasses sheet.now classes.old }
+    ensures { classes.new ≡ layout_classes sheet.now classes.old }
 {
     let y = sizes.layout_count;
     fill(classes, lowest_of(sheet, sizes, starts, y) as u16);

@@ -1,7 +1,7 @@
 // Questions 2 and 3: the sizes, their limits, and where the arrays begin.
 ghost use Rattle.std.specs.Prelude.{◌≡◌, ◌≤◌, length};
-ghost use Rattle.model.specs.Sheet.{limits, withinLimits};
-ghost use Rattle.sheet.specs.Sizes.{places_of, sizesOf};
+ghost use Rattle.model.specs.Sheet.{limits, within_limits};
+ghost use Rattle.sheet.specs.Sizes.{places_of, sizes_of};
 
 use sheet::{Places, Sizes, size_at};
 
@@ -10,7 +10,7 @@ const LIMITS: [usize; 10] = [4096, 16384, 4096, 256, 1024, 16384, 65535, 65535, 
 // "Is every size within its limit?"
 pub fn within_limits(sheet: &[u8]) -> bool
     requires { 40 ≤ length sheet.now }
-    ensures { result ≡ withinLimits sheet.now 0 limits }
+    ensures { result ≡ within_limits sheet.now 0 limits }
 {
     let mut j = 0;
     while j < 10 {
@@ -57,7 +57,7 @@ fn places_of(sheet: &[u8]) -> Places
 // The sizes, and where the arrays begin.
 pub fn sizes_of(sheet: &[u8]) -> Sizes
     requires { 40 ≤ length sheet.now }
-    ensures { result ≡ sizesOf sheet.now }
+    ensures { result ≡ sizes_of sheet.now }
 {
     let places = places_of(sheet);
     Sizes {

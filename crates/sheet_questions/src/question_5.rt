@@ -2,8 +2,8 @@
 // a loop over several entries at a time.
 ghost use Rattle.std.specs.Prelude.{◌≡◌, ◌+◌, ◌<◌};
 ghost use Rattle.model.specs.Count.{every};
-ghost use Rattle.model.specs.Sheet.{codeCount, constantCount, paramCount, slotKindCount, layoutsUsed, kindsNamed};
-ghost use Rattle.model.specs.Sheet.{noteNamed, constantNamed, paramNamed, slotKindNamed};
+ghost use Rattle.model.specs.Sheet.{code_count, constant_count, param_count, slot_kind_count, layouts_used, kinds_named};
+ghost use Rattle.model.specs.Sheet.{note_named, constant_named, param_named, slot_kind_named};
 ghost use Rattle.sheet.specs.Measured.{Measured};
 
 use sheet::Sizes;
@@ -14,7 +14,7 @@ use sheet_fields::{
 
 // "kind 1 uses A (key) and B (value); the other nonzero kinds use A only. Unused ones are ignored."
 fn layouts_used(count: usize, kind: u8, a: u16, b: u16) -> bool
-    ensures { result ≡ layoutsUsed count kind a b }
+    ensures { result ≡ layouts_used count kind a b }
 {
     ((kind == 0) | ((a as usize) < count)) & ((kind != 1) | ((b as usize) < count))
 }
@@ -22,7 +22,7 @@ fn layouts_used(count: usize, kind: u8, a: u16, b: u16) -> bool
 // Question 5 of the note at pc.
 fn note_named(sheet: &[u8], sizes: Sizes, pc: usize) -> bool
     requires { Measured sheet.now sizes × (pc < sizes.code_count) }
-    ensures { result ≡ noteNamed sheet.now pc }
+    ensures { result ≡ note_named sheet.now pc }
 {
     let kind = note_kind_at(sheet, sizes, pc);
     let a = note_a_at(sheet, sizes, pc);
@@ -33,7 +33,7 @@ fn note_named(sheet: &[u8], sizes: Sizes, pc: usize) -> bool
 // Question 5 of constant i.
 fn constant_named(sheet: &[u8], sizes: Sizes, i: usize) -> bool
     requires { Measured sheet.now sizes × (i < sizes.constant_count) }
-    ensures { result ≡ constantNamed sheet.now i }
+    ensures { result ≡ constant_named sheet.now i }
 {
     constant_kind_at(sheet, sizes, i) <= 1
 }
@@ -41,7 +41,7 @@ fn constant_named(sheet: &[u8], sizes: Sizes, i: usize) -> bool
 // Question 5 of parameter i.
 fn param_named(sheet: &[u8], sizes: Sizes, i: usize) -> bool
     requires { Measured sheet.now sizes × (i < sizes.param_count) }
-    ensures { result ≡ paramNamed sheet.now i }
+    ensures { result ≡ param_named sheet.now i }
 {
     let kind = param_kind_at(sheet, sizes, i);
     let a = param_a_at(sheet, sizes, i);
@@ -52,7 +52,7 @@ fn param_named(sheet: &[u8], sizes: Sizes, i: usize) -> bool
 // Question 5 of slot kind i.
 fn slot_kind_named(sheet: &[u8], sizes: Sizes, i: usize) -> bool
     requires { Measured sheet.now sizes × (i < sizes.slot_kind_count) }
-    ensures { result ≡ slotKindNamed sheet.now i }
+    ensures { result ≡ slot_kind_named sheet.now i }
 {
     slot_kind_at(sheet, sizes, i) <= 5
 }
@@ -60,7 +60,7 @@ fn slot_kind_named(sheet: &[u8], sizes: Sizes, i: usize) -> bool
 // Question 5 of all notes.
 fn notes_named(sheet: &[u8], sizes: Sizes) -> bool
     requires { Measured sheet.now sizes }
-    ensures { result ≡ every (noteNamed sheet.now) (codeCount sheet.now) }
+    ensures { result ≡ every (note_named sheet.now) (code_count sheet.now) }
 {
     let count = sizes.code_count;
     let mut named = true;
@@ -75,7 +75,7 @@ fn notes_named(sheet: &[u8], sizes: Sizes) -> bool
 // Question 5 of all constants.
 fn constants_named(sheet: &[u8], sizes: Sizes) -> bool
     requires { Measured sheet.now sizes }
-    ensures { result ≡ every (constantNamed sheet.now) (constantCount sheet.now) }
+    ensures { result ≡ every (constant_named sheet.now) (constant_count sheet.now) }
 {
     let count = sizes.constant_count;
     let mut named = true;
@@ -90,7 +90,7 @@ fn constants_named(sheet: &[u8], sizes: Sizes) -> bool
 // Question 5 of all parameters.
 fn params_named(sheet: &[u8], sizes: Sizes) -> bool
     requires { Measured sheet.now sizes }
-    ensures { result ≡ every (paramNamed sheet.now) (paramCount sheet.now) }
+    ensures { result ≡ every (param_named sheet.now) (param_count sheet.now) }
 {
     let count = sizes.param_count;
     let mut named = true;
@@ -105,7 +105,7 @@ fn params_named(sheet: &[u8], sizes: Sizes) -> bool
 // Question 5 of all slot kinds.
 fn slot_kinds_named(sheet: &[u8], sizes: Sizes) -> bool
     requires { Measured sheet.now sizes }
-    ensures { result ≡ every (slotKindNamed sheet.now) (slotKindCount sheet.now) }
+    ensures { result ≡ every (slot_kind_named sheet.now) (slot_kind_count sheet.now) }
 {
     let count = sizes.slot_kind_count;
     let mut named = true;
@@ -120,7 +120,7 @@ fn slot_kinds_named(sheet: &[u8], sizes: Sizes) -> bool
 // "Is every kind byte named and every used layout number below y?"
 pub fn kinds_named(sheet: &[u8], sizes: Sizes) -> bool
     requires { Measured sheet.now sizes }
-    ensures { result ≡ kindsNamed sheet.now }
+    ensures { result ≡ kinds_named sheet.now }
 {
     let notes = notes_named(sheet, sizes);
     let constants = constants_named(sheet, sizes);

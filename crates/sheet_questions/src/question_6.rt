@@ -1,6 +1,6 @@
 // Question 6, of a call, after questions 1 to 5 of its sheet.
 ghost use Rattle.std.specs.Prelude.{◌≡◌, ◌&&◌, leb};
-ghost use Rattle.sheet_questions.specs.Admitted.{admittedIf, admission};
+ghost use Rattle.sheet_questions.specs.Admitted.{admitted_if, admission};
 
 use crate::Admission;
 use crate::sheet_check::check_sheet;
@@ -8,7 +8,7 @@ use sheet::Sizes;
 
 // "6. Have the marks and the closure's stack at least L entries each?"
 fn closure_room(sizes: Sizes, marks: usize, stack: usize) -> Admission
-    ensures { result ≡ admittedIf (leb sizes.local_slots marks && leb sizes.local_slots stack) sizes }
+    ensures { result ≡ admitted_if (leb sizes.local_slots marks && leb sizes.local_slots stack) sizes }
 {
     if marks < sizes.local_slots {
         return Admission::Refused { number: 6 };

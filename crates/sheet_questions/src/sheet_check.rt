@@ -1,6 +1,6 @@
 // Questions 1 to 5 on any bytes.
 ghost use Rattle.std.specs.Prelude.{◌≡◌};
-ghost use Rattle.sheet_questions.specs.Check.{sheetCheck};
+ghost use Rattle.sheet_questions.specs.Check.{sheet_check};
 ghost use Rattle.sheet.specs.Measured.{Measured};
 
 use crate::Admission;
@@ -12,7 +12,7 @@ use sheet::Sizes;
 // Questions 4 and 5, of a sheet that 1 to 3 leave.
 fn check_fields(sheet: &[u8], sizes: Sizes) -> Admission
     requires { Measured sheet.now sizes }
-    ensures { result ≡ sheetCheck sheet.now }
+    ensures { result ≡ sheet_check sheet.now }
 {
     if !sums_match(sheet, sizes) {
         return Admission::Refused { number: 4 };
@@ -25,7 +25,7 @@ fn check_fields(sheet: &[u8], sizes: Sizes) -> Admission
 
 // The sheet's sizes, or the number of the first of the questions 1 to 5 that refuses it.
 pub fn check_sheet(sheet: &[u8]) -> Admission
-    ensures { result ≡ sheetCheck sheet.now }
+    ensures { result ≡ sheet_check sheet.now }
 {
     if sheet.len() < 40 {
         return Admission::Refused { number: 1 };

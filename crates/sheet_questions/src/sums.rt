@@ -1,6 +1,6 @@
 // Question 4: the sums of the write counts and of the layout lengths.
 ghost use Rattle.std.specs.Prelude.{◌≡◌};
-ghost use Rattle.model.specs.Sheet.{codeCount, layoutCount, firstRange, layoutStart, sumsMatch};
+ghost use Rattle.model.specs.Sheet.{code_count, layout_count, first_range, layout_start, sums_match};
 ghost use Rattle.sheet.specs.Measured.{Measured};
 
 use sheet::Sizes;
@@ -9,7 +9,7 @@ use sheet_fields::{layout_length_at, ranges_of};
 // How many ranges all instructions take.
 fn ranges_taken(sheet: &[u8], sizes: Sizes) -> usize
     requires { Measured sheet.now sizes }
-    ensures { result ≡ firstRange sheet.now (codeCount sheet.now) }
+    ensures { result ≡ first_range sheet.now (code_count sheet.now) }
 {
     let n = sizes.code_count;
     let mut sum: usize = 0;
@@ -24,7 +24,7 @@ fn ranges_taken(sheet: &[u8], sizes: Sizes) -> usize
 // How many slot kinds all layouts have.
 fn slot_kinds_taken(sheet: &[u8], sizes: Sizes) -> usize
     requires { Measured sheet.now sizes }
-    ensures { result ≡ layoutStart sheet.now (layoutCount sheet.now) }
+    ensures { result ≡ layout_start sheet.now (layout_count sheet.now) }
 {
     let y = sizes.layout_count;
     let mut sum: usize = 0;
@@ -39,7 +39,7 @@ fn slot_kinds_taken(sheet: &[u8], sizes: Sizes) -> usize
 // "Do the write counts other than 65,535 sum to w, the layout lengths to q?"
 pub fn sums_match(sheet: &[u8], sizes: Sizes) -> bool
     requires { Measured sheet.now sizes }
-    ensures { result ≡ sumsMatch sheet.now }
+    ensures { result ≡ sums_match sheet.now }
 {
     if ranges_taken(sheet, sizes) != sizes.range_count {
         return false;

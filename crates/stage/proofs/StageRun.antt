@@ -10,19 +10,19 @@ use lib.Dec.{eqb}
 use lib.ListN.{length, replicate, take, drop, length-append, length-drop, length-map, length-replicate, replicate-append-replicate}
 use lib.Seq.{take_at, length-take-le, drop-append_seam}
 use borrow.Author.Tests.{eqb-false, leb-true}
-use Rattle.model.specs.Sheet.{codeCount, localSlots}
-use Rattle.model.specs.Charges.{Refusal, overBudget, noRoom, Spent, ok, continue}
+use Rattle.model.specs.Sheet.{code_count, local_slots}
+use Rattle.model.specs.Charges.{Refusal, over_budget, no_room, Spent, ok, continue}
 use Rattle.model.specs.Fact.{Fact, kind, value, Row}
-use Rattle.model.specs.Run.{RunEnd, finished, overdrawn, fuelSpent, run}
-use Rattle.model.specs.Tables.{lengthTable, facts_of}
-use Rattle.model.specs.Analyses.{Analysed, analysis, ranTo, propagate}
-use Rattle.model.specs.Call.{Table, Scratch, table, scratch, counts, tables, zeros, filled, zeroTable, filledTable}
+use Rattle.model.specs.Run.{RunEnd, finished, overdrawn, fuel_spent, run}
+use Rattle.model.specs.Tables.{length_table, facts_of}
+use Rattle.model.specs.Analyses.{Analysed, analysis, ran_to, propagate}
+use Rattle.model.specs.Call.{Table, Scratch, table, scratch, counts, tables, zeros, filled, zero_table, filled_table}
 use Rattle.model.specs.declared.VerifierResources.{VerifierResources}
 use Rattle.model.specs.declared.AnalysisKind.{AnalysisKind}
 use Rattle.model.specs.declared.Counts.{Counts}
-use Rattle.model.proofs.Facts.{facts-back}
-use Rattle.finality.proofs.Lengths.{zeros-length, zeros-same}
-use Rattle.budget.specs.Outcome.{refusedBy, refusing, left_of, leaves, leavesOf}
+use Rattle.model.proofs.Facts.{facts_back}
+use Rattle.finality.proofs.Lengths.{zeros_length, zeros_same}
+use Rattle.budget.specs.Outcome.{refused_by, refusing, left_of, leaves, leaves_of}
 use Rattle.budget.specs.declared.Outcome.{Outcome}
 use Rattle.budget.specs.declared.Outcome.TheVariants.{Covered}
 use Rattle.budget.proofs.Outcomes.{Left, covered, stopped, left_by}
@@ -32,21 +32,21 @@ use Rattle.sheet.proofs.SizeNames.{counted}
 use Rattle.sheet.proofs.SizeLimits.{limited}
 use Rattle.fixpoint_step.specs.Stepped.{SheetIndex, TrackedSlots}
 use Rattle.fixpoint.specs.declared.Ran.{Ran}
-use Rattle.fixpoint.specs.Memory.{RunMemory, runMemory, zeroRun}
+use Rattle.fixpoint.specs.Memory.{RunMemory, run_memory, zero_run}
 use Rattle.fixpoint.specs.Turn.{RunRequires}
-use Rattle.fixpoint.specs.Result.{RunLeft, ran, ranTables}
+use Rattle.fixpoint.specs.Result.{RunLeft, ran, ran_tables}
 use Rattle.fixpoint.proofs.RunEnds.{RunLengths}
-use Rattle.stage_memory.proofs.RoomTests.{some-room, cells_fit}
-use Rattle.stage_memory.specs.Stage.{zeroScratch, countsIf}
-use Rattle.stage_memory.proofs.RecordEqualities.{table-path, scratch-path}
+use Rattle.stage_memory.proofs.RoomTests.{some_room, cells_fit}
+use Rattle.stage_memory.specs.Stage.{zero_scratch, counts_if}
+use Rattle.stage_memory.proofs.RecordEqualities.{table_path, scratch_path}
 use Rattle.stage_prepare.specs.declared.Prepared.{Prepared}
 use Rattle.stage_prepare.specs.Prepare.{something}
-use Rattle.stage_prepare.proofs.ClosureSlots.{few-below}
-use Rattle.stage_prepare.proofs.RoomAndRow.{room-parts}
-use Rattle.stage_prepare.proofs.ZeroFronts.{take-zero, front-filled, front-cleared, cleared-zero}
-use Rattle.stage_memory.specs.Staged.{ScratchZero, noCounts, staged, stagedBy}
-use Rattle.stage.proofs.StageBegun.{stageAfter, stage-after, Ready}
-use Rattle.stage.proofs.NothingToRun.{stage-path, filled-zeros}
+use Rattle.stage_prepare.proofs.ClosureSlots.{few_below}
+use Rattle.stage_prepare.proofs.RoomAndRow.{room_parts}
+use Rattle.stage_prepare.proofs.ZeroFronts.{take_zero, front_filled, front_cleared, cleared_zero}
+use Rattle.stage_memory.specs.Staged.{ScratchZero, no_counts, staged, staged_by}
+use Rattle.stage.proofs.StageBegun.{stage_after, stage_after_lem, Ready}
+use Rattle.stage.proofs.NothingToRun.{stage_path, filled_zeros}
 
 -- ---- parts of what is lent
 
@@ -59,13 +59,13 @@ front : (new old : List ℕ) (k : ℕ) → length new ≡ k → take k (filled n
 unfolding filled
 front new old k h = take_at new (replicate (length old - length new) 0) k h
 
-filled-length : (new old : List ℕ) → length new ≤ length old → length (filled new old) ≡ length old
+filled_length : (new old : List ℕ) → length new ≤ length old → length (filled new old) ≡ length old
 unfolding filled
-filled-length new old h = length-append new _ ∙ omega (arith, length-replicate {A = ℕ} (length old - length new) 0)
+filled_length new old h = length-append new _ ∙ omega (arith, length-replicate {A = ℕ} (length old - length new) 0)
 
-zeros-front : (k : ℕ) (old : List ℕ) → k ≤ length old → zeros (take k old) ≡ replicate k 0
+zeros_front : (k : ℕ) (old : List ℕ) → k ≤ length old → zeros (take k old) ≡ replicate k 0
 unfolding zeros
-zeros-front k old h = ap (λ (m : ℕ). replicate m 0) (length-take-le k old h)
+zeros_front k old h = ap (λ (m : ℕ). replicate m 0) (length-take-le k old h)
 
 -- what was filled, with zeros in its first places again
 emptied : (new old : List ℕ) (k : ℕ) → length new ≡ k → k ≤ length old → {part : List ℕ} → part ≡ replicate k 0 → part ++ drop k (filled new old) ≡ zeros old
@@ -78,17 +78,17 @@ emptied new old k h l {part} e =
 
 -- the first places of a cleared output, filled or cleared again
 module _ (k : ℕ) (old : List ℕ) {new : List ℕ} (is : new ≡ zeros old) (h : k ≤ length new) {part : List ℕ} where
-  front-made : {made : List ℕ} → part ≡ made → length part ≡ length (take k new) → part ++ drop k new ≡ filled made old
-  front-made {made} e l = front-filled k new h (cleared-zero old is) e (l ∙ length-take-le k new h) ∙ ap (filled made) is ∙ filled-zeros made old
+  front_made : {made : List ℕ} → part ≡ made → length part ≡ length (take k new) → part ++ drop k new ≡ filled made old
+  front_made {made} e l = front_filled k new h (cleared_zero old is) e (l ∙ length-take-le k new h) ∙ ap (filled made) is ∙ filled_zeros made old
 
-  front-lost : part ≡ zeros (take k new) → part ++ drop k new ≡ zeros old
-  front-lost e = front-cleared k new h (cleared-zero old is) (e ∙ zeros-front k new h) ∙ zeros-same new old (ap length is ∙ zeros-length old)
+  front_lost : part ≡ zeros (take k new) → part ++ drop k new ≡ zeros old
+  front_lost e = front_cleared k new h (cleared_zero old is) (e ∙ zeros_front k new h) ∙ zeros_same new old (ap length is ∙ zeros_length old)
 
 -- ---- something runs
 
-some-both : (n s : ℕ) → something n s ≡ true → (0 < n) × (0 < s)
+some_both : (n s : ℕ) → something n s ≡ true → (0 < n) × (0 < s)
 unfolding something
-some-both n s e = go (eqb n 0) (eqb s 0) refl refl e
+some_both n s e = go (eqb n 0) (eqb s 0) refl refl e
   where
     above : (m : ℕ) → eqb m 0 ≡ false → 0 < m
     above zero h = absurd (eqb-false 0 0 h refl)
@@ -100,204 +100,204 @@ some-both n s e = go (eqb n 0) (eqb s 0) refl refl e
     go false true p q h = let z : ◌≡◌ {A = ℕ} 0 1 = cc in absurd (omega arith)
 
 -- the slots of a run that ended are those it was fed
-ran-slots : (end : RunEnd) (which : AnalysisKind) (slots : List ℕ) (entry : Row) (started : VerifierResources) {left : VerifierResources} {a : Analysed} → ranTo end which slots entry started ≡ ok a left → a.slots ≡ slots
-unfolding ranTo
-ran-slots (finished rows count left) which slots entry started e = cc
-ran-slots (overdrawn requested remaining) which slots entry started e = let z : ◌≡◌ {A = ℕ} 0 1 = cc in absurd (omega arith)
-ran-slots fuelSpent which slots entry started e = let z : ◌≡◌ {A = ℕ} 0 1 = cc in absurd (omega arith)
+ran_slots : (end : RunEnd) (which : AnalysisKind) (slots : List ℕ) (entry : Row) (started : VerifierResources) {left : VerifierResources} {a : Analysed} → ran_to end which slots entry started ≡ ok a left → a.slots ≡ slots
+unfolding ran_to
+ran_slots (finished rows count left) which slots entry started e = cc
+ran_slots (overdrawn requested remaining) which slots entry started e = let z : ◌≡◌ {A = ℕ} 0 1 = cc in absurd (omega arith)
+ran_slots fuel_spent which slots entry started e = let z : ◌≡◌ {A = ℕ} 0 1 = cc in absurd (omega arith)
 
-fed-slots : (which : AnalysisKind) (sheet slots : List ℕ) (lengthFact : ℕ → Fact) (entry : Row) (started : VerifierResources) {left : VerifierResources} {a : Analysed}
-    → propagate which sheet slots lengthFact entry started ≡ ok a left → a.slots ≡ slots
+fed_slots : (which : AnalysisKind) (sheet slots : List ℕ) (length_fact : ℕ → Fact) (entry : Row) (started : VerifierResources) {left : VerifierResources} {a : Analysed}
+    → propagate which sheet slots length_fact entry started ≡ ok a left → a.slots ≡ slots
 unfolding propagate
-fed-slots which sheet slots lengthFact entry started e = ran-slots (run (analysis which sheet slots lengthFact entry) started.work) which slots entry started e
+fed_slots which sheet slots length_fact entry started e = ran_slots (run (analysis which sheet slots length_fact entry) started.work) which slots entry started e
 
-refused-by : (refusal : Refusal) {outcome : Outcome} (left : VerifierResources) → outcome ≡ refusedBy refusal left → refusing outcome ≡ true
-unfolding refusing refusedBy
-refused-by (overBudget stage requested remaining) left e = rw e
-refused-by noRoom left e = rw e
+refused_by_lem : (refusal : Refusal) {outcome : Outcome} (left : VerifierResources) → outcome ≡ refused_by refusal left → refusing outcome ≡ true
+unfolding refusing refused_by
+refused_by_lem (over_budget stage requested remaining) left e = rw e
+refused_by_lem no_room left e = rw e
 
 -- ---- what the run is lent, and what it leaves
 
 -- s of the slots, and of the whole memory the first n, n × s and s places
 pub record RunLent (sheet : List ℕ) (n s : ℕ) (slots : List ℕ) (m : RunMemory) : Type 0 where
   pub cells_fit : n * s < 2 ^ 64
-  pub slots-fit : s ≤ length slots
-  pub present-fits : n ≤ length m.present
-  pub kinds-fit : n * s ≤ length m.kinds
-  pub values-fit : n * s ≤ length m.values
-  pub row-kinds-fit : s ≤ length m.rowKinds
-  pub row-values-fit : s ≤ length m.rowValues
+  pub slots_fit : s ≤ length slots
+  pub present_fits : n ≤ length m.present
+  pub kinds_fit : n * s ≤ length m.kinds
+  pub values_fit : n * s ≤ length m.values
+  pub row_kinds_fit : s ≤ length m.row_kinds
+  pub row_values_fit : s ≤ length m.row_values
   pub tracked : TrackedSlots sheet (take s slots)
-  pub run : RunRequires (codeCount sheet) (length (take s slots)) (runMemory (take n m.present) (take (n * s) m.kinds) (take (n * s) m.values) (take s m.rowKinds) (take s m.rowValues) m.workList)
+  pub run : RunRequires (code_count sheet) (length (take s slots)) (run_memory (take n m.present) (take (n * s) m.kinds) (take (n * s) m.values) (take s m.row_kinds) (take s m.row_values) m.work_list)
 
-module _ (before : Outcome) (which : AnalysisKind) (sheet : List ℕ) {sizes : Sizes} {firsts classes lengthKinds lengthValues : List ℕ}
-    (i : SheetIndex sheet sizes firsts classes lengthKinds lengthValues) (t : Table) (w : Scratch) (z : ScratchZero sheet w)
-    {n : ℕ} (all : n ≡ codeCount sheet) {r : Prepared} {slots' rk rv : List ℕ} (y : Ready before which sheet t w r slots' rk rv) (runs : r.runs ≡ true) where
-  above : (0 < codeCount sheet) × (0 < length y.b.slots)
-  above = some-both (codeCount sheet) (length y.b.slots) (sym y.runs-is ∙ runs)
+module _ (before : Outcome) (which : AnalysisKind) (sheet : List ℕ) {sizes : Sizes} {firsts classes length_kinds length_values : List ℕ}
+    (i : SheetIndex sheet sizes firsts classes length_kinds length_values) (t : Table) (w : Scratch) (z : ScratchZero sheet w)
+    {n : ℕ} (all : n ≡ code_count sheet) {r : Prepared} {slots' rk rv : List ℕ} (y : Ready before which sheet t w r slots' rk rv) (runs : r.runs ≡ true) where
+  above : (0 < code_count sheet) × (0 < length y.b.slots)
+  above = some_both (code_count sheet) (length y.b.slots) (sym y.runs_is ∙ runs)
 
   -- question 8, as inequalities
-  fits : (r.s ≤ length t.slots) × (r.s ≤ length w.rowKinds) × (r.s ≤ length w.rowValues) × (n ≤ length t.present) × (n * r.s ≤ length t.kinds) × (n * r.s ≤ length t.values)
-      × (n * (1 + 2 * r.s) ≤ length w.workList)
+  fits : (r.s ≤ length t.slots) × (r.s ≤ length w.row_kinds) × (r.s ≤ length w.row_values) × (n ≤ length t.present) × (n * r.s ≤ length t.kinds) × (n * r.s ≤ length t.values)
+      × (n * (1 + 2 * r.s) ≤ length w.work_list)
   fits =
-      let f = room-parts (codeCount sheet) (length y.b.slots) _ _ _ _ _ _ _ y.begun.room in
+      let f = room_parts (code_count sheet) (length y.b.slots) _ _ _ _ _ _ _ y.begun.room in
       let a = above in
-      rw (all, y.s-is) (f.0, f.1, f.2, f.3, f.4, f.5, leb-true _ _ (some-room (codeCount sheet) (length y.b.slots) (length w.workList) (λ e. absurd (omega arith)) (λ e. absurd (omega arith)) ∙ f.6))
+      rw (all, y.s_is) (f.0, f.1, f.2, f.3, f.4, f.5, leb-true _ _ (some_room (code_count sheet) (length y.b.slots) (length w.work_list) (λ e. absurd (omega arith)) (λ e. absurd (omega arith)) ∙ f.6))
 
   few : r.s ≤ 65535
   few =
-      let below = few-below (localSlots sheet) y.b.slots y.begun.exact.ascending y.begun.exact.below in
-      let most = rw (counted i.accepted.are).local-slots at (limited (measured i.accepted)).local-slots in
-      omega (arith, y.s-is)
+      let below = few_below (local_slots sheet) y.b.slots y.begun.exact.ascending y.begun.exact.below in
+      let most = rw (counted i.accepted.are).local_slots_is at (limited (measured i.accepted)).local_slots_is in
+      omega (arith, y.s_is)
 
-  little : codeCount sheet ≤ 4096
-  little = rw (sym (counted i.accepted.are).code-count) (limited (measured i.accepted)).code-count
+  little : code_count sheet ≤ 4096
+  little = rw (sym (counted i.accepted.are).code_count_is) (limited (measured i.accepted)).code_count_is
 
   -- n × s does not wrap
-  fits-cells : n * r.s < 2 ^ 64
-  fits-cells = omega (arith, (cells_fit n r.s (rw all little) few).0)
+  fits_cells : n * r.s < 2 ^ 64
+  fits_cells = omega (arith, (cells_fit n r.s (rw all little) few).0)
 
-  slots-front : take r.s slots' ≡ y.b.slots
-  slots-front = ap (take r.s) y.slots-are ∙ front y.b.slots t.slots r.s (sym y.s-is)
+  slots_front : take r.s slots' ≡ y.b.slots
+  slots_front = ap (take r.s) y.slots_are ∙ front y.b.slots t.slots r.s (sym y.s_is)
 
-  slots-long : length slots' ≡ length t.slots
-  slots-long = ap length y.slots-are ∙ filled-length y.b.slots t.slots (rw (← y.s-is) fits.0)
+  slots_long : length slots' ≡ length t.slots
+  slots_long = ap length y.slots_are ∙ filled_length y.b.slots t.slots (rw (← y.s_is) fits.0)
 
-  slots-fit : r.s ≤ length slots'
-  slots-fit = rw slots-long fits.0
+  slots_fit : r.s ≤ length slots'
+  slots_fit = rw slots_long fits.0
 
   tracked : TrackedSlots sheet (take r.s slots')
-  tracked = rw slots-front (record {
+  tracked = rw slots_front (record {
     ascending = y.begun.exact.ascending;
-    some-slot = above.1;
-    few-slots = rw (← y.s-is) few;
-    some-code = above.0;
+    some_slot = above.1;
+    few_slots = rw (← y.s_is) few;
+    some_code = above.0;
     little = little;
   })
 
   -- the row scratch has the first row in front
-  kinds-long : length (map kind y.b.entry) ≡ r.s
-  kinds-long = length-map y.b.entry kind ∙ y.begun.long ∙ sym y.s-is
+  kinds_long : length (map kind y.b.entry) ≡ r.s
+  kinds_long = length-map y.b.entry kind ∙ y.begun.long ∙ sym y.s_is
 
-  values-long : length (map value y.b.entry) ≡ r.s
-  values-long = length-map y.b.entry value ∙ y.begun.long ∙ sym y.s-is
+  values_long : length (map value y.b.entry) ≡ r.s
+  values_long = length-map y.b.entry value ∙ y.begun.long ∙ sym y.s_is
 
-  row-kinds-front : take r.s rk ≡ map kind y.b.entry
-  row-kinds-front = ap (take r.s) y.row-kinds-are ∙ front (map kind y.b.entry) w.rowKinds r.s kinds-long
+  row_kinds_front : take r.s rk ≡ map kind y.b.entry
+  row_kinds_front = ap (take r.s) y.row_kinds_are ∙ front (map kind y.b.entry) w.row_kinds r.s kinds_long
 
-  row-values-front : take r.s rv ≡ map value y.b.entry
-  row-values-front = ap (take r.s) y.row-values-are ∙ front (map value y.b.entry) w.rowValues r.s values-long
+  row_values_front : take r.s rv ≡ map value y.b.entry
+  row_values_front = ap (take r.s) y.row_values_are ∙ front (map value y.b.entry) w.row_values r.s values_long
 
   row_is : facts_of (take r.s rk) (take r.s rv) ≡ y.b.entry
-  row_is = ap₂ facts_of row-kinds-front row-values-front ∙ facts-back y.b.entry
+  row_is = ap₂ facts_of row_kinds_front row_values_front ∙ facts_back y.b.entry
 
   rows_fit : (r.s ≤ length rk) × (r.s ≤ length rv)
   rows_fit = (
-    rw (y.row-kinds-are, filled-length (map kind y.b.entry) w.rowKinds (rw kinds-long fits.1)) fits.1,
-    rw (y.row-values-are, filled-length (map value y.b.entry) w.rowValues (rw values-long fits.2)) fits.2,
+    rw (y.row_kinds_are, filled_length (map kind y.b.entry) w.row_kinds (rw kinds_long fits.1)) fits.1,
+    rw (y.row_values_are, filled_length (map value y.b.entry) w.row_values (rw values_long fits.2)) fits.2,
   )
 
   module _ {present' kinds' values' : List ℕ} (no-present' : present' ≡ zeros t.present) (no-kinds' : kinds' ≡ zeros t.kinds) (no-values' : values' ≡ zeros t.values) where
-    tables-fit : (n ≤ length present') × (n * r.s ≤ length kinds') × (n * r.s ≤ length values')
-    tables-fit = rw (no-present', no-kinds', no-values', zeros-length t.present, zeros-length t.kinds, zeros-length t.values) (fits.3, fits.4, fits.5)
+    tables_fit : (n ≤ length present') × (n * r.s ≤ length kinds') × (n * r.s ≤ length values')
+    tables_fit = rw (no-present', no-kinds', no-values', zeros_length t.present, zeros_length t.kinds, zeros_length t.values) (fits.3, fits.4, fits.5)
 
     abbrev lent : RunMemory
-    lent = runMemory (take n present') (take (n * r.s) kinds') (take (n * r.s) values') (take r.s rk) (take r.s rv) w.workList
+    lent = run_memory (take n present') (take (n * r.s) kinds') (take (n * r.s) values') (take r.s rk) (take r.s rv) w.work_list
 
     -- what the run asks
-    run-asks : RunRequires (codeCount sheet) (length (take r.s slots')) (runMemory (take n present') (take (n * r.s) kinds') (take (n * r.s) values') (take r.s rk) (take r.s rv) w.workList)
-    run-asks =
-        let f = tables-fit in
-        rw (← all, slots-front, ← y.s-is) (record {
-          present-zero = take-zero n present' f.0 (cleared-zero t.present no-present');
-          kinds-zero = take-zero (n * r.s) kinds' f.1 (cleared-zero t.kinds no-kinds');
-          values-zero = take-zero (n * r.s) values' f.2 (cleared-zero t.values no-values');
-          row-length = ap length row_is ∙ y.begun.long ∙ sym y.s-is;
-          row_lies = record { kinds-are = row-kinds-front ∙ ap (map kind) (sym row_is); values-are = row-values-front ∙ ap (map value) (sym row_is) };
-          list-zero = z.no-list;
-          list-fits = fits.6;
+    run_asks : RunRequires (code_count sheet) (length (take r.s slots')) (run_memory (take n present') (take (n * r.s) kinds') (take (n * r.s) values') (take r.s rk) (take r.s rv) w.work_list)
+    run_asks =
+        let f = tables_fit in
+        rw (← all, slots_front, ← y.s_is) (record {
+          present_zero = take_zero n present' f.0 (cleared_zero t.present no-present');
+          kinds_zero = take_zero (n * r.s) kinds' f.1 (cleared_zero t.kinds no-kinds');
+          values_zero = take_zero (n * r.s) values' f.2 (cleared_zero t.values no-values');
+          row_length = ap length row_is ∙ y.begun.long ∙ sym y.s_is;
+          row_lies = record { kinds_are = row_kinds_front ∙ ap (map kind) (sym row_is); values_are = row_values_front ∙ ap (map value) (sym row_is) };
+          list_zero = z.no_list;
+          list_fits = fits.6;
         })
 
-    pub run_lent : RunLent sheet n r.s slots' (runMemory present' kinds' values' rk rv w.workList)
+    pub run_lent : RunLent sheet n r.s slots' (run_memory present' kinds' values' rk rv w.work_list)
     run_lent = record {
-      cells_fit = fits-cells;
-      slots-fit = slots-fit;
-      present-fits = tables-fit.0;
-      kinds-fit = tables-fit.1;
-      values-fit = tables-fit.2;
-      row-kinds-fit = rows_fit.0;
-      row-values-fit = rows_fit.1;
+      cells_fit = fits_cells;
+      slots_fit = slots_fit;
+      present_fits = tables_fit.0;
+      kinds_fit = tables_fit.1;
+      values_fit = tables_fit.2;
+      row_kinds_fit = rows_fit.0;
+      row_values_fit = rows_fit.1;
       tracked = tracked;
-      run = run-asks;
+      run = run_asks;
     }
 
     -- what it leaves in the first places is what the stage leaves in the whole
     module _ {marks' stack' : List ℕ} (no-marks' : marks' ≡ zeros w.marks) (no_Stack' : stack' ≡ zeros w.stack) {resources : VerifierResources} (left_is : resources ≡ left_of r.outcome)
         (ended : Ran) (m : RunMemory)
-        (long : RunLengths m (runMemory (take n present') (take (n * r.s) kinds') (take (n * r.s) values') (take r.s rk) (take r.s rv) w.workList))
-        {counts' : Counts} {slots'' : List ℕ} (counts-are : counts' ≡ countsIf (refusing ended.outcome) r.s ended.pops) (slots-left : slots'' ≡ cond (refusing ended.outcome) (zeros slots') slots') where
+        (long : RunLengths m (run_memory (take n present') (take (n * r.s) kinds') (take (n * r.s) values') (take r.s rk) (take r.s rv) w.work_list))
+        {counts' : Counts} {slots'' : List ℕ} (counts-are : counts' ≡ counts_if (refusing ended.outcome) r.s ended.pops) (slots-left : slots'' ≡ cond (refusing ended.outcome) (zeros slots') slots') where
       -- the run's part of the definitions
       abbrev spent : Spent Analysed
-      spent = propagate which sheet y.b.slots (lengthTable lengthKinds lengthValues) y.b.entry y.rest
+      spent = propagate which sheet y.b.slots (length_table length_kinds length_values) y.b.entry y.rest
 
       started : resources ≡ y.rest
       unfolding left_of
-      started = left_is ∙ ap left_of y.outcome-is
+      started = left_is ∙ ap left_of y.outcome_is
 
-      rows-emptied : m.rowKinds ≡ zeros (take r.s rk) → m.rowValues ≡ zeros (take r.s rv) → m.workList ≡ zeros w.workList
-          → scratch marks' stack' (m.rowKinds ++ drop r.s rk) (m.rowValues ++ drop r.s rv) m.workList ≡ zeroScratch w
-      unfolding zeroScratch
-      rows-emptied k v l =
-          scratch-path no-marks' no_Stack'
-          (ap (λ (x : List ℕ). m.rowKinds ++ drop r.s x) y.row-kinds-are ∙ emptied (map kind y.b.entry) w.rowKinds r.s kinds-long fits.1 (k ∙ zeros-front r.s rk rows_fit.0))
-          (ap (λ (x : List ℕ). m.rowValues ++ drop r.s x) y.row-values-are ∙ emptied (map value y.b.entry) w.rowValues r.s values-long fits.2 (v ∙ zeros-front r.s rv rows_fit.1)) l
+      rows_emptied : m.row_kinds ≡ zeros (take r.s rk) → m.row_values ≡ zeros (take r.s rv) → m.work_list ≡ zeros w.work_list
+          → scratch marks' stack' (m.row_kinds ++ drop r.s rk) (m.row_values ++ drop r.s rv) m.work_list ≡ zero_scratch w
+      unfolding zero_scratch
+      rows_emptied k v l =
+          scratch_path no-marks' no_Stack'
+          (ap (λ (x : List ℕ). m.row_kinds ++ drop r.s x) y.row_kinds_are ∙ emptied (map kind y.b.entry) w.row_kinds r.s kinds_long fits.1 (k ∙ zeros_front r.s rk rows_fit.0))
+          (ap (λ (x : List ℕ). m.row_values ++ drop r.s x) y.row_values_are ∙ emptied (map value y.b.entry) w.row_values r.s values_long fits.2 (v ∙ zeros_front r.s rv rows_fit.1)) l
 
       abbrev output : Table
       output = table slots'' (m.present ++ drop n present') (m.kinds ++ drop (n * r.s) kinds') (m.values ++ drop (n * r.s) values')
 
       abbrev behind : Scratch
-      behind = scratch marks' stack' (m.rowKinds ++ drop r.s rk) (m.rowValues ++ drop r.s rv) m.workList
+      behind = scratch marks' stack' (m.row_kinds ++ drop r.s rk) (m.row_values ++ drop r.s rv) m.work_list
 
-      by_end : Left (ranTables (zeroRun lent)) (ran 0 (zeroRun lent)) spent ended.outcome (ran ended.pops m)
-          → some (leaves ended.outcome (staged counts' output behind)) ≡ leavesOf (stagedBy t w) (staged noCounts (zeroTable t) (zeroScratch w)) spent
-      unfolding leavesOf ranTables zeroRun stagedBy counts tables filledTable zeroTable
+      by_end : Left (ran_tables (zero_run lent)) (ran 0 (zero_run lent)) spent ended.outcome (ran ended.pops m)
+          → some (leaves ended.outcome (staged counts' output behind)) ≡ leaves_of (staged_by t w) (staged no_counts (zero_table t) (zero_scratch w)) spent
+      unfolding leaves_of ran_tables zero_run staged_by counts tables filled_table zero_table
       by_end (covered a left came o e) =
-          let f = tables-fit in
-          let fed = fed-slots which sheet y.b.slots (lengthTable lengthKinds lengthValues) y.b.entry y.rest came in
-          rw came (stage-path o
-          (counts-are ∙ kept-counts o ∙ ap₂ (λ (k q : ℕ). record { tracked = k; pops = q }) (y.s-is ∙ ap length (sym fed)) (ap (λ (x : RunLeft). x.pops) e))
-          (table-path (slots-left ∙ kept-slots o ∙ y.slots-are ∙ ap (λ (x : List ℕ). filled x t.slots) (sym fed))
-          (front-made n t.present no-present' f.0 (ap (λ (x : RunLeft). x.memory.present) e) long.present)
-          (front-made (n * r.s) t.kinds no-kinds' f.1 (ap (λ (x : RunLeft). x.memory.kinds) e) long.kinds)
-          (front-made (n * r.s) t.values no-values' f.2 (ap (λ (x : RunLeft). x.memory.values) e) long.values))
-          (rows-emptied (ap (λ (x : RunLeft). x.memory.rowKinds) e) (ap (λ (x : RunLeft). x.memory.rowValues) e) (ap (λ (x : RunLeft). x.memory.workList) e)))
+          let f = tables_fit in
+          let fed = fed_slots which sheet y.b.slots (length_table length_kinds length_values) y.b.entry y.rest came in
+          rw came (stage_path o
+          (counts-are ∙ kept_counts o ∙ ap₂ (λ (k q : ℕ). record { tracked = k; pops = q }) (y.s_is ∙ ap length (sym fed)) (ap (λ (x : RunLeft). x.pops) e))
+          (table_path (slots-left ∙ kept_slots o ∙ y.slots_are ∙ ap (λ (x : List ℕ). filled x t.slots) (sym fed))
+          (front_made n t.present no-present' f.0 (ap (λ (x : RunLeft). x.memory.present) e) long.present)
+          (front_made (n * r.s) t.kinds no-kinds' f.1 (ap (λ (x : RunLeft). x.memory.kinds) e) long.kinds)
+          (front_made (n * r.s) t.values no-values' f.2 (ap (λ (x : RunLeft). x.memory.values) e) long.values))
+          (rows_emptied (ap (λ (x : RunLeft). x.memory.row_kinds) e) (ap (λ (x : RunLeft). x.memory.row_values) e) (ap (λ (x : RunLeft). x.memory.work_list) e)))
         where
-          kept-counts : {left : VerifierResources} → ended.outcome ≡ Covered left → countsIf (refusing ended.outcome) r.s ended.pops ≡ record { tracked = r.s; pops = ended.pops }
-          kept-counts o = unfold countsIf refusing in (rw o)
+          kept_counts : {left : VerifierResources} → ended.outcome ≡ Covered left → counts_if (refusing ended.outcome) r.s ended.pops ≡ record { tracked = r.s; pops = ended.pops }
+          kept_counts o = unfold counts_if refusing in (rw o)
 
-          kept-slots : {left : VerifierResources} → ended.outcome ≡ Covered left → cond (refusing ended.outcome) (zeros slots') slots' ≡ slots'
-          kept-slots o = unfold refusing in (rw o)
+          kept_slots : {left : VerifierResources} → ended.outcome ≡ Covered left → cond (refusing ended.outcome) (zeros slots') slots' ≡ slots'
+          kept_slots o = unfold refusing in (rw o)
       by_end (stopped refusal left came o e) =
-          let f = tables-fit in
-          rw came (stage-path o
-          (counts-are ∙ lost-counts)
-          (table-path (slots-left ∙ lost-slots)
-          (front-lost n t.present no-present' f.0 (ap (λ (x : RunLeft). x.memory.present) e))
-          (front-lost (n * r.s) t.kinds no-kinds' f.1 (ap (λ (x : RunLeft). x.memory.kinds) e))
-          (front-lost (n * r.s) t.values no-values' f.2 (ap (λ (x : RunLeft). x.memory.values) e)))
-          (rows-emptied (ap (λ (x : RunLeft). x.memory.rowKinds) e) (ap (λ (x : RunLeft). x.memory.rowValues) e) (ap (λ (x : RunLeft). x.memory.workList) e)))
+          let f = tables_fit in
+          rw came (stage_path o
+          (counts-are ∙ lost_counts)
+          (table_path (slots-left ∙ lost_slots)
+          (front_lost n t.present no-present' f.0 (ap (λ (x : RunLeft). x.memory.present) e))
+          (front_lost (n * r.s) t.kinds no-kinds' f.1 (ap (λ (x : RunLeft). x.memory.kinds) e))
+          (front_lost (n * r.s) t.values no-values' f.2 (ap (λ (x : RunLeft). x.memory.values) e)))
+          (rows_emptied (ap (λ (x : RunLeft). x.memory.row_kinds) e) (ap (λ (x : RunLeft). x.memory.row_values) e) (ap (λ (x : RunLeft). x.memory.work_list) e)))
         where
-          lost-counts : countsIf (refusing ended.outcome) r.s ended.pops ≡ noCounts
-          lost-counts = unfold countsIf in (rw (refused-by refusal left o))
+          lost_counts : counts_if (refusing ended.outcome) r.s ended.pops ≡ no_counts
+          lost_counts = unfold counts_if in (rw (refused_by_lem refusal left o))
 
-          lost-slots : cond (refusing ended.outcome) (zeros slots') slots' ≡ zeros t.slots
-          lost-slots = (rw (refused-by refusal left o) (zeros-same slots' t.slots slots-long))
+          lost_slots : cond (refusing ended.outcome) (zeros slots') slots' ≡ zeros t.slots
+          lost_slots = (rw (refused_by_lem refusal left o) (zeros_same slots' t.slots slots_long))
 
       pub concluded : some (leaves ended.outcome (ran ended.pops m))
-          ≡ leavesOf (ranTables (zeroRun lent)) (ran 0 (zeroRun lent)) (propagate which sheet (take r.s slots') (lengthTable lengthKinds lengthValues) (facts_of (take r.s rk) (take r.s rv)) resources)
+          ≡ leaves_of (ran_tables (zero_run lent)) (ran 0 (zero_run lent)) (propagate which sheet (take r.s slots') (length_table length_kinds length_values) (facts_of (take r.s rk) (take r.s rv)) resources)
           → some (leaves ended.outcome (staged counts' output behind))
-          ≡ leavesOf (stagedBy t w) (staged noCounts (zeroTable t) (zeroScratch w)) (stageAfter before which sheet t w (lengthTable lengthKinds lengthValues))
+          ≡ leaves_of (staged_by t w) (staged no_counts (zero_table t) (zero_scratch w)) (stage_after before which sheet t w (length_table length_kinds length_values))
       unfolding continue
       concluded told =
-          by_end (left_by (ranTables (zeroRun lent)) (ran 0 (zeroRun lent)) spent (rw (slots-front, row_is, started) at told))
-          ∙ ap (leavesOf (stagedBy t w) (staged noCounts (zeroTable t) (zeroScratch w))) (sym (stage-after before which sheet t w (lengthTable lengthKinds lengthValues) ∙ rw y.came))
+          by_end (left_by (ran_tables (zero_run lent)) (ran 0 (zero_run lent)) spent (rw (slots_front, row_is, started) at told))
+          ∙ ap (leaves_of (staged_by t w) (staged no_counts (zero_table t) (zero_scratch w))) (sym (stage_after_lem before which sheet t w (length_table length_kinds length_values) ∙ rw y.came))

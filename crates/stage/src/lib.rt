@@ -1,16 +1,18 @@
 // One analysis after an outcome: prepared, run, concluded. One function for the three.
+#![tactic(auto)]
+
 ghost use Rattle.std.specs.Prelude.{◌≡◌};
 ghost use Rattle.std.proofs.Math.Option.{some};
 ghost use Rattle.model.specs.Analyses.{stage};
-ghost use Rattle.model.specs.Call.{scratch, room_for, zeroTable};
+ghost use Rattle.model.specs.Call.{scratch, room_for, zero_table};
 ghost use Rattle.model.specs.Charges.{continue};
-ghost use Rattle.model.specs.Promise.{lentTable, lentScratch};
-ghost use Rattle.model.specs.Sheet.{codeCount};
-ghost use Rattle.model.specs.Tables.{lengthTable};
-ghost use Rattle.budget.specs.Outcome.{asSpent, leaves, leavesOf};
+ghost use Rattle.model.specs.Promise.{lent_table, lent_scratch};
+ghost use Rattle.model.specs.Sheet.{code_count};
+ghost use Rattle.model.specs.Tables.{length_table};
+ghost use Rattle.budget.specs.Outcome.{as_spent, leaves, leaves_of};
 ghost use Rattle.fixpoint_step.specs.Stepped.{SheetIndex};
-ghost use Rattle.stage_memory.specs.Stage.{zeroScratch};
-ghost use Rattle.stage_memory.specs.Staged.{ScratchZero, noCounts, staged, stagedBy};
+ghost use Rattle.stage_memory.specs.Stage.{zero_scratch};
+ghost use Rattle.stage_memory.specs.Staged.{ScratchZero, no_counts, staged, staged_by};
 
 use budget::{Outcome, left_of};
 use fixpoint::run_to_fixpoint;
@@ -20,7 +22,7 @@ use stage_memory::{clear_rows, conclude};
 use stage_prepare::{Room, prepare};
 
 // The counts of an analysis, none after a refusal, and the outcome with its charges.
-#[derive(Drop)]
+#[derive(Clone, Copy)]
 pub struct Staged {
     pub counts: Counts,
     pub outcome: Outcome,
@@ -48,13 +50,13 @@ pub fn analyze_stage(
 ) -> Staged
     requires { let w = scratch marks.old stack.old row_kinds.old row_values.old work_list.old in
         SheetIndex sheet.now sizes firsts.now classes.now length_kinds.now length_values.now × ScratchZero sheet.now w }
-    ensures { let t = lentTable slots present kinds values in
-        let w = lentScratch marks stack row_kinds row_values work_list in
-        let room = room_for (codeCount sheet.now) t.entry w.entry.rowKinds w.entry.rowValues w.entry.workList in
-        let lengths = lengthTable length_kinds.now length_values.now in
+    ensures { let t = lent_table slots present kinds values in
+        let w = lent_scratch marks stack row_kinds row_values work_list in
+        let room = room_for (code_count sheet.now) t.entry w.entry.row_kinds w.entry.row_values w.entry.work_list in
+        let lengths = length_table length_kinds.now length_values.now in
         some (leaves result.outcome (staged result.counts t.exit w.exit))
-        ≡ leavesOf (stagedBy t.entry w.entry) (staged noCounts (zeroTable t.entry) (zeroScratch w.entry))
-        (continue (λ _. stage which sheet.now room lengths) (asSpent before)) }
+        ≡ leaves_of (staged_by t.entry w.entry) (staged no_counts (zero_table t.entry) (zero_scratch w.entry))
+        (continue (λ _. stage which sheet.now room lengths) (as_spent before)) }
 {
     clear_rows(present, kinds, values);
     let room = Room {

@@ -8,82 +8,82 @@ use Prim.Native.Nat.{ℕ, ◌<◌}
 use native.Mathlib.Omega.{arith}
 use lib.ListN.{length}
 use borrow.Author.Tests.{ne_eqb}
-use Rattle.model.specs.Tables.{RowLies, RowSlices, rowSlices}
+use Rattle.model.specs.Tables.{RowLies, RowSlices, row_slices}
 use Rattle.model.specs.Charges.{Spent, give, continue, ◌>>=◌, ◌>>◌}
 use Rattle.model.specs.Fact.{Row}
-use Rattle.model.specs.Sheet.{codeCount, paramCount}
-use Rattle.model.specs.Parameters.{paramStart, seedParams, paramRow, chargeInstructionFacts}
-use Rattle.model.specs.Analyses.{unknownRow, containerRow, firstRow}
+use Rattle.model.specs.Sheet.{code_count, param_count}
+use Rattle.model.specs.Parameters.{param_start, seed_params, param_row, charge_instruction_facts}
+use Rattle.model.specs.Analyses.{unknown_row, container_row, first_row}
 use Rattle.model.specs.declared.AnalysisKind.{AnalysisKind}
 use Rattle.model.specs.declared.AnalysisKind.TheVariants.{Constant, IndexCheck, Container}
 use Rattle.model.specs.declared.VerifierResources.{VerifierResources}
-use Rattle.budget.specs.Outcome.{asSpent, leaves, leavesOf}
+use Rattle.budget.specs.Outcome.{as_spent, leaves, leaves_of}
 use Rattle.budget.specs.declared.Outcome.{Outcome}
 use Rattle.budget.specs.declared.Outcome.TheVariants.{Covered}
-use Rattle.budget.proofs.Outcomes.{NotCovered, covered-leaves, stopped-then, stopped-leaves, spent-stopped, left-covered, left-stopped}
-use Rattle.budget.proofs.Spending.{covered, then-covered}
-use Rattle.stage_entry.specs.First.{RowZero, rowLaid, zeroRow}
-use Rattle.stage_entry.proofs.RowsMade.{blank-lies, row_laid}
+use Rattle.budget.proofs.Outcomes.{NotCovered, covered_leaves, stopped_then, stopped_leaves, spent_stopped, left_covered, left_stopped}
+use Rattle.budget.proofs.Spending.{covered, then_covered}
+use Rattle.stage_entry.specs.First.{RowZero, row_laid, zero_row}
+use Rattle.stage_entry.proofs.RowsMade.{blank_lies, row_laid_lem}
 
 -- ---- parameters
 
-module _ (sheet slots : List ℕ) (budget : VerifierResources) (row : Row) {o : Option ℕ} (is : o ≡ paramStart sheet) where
-  pub param-none : o ≡ none → {kinds values : List ℕ} → RowLies row (rowSlices kinds values)
-      → some (leaves (Covered budget) (rowSlices kinds values)) ≡ leavesOf rowLaid (zeroRow (length slots)) (paramRow sheet slots (paramStart sheet) row budget)
-  unfolding paramRow give
-  param-none e l = rw (← is, e) (covered-leaves _ _ refl refl (row_laid l))
+module _ (sheet slots : List ℕ) (budget : VerifierResources) (row : Row) {o : Option ℕ} (is : o ≡ param_start sheet) where
+  pub param_none : o ≡ none → {kinds values : List ℕ} → RowLies row (row_slices kinds values)
+      → some (leaves (Covered budget) (row_slices kinds values)) ≡ leaves_of row_laid (zero_row (length slots)) (param_row sheet slots (param_start sheet) row budget)
+  unfolding param_row give
+  param_none e l = rw (← is, e) (covered_leaves _ _ refl refl (row_laid_lem l))
 
-  pub param-some : {start : ℕ} → o ≡ some start → seedParams sheet slots start (paramCount sheet) row budget ≡ paramRow sheet slots (paramStart sheet) row budget
-  unfolding paramRow
-  param-some e = rw (← is, e)
+  pub param_some : {start : ℕ} → o ≡ some start → seed_params sheet slots start (param_count sheet) row budget ≡ param_row sheet slots (param_start sheet) row budget
+  unfolding param_row
+  param_some e = rw (← is, e)
 
 -- ---- containers
 
 module _ (sheet slots : List ℕ) (budget : VerifierResources) where
   -- what the parameters come to
   abbrev params : Spent Row
-  params = paramRow sheet slots (paramStart sheet) (unknownRow slots) budget
+  params = param_row sheet slots (param_start sheet) (unknown_row slots) budget
 
   -- a container row, as the code leaves it
   abbrev Entered : Outcome → RowSlices → Type 0
-  Entered outcome memory = some (leaves outcome memory) ≡ leavesOf rowLaid (zeroRow (length slots)) (containerRow false sheet slots budget)
+  Entered outcome memory = some (leaves outcome memory) ≡ leaves_of row_laid (zero_row (length slots)) (container_row false sheet slots budget)
 
-  module _ (seeded : Outcome) {memory : RowSlices} (came : some (leaves seeded memory) ≡ leavesOf rowLaid (zeroRow (length slots)) params) where
+  module _ (seeded : Outcome) {memory : RowSlices} (came : some (leaves seeded memory) ≡ leaves_of row_laid (zero_row (length slots)) params) where
     -- a parameter's charge is refused
-    pub params-refused : NotCovered seeded → Entered seeded memory
-    unfolding containerRow ◌>>=◌
-    params-refused h = let u = left-stopped _ _ _ came h in stopped-leaves (stopped-then u.0 _) _ u.1
+    pub params_refused : NotCovered seeded → Entered seeded memory
+    unfolding container_row ◌>>=◌
+    params_refused h = let u = left_stopped _ _ _ came h in stopped_leaves (stopped_then u.0 _) _ u.1
 
-    module _ {left : VerifierResources} (e : seeded ≡ Covered left) (charged : Outcome) (notes : asSpent charged ≡ chargeInstructionFacts sheet left) where
+    module _ {left : VerifierResources} (e : seeded ≡ Covered left) (charged : Outcome) (notes : as_spent charged ≡ charge_instruction_facts sheet left) where
       -- a note's charge is refused
-      pub notes-refused : {cleared : RowSlices} → NotCovered charged → cleared ≡ zeroRow (length slots) → Entered charged cleared
-      unfolding containerRow ◌>>=◌ ◌>>◌ continue
-      notes-refused h z =
-          let r = left-covered _ _ _ came e in
-          rw r.1 (stopped-leaves (stopped-then (spent-stopped charged notes h) (λ _. give r.0)) _ z)
+      pub notes_refused : {cleared : RowSlices} → NotCovered charged → cleared ≡ zero_row (length slots) → Entered charged cleared
+      unfolding container_row ◌>>=◌ ◌>>◌ continue
+      notes_refused h z =
+          let r = left_covered _ _ _ came e in
+          rw r.1 (stopped_leaves (stopped_then (spent_stopped charged notes h) (λ _. give r.0)) _ z)
 
       -- all is covered
-      pub notes-covered : {rest : VerifierResources} → charged ≡ Covered rest → Entered charged memory
-      unfolding containerRow ◌>>=◌ continue give
-      notes-covered f =
-          let r = left-covered _ _ _ came e in
-          rw r.1 (covered-leaves _ _ (then-covered (chargeInstructionFacts sheet) (give r.0) left (covered notes f)) f r.2)
+      pub notes_covered : {rest : VerifierResources} → charged ≡ Covered rest → Entered charged memory
+      unfolding container_row ◌>>=◌ continue give
+      notes_covered f =
+          let r = left_covered _ _ _ came e in
+          rw r.1 (covered_leaves _ _ (then_covered (charge_instruction_facts sheet) (give r.0) left (covered notes f)) f r.2)
 
 -- ---- the three
 
 module _ (which : AnalysisKind) (sheet slots : List ℕ) (budget : VerifierResources) where
   -- the first row of an analysis, as the code leaves it
   abbrev First : Outcome → RowSlices → Type 0
-  First outcome memory = some (leaves outcome memory) ≡ leavesOf rowLaid (zeroRow (length slots)) (firstRow which sheet slots budget)
+  First outcome memory = some (leaves outcome memory) ≡ leaves_of row_laid (zero_row (length slots)) (first_row which sheet slots budget)
 
-  pub constant-row : {kinds values : List ℕ} → which ≡ Constant → RowZero slots kinds values → First (Covered budget) (rowSlices kinds values)
-  unfolding firstRow give
-  constant-row e b = rw e (covered-leaves _ _ refl refl (row_laid (blank-lies b)))
+  pub constant_row : {kinds values : List ℕ} → which ≡ Constant → RowZero slots kinds values → First (Covered budget) (row_slices kinds values)
+  unfolding first_row give
+  constant_row e b = rw e (covered_leaves _ _ refl refl (row_laid_lem (blank_lies b)))
 
-  pub index-row : {kinds values : List ℕ} → which ≡ IndexCheck → RowZero slots kinds values → First (Covered budget) (rowSlices kinds values)
-  unfolding firstRow give
-  index-row e b = rw e (covered-leaves _ _ refl refl (row_laid (blank-lies b)))
+  pub index_row : {kinds values : List ℕ} → which ≡ IndexCheck → RowZero slots kinds values → First (Covered budget) (row_slices kinds values)
+  unfolding first_row give
+  index_row e b = rw e (covered_leaves _ _ refl refl (row_laid_lem (blank_lies b)))
 
-  pub container-row : {outcome : Outcome} {memory : RowSlices} → which ≡ Container → 0 < codeCount sheet → 0 < length slots → Entered sheet slots budget outcome memory → First outcome memory
-  unfolding firstRow
-  container-row e n s came = rw (e, ne_eqb (codeCount sheet) 0 (λ z. omega arith), ne_eqb (length slots) 0 (λ z. omega arith)) came
+  pub container_row_lem : {outcome : Outcome} {memory : RowSlices} → which ≡ Container → 0 < code_count sheet → 0 < length slots → Entered sheet slots budget outcome memory → First outcome memory
+  unfolding first_row
+  container_row_lem e n s came = rw (e, ne_eqb (code_count sheet) 0 (λ z. omega arith), ne_eqb (length slots) 0 (λ z. omega arith)) came

@@ -7,51 +7,51 @@ use mathlib.Core.Option.{Option, none, some}
 use Prim.Native.Nat.{ℕ, zero, suc}
 use native.Mathlib.Omega.{arith}
 use Rattle.model.specs.Fact.{Fact, kind}
-use Rattle.model.specs.Sheet.{paramKind, paramA, paramB}
+use Rattle.model.specs.Sheet.{param_kind, param_a, param_b}
 use Rattle.model.specs.Tables.{cell_of}
-use Rattle.model.specs.Transfer.{mapFact, queueFact, orUnknown}
-use Rattle.model.specs.Parameters.{paramFactBy, paramFact}
+use Rattle.model.specs.Transfer.{map_fact, queue_fact, or_unknown}
+use Rattle.model.specs.Parameters.{param_fact_by, param_fact}
 use Rattle.model.specs.declared.FactCell.{FactCell}
-use Rattle.fact_row.proofs.Facts.{kind-of}
+use Rattle.fact_row.proofs.Facts.{kind_of}
 
-module _ (sheet : List ℕ) (i : ℕ) {k : ℕ} (is : k ≡ paramKind sheet i) where
-  pub map-param : k ≡ 1 → some (mapFact (paramA sheet i) (paramB sheet i)) ≡ paramFact sheet i
-  unfolding paramFact paramFactBy
-  map-param h = rw (← is, h)
+module _ (sheet : List ℕ) (i : ℕ) {k : ℕ} (is : k ≡ param_kind sheet i) where
+  pub map_param : k ≡ 1 → some (map_fact (param_a sheet i) (param_b sheet i)) ≡ param_fact sheet i
+  unfolding param_fact param_fact_by
+  map_param h = rw (← is, h)
 
-  pub queue-param : k ≡ 2 → some (queueFact (paramA sheet i)) ≡ paramFact sheet i
-  unfolding paramFact paramFactBy
-  queue-param h = rw (← is, h)
+  pub queue_param : k ≡ 2 → some (queue_fact (param_a sheet i)) ≡ param_fact sheet i
+  unfolding param_fact param_fact_by
+  queue_param h = rw (← is, h)
 
-  pub plain-param : k ≢ 1 → k ≢ 2 → none ≡ paramFact sheet i
-  unfolding paramFact paramFactBy
-  plain-param h l = rw (← is) (go k h l)
+  pub plain_param : k ≢ 1 → k ≢ 2 → none ≡ param_fact sheet i
+  unfolding param_fact param_fact_by
+  plain_param h l = rw (← is) (go k h l)
     where
-      go : (k : ℕ) → k ≢ 1 → k ≢ 2 → none ≡ paramFactBy k sheet i
+      go : (k : ℕ) → k ≢ 1 → k ≢ 2 → none ≡ param_fact_by k sheet i
       go zero h l = refl
       go (suc zero) h l = absurd (h refl)
       go (suc (suc zero)) h l = absurd (l refl)
       go (suc (suc (suc k))) h l = refl
 
 -- a fact that a parameter brings is known, so its cell tells it from none
-module _ (sheet : List ℕ) (i : ℕ) {cell : FactCell} (is : cell ≡ cell_of (orUnknown (paramFact sheet i))) where
-  kind-is : cell.kind ≡ kind (orUnknown (paramFact sheet i))
-  kind-is = kind-of (orUnknown (paramFact sheet i)) is
+module _ (sheet : List ℕ) (i : ℕ) {cell : FactCell} (is : cell ≡ cell_of (or_unknown (param_fact sheet i))) where
+  kind_is : cell.kind ≡ kind (or_unknown (param_fact sheet i))
+  kind_is = kind_of (or_unknown (param_fact sheet i)) is
 
-  pub brings-none : cell.kind ≡ 0 → paramFact sheet i ≡ none
-  unfolding paramFact paramFactBy orUnknown mapFact queueFact kind
-  brings-none h = go (paramKind sheet i) (sym kind-is ∙ h)
+  pub brings_none : cell.kind ≡ 0 → param_fact sheet i ≡ none
+  unfolding param_fact param_fact_by or_unknown map_fact queue_fact kind
+  brings_none h = go (param_kind sheet i) (sym kind_is ∙ h)
     where
-      go : (k : ℕ) → kind (orUnknown (paramFactBy k sheet i)) ≡ 0 → paramFactBy k sheet i ≡ none
+      go : (k : ℕ) → kind (or_unknown (param_fact_by k sheet i)) ≡ 0 → param_fact_by k sheet i ≡ none
       go zero e = refl
       go (suc zero) e = absurd (omega arith)
       go (suc (suc zero)) e = absurd (omega arith)
       go (suc (suc (suc k))) e = refl
 
-  pub brings : cell.kind ≢ 0 → (fact : Fact) × (paramFact sheet i ≡ some fact) × (cell ≡ cell_of fact)
-  unfolding orUnknown kind
-  brings h = go (paramFact sheet i) refl
+  pub brings : cell.kind ≢ 0 → (fact : Fact) × (param_fact sheet i ≡ some fact) × (cell ≡ cell_of fact)
+  unfolding or_unknown kind
+  brings h = go (param_fact sheet i) refl
     where
-      go : (o : Option Fact) → paramFact sheet i ≡ o → (fact : Fact) × (paramFact sheet i ≡ some fact) × (cell ≡ cell_of fact)
-      go none e = absurd (h (kind-is ∙ ap (λ (o : Option Fact). kind (orUnknown o)) e))
-      go (some fact) e = (fact, e, is ∙ ap (λ (o : Option Fact). cell_of (orUnknown o)) e)
+      go : (o : Option Fact) → param_fact sheet i ≡ o → (fact : Fact) × (param_fact sheet i ≡ some fact) × (cell ≡ cell_of fact)
+      go none e = absurd (h (kind_is ∙ ap (λ (o : Option Fact). kind (or_unknown o)) e))
+      go (some fact) e = (fact, e, is ∙ ap (λ (o : Option Fact). cell_of (or_unknown o)) e)

@@ -6,6 +6,6 @@ use Rattle.stage_entry.specs.declared.params.ParamStart.{ParamStart}
 use Rattle.stage_entry.specs.declared.params.ParamStart.TheVariants.{At, Nowhere}
 
 -- the start that is answered
-abbrev pub paramStartOf : ParamStart → Option ℕ
-paramStartOf (At slot) = some slot
-paramStartOf Nowhere = none
+abbrev pub param_start_of : ParamStart → Option ℕ
+param_start_of (At slot) = some slot
+param_start_of Nowhere = none

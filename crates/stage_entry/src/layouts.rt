@@ -1,8 +1,8 @@
 // What the layouts of container facts cost.
 ghost use Rattle.std.specs.Prelude.{◌≡◌};
-ghost use Rattle.model.specs.Tables.{factIn};
-ghost use Rattle.model.specs.Parameters.{chargeLayout, chargeLayouts, chargeInstructionFacts};
-ghost use Rattle.budget.specs.Outcome.{asSpent};
+ghost use Rattle.model.specs.Tables.{fact_in};
+ghost use Rattle.model.specs.Parameters.{charge_layout, charge_layouts, charge_instruction_facts};
+ghost use Rattle.budget.specs.Outcome.{as_spent};
 ghost use Rattle.sheet.specs.Measured.{Measured};
 
 use budget::{Outcome, charge_bytes, metered};
@@ -14,7 +14,7 @@ use sheet_fields::{instruction_at, layout_length_at};
 // "slot kind 1": a byte for each slot of the layout.
 fn charge_layout(sheet: &[u8], sizes: Sizes, layout: usize, resources: VerifierResources) -> Outcome
     requires { Measured sheet.now sizes }
-    ensures { asSpent result ≡ chargeLayout sheet.now layout resources }
+    ensures { as_spent result ≡ charge_layout sheet.now layout resources }
 {
     let slots = layout_length_at(sheet, sizes, layout) as u64;
     metered(5, resources, charge_bytes(resources, slots))
@@ -28,7 +28,7 @@ pub fn charge_layouts(
     resources: VerifierResources,
 ) -> Outcome
     requires { Measured sheet.now sizes }
-    ensures { asSpent result ≡ chargeLayouts sheet.now (factIn cell) resources }
+    ensures { as_spent result ≡ charge_layouts sheet.now (fact_in cell) resources }
 {
     if cell.kind < 2 {
         return Outcome::Covered { left: resources };
@@ -48,7 +48,7 @@ pub fn charge_layouts(
 // The layout bytes of all notes' facts, in code order, also where the instruction is not reachable or its target not tracked.
 pub fn charge_instruction_facts(sheet: &[u8], sizes: Sizes, resources: VerifierResources) -> Outcome
     requires { Measured sheet.now sizes }
-    ensures { asSpent result ≡ chargeInstructionFacts sheet.now resources }
+    ensures { as_spent result ≡ charge_instruction_facts sheet.now resources }
 {
     let n = sizes.code_count;
     let mut left = resources;

@@ -1,4 +1,6 @@
 // What an analysis charges before its run, and the first row of the run: "Parameters" where they begin, the fact that each brings, charged.
+#![tactic(auto)]
+
 mod layouts;
 mod matrix;
 mod params;

@@ -1,16 +1,16 @@
 // "its matrix charge": n × s facts.
 ghost use Rattle.std.specs.Prelude.{◌≡◌, ◌*◌, ◌≤◌};
-ghost use Rattle.model.specs.Charges.{spendBytes};
-ghost use Rattle.model.specs.Closure.{stageNumber};
-ghost use Rattle.model.specs.Analyses.{factBytes};
-ghost use Rattle.budget.specs.Outcome.{asSpent};
+ghost use Rattle.model.specs.Charges.{spend_bytes};
+ghost use Rattle.model.specs.Closure.{stage_number};
+ghost use Rattle.model.specs.Analyses.{fact_bytes};
+ghost use Rattle.budget.specs.Outcome.{as_spent};
 
 use budget::{Outcome, charge_bytes, metered, stage_number};
 use model::{AnalysisKind, VerifierResources};
 
 // "constant fact 32, index fact 4, container fact 40"
 fn fact_bytes(which: AnalysisKind) -> u64
-    ensures { (result ≡ factBytes which) × (result ≤ 40) }
+    ensures { (result ≡ fact_bytes which) × (result ≤ 40) }
 {
     match which {
         AnalysisKind::Constant => 32,
@@ -27,7 +27,7 @@ pub fn charge_matrix(
     resources: VerifierResources,
 ) -> Outcome
     requires { (n ≤ 4096) × (s ≤ 65535) }
-    ensures { asSpent result ≡ spendBytes (stageNumber which) (n * s * factBytes which) resources }
+    ensures { as_spent result ≡ spend_bytes (stage_number which) (n * s * fact_bytes which) resources }
 {
     let amount = n as u64 * s as u64 * fact_bytes(which);
     metered(

@@ -1,10 +1,10 @@
 // Where the parameters begin, and the fact that each brings.
 ghost use Rattle.std.specs.Prelude.{◌≡◌, ◌<◌};
 ghost use Rattle.model.specs.Tables.{cell_of};
-ghost use Rattle.model.specs.Transfer.{orUnknown};
-ghost use Rattle.model.specs.Parameters.{transferSlots, paramStart, paramFact};
+ghost use Rattle.model.specs.Transfer.{or_unknown};
+ghost use Rattle.model.specs.Parameters.{transfer_slots, param_start, param_fact};
 ghost use Rattle.sheet.specs.Measured.{Measured};
-ghost use Rattle.stage_entry.specs.Start.{paramStartOf};
+ghost use Rattle.stage_entry.specs.Start.{param_start_of};
 
 use fact_row::{map_cell, queue_cell, unknown_cell};
 use model::FactCell;
@@ -12,7 +12,7 @@ use sheet::Sizes;
 use sheet_fields::{param_a_at, param_b_at, param_kind_at, param_width_at};
 
 // The slot of the first parameter, if there is one.
-#[derive(Drop)]
+#[derive(Clone, Copy)]
 pub enum ParamStart {
     At(u16),
     Nowhere,
@@ -21,7 +21,7 @@ pub enum ParamStart {
 // The sum of the parameter widths.
 fn transfer_slots(sheet: &[u8], sizes: Sizes) -> usize
     requires { Measured sheet.now sizes }
-    ensures { (result ≡ transferSlots sheet.now) × (result < 33554432) }
+    ensures { (result ≡ transfer_slots sheet.now) × (result < 33554432) }
 {
     let count = sizes.param_count;
     let mut sum: usize = 0;
@@ -37,7 +37,7 @@ fn transfer_slots(sheet: &[u8], sizes: Sizes) -> usize
 // and closure and parameters fill them; else nowhere. Sums past 16 bits leave it out.
 pub fn param_start(sheet: &[u8], sizes: Sizes) -> ParamStart
     requires { Measured sheet.now sizes }
-    ensures { paramStartOf result ≡ paramStart sheet.now }
+    ensures { param_start_of result ≡ param_start sheet.now }
 {
     if sizes.param_count == 0 {
         return ParamStart::Nowhere;
@@ -65,7 +65,7 @@ pub fn param_start(sheet: &[u8], sizes: Sizes) -> ParamStart
 // "0 no container, 1 map, 2 queue": the fact that parameter i brings; Unknown where it brings none.
 pub fn param_fact(sheet: &[u8], sizes: Sizes, i: usize) -> FactCell
     requires { Measured sheet.now sizes × (i < sizes.param_count) }
-    ensures { result ≡ cell_of (orUnknown (paramFact sheet.now i)) }
+    ensures { result ≡ cell_of (or_unknown (param_fact sheet.now i)) }
 {
     let kind = param_kind_at(sheet, sizes, i);
     if kind == 1 {

@@ -1,11 +1,11 @@
 // The first row of a run.
 ghost use Rattle.std.specs.Prelude.{◌≡◌, false, ◌<◌, length};
 ghost use Rattle.std.proofs.Math.Option.{some};
-ghost use Rattle.model.specs.Tables.{rowSlices};
-ghost use Rattle.model.specs.Analyses.{containerRow, firstRow};
-ghost use Rattle.budget.specs.Outcome.{leaves, leavesOf};
+ghost use Rattle.model.specs.Tables.{row_slices};
+ghost use Rattle.model.specs.Analyses.{container_row, first_row};
+ghost use Rattle.budget.specs.Outcome.{leaves, leaves_of};
 ghost use Rattle.sheet.specs.Measured.{Measured};
-ghost use Rattle.stage_entry.specs.First.{RowZero, rowLaid, zeroRow};
+ghost use Rattle.stage_entry.specs.First.{RowZero, row_laid, zero_row};
 
 use crate::layouts::charge_instruction_facts;
 use crate::seeds::param_row;
@@ -24,8 +24,8 @@ fn container_row(
     row_values: &mut [u64],
 ) -> Outcome
     requires { Measured sheet.now sizes × RowZero slots.now row_kinds.old row_values.old }
-    ensures { some (leaves result (rowSlices row_kinds.new row_values.new))
-        ≡ leavesOf rowLaid (zeroRow (length slots.now)) (containerRow false sheet.now slots.now resources) }
+    ensures { some (leaves result (row_slices row_kinds.new row_values.new))
+        ≡ leaves_of row_laid (zero_row (length slots.now)) (container_row false sheet.now slots.now resources) }
 {
     let seeded = param_row(sheet, sizes, slots, resources, row_kinds, row_values);
     let Outcome::Covered { left } = seeded else {
@@ -51,8 +51,8 @@ pub fn first_row(
     row_values: &mut [u64],
 ) -> Outcome
     requires { Measured sheet.now sizes × RowZero slots.now row_kinds.old row_values.old × (0 < sizes.code_count) × (0 < length slots.now) }
-    ensures { some (leaves result (rowSlices row_kinds.new row_values.new))
-        ≡ leavesOf rowLaid (zeroRow (length slots.now)) (firstRow which sheet.now slots.now resources) }
+    ensures { some (leaves result (row_slices row_kinds.new row_values.new))
+        ≡ leaves_of row_laid (zero_row (length slots.now)) (first_row which sheet.now slots.now resources) }
 {
     match which {
         AnalysisKind::Constant => Outcome::Covered { left: resources },

@@ -2,14 +2,14 @@
 ghost use Rattle.std.specs.Prelude.{◌≡◌, ◌<◌, length};
 ghost use Rattle.std.proofs.Math.Option.{some};
 ghost use Rattle.model.specs.Fact.{Fact, Row};
-ghost use Rattle.model.specs.Sheet.{paramCount};
-ghost use Rattle.model.specs.Tables.{RowLies, rowSlices, cell_of};
-ghost use Rattle.model.specs.Parameters.{paramStart, paramFact, seedParam, seedParams, paramRow};
-ghost use Rattle.model.specs.Analyses.{unknownRow};
-ghost use Rattle.budget.specs.Outcome.{leaves, leavesOf};
+ghost use Rattle.model.specs.Sheet.{param_count};
+ghost use Rattle.model.specs.Tables.{RowLies, row_slices, cell_of};
+ghost use Rattle.model.specs.Parameters.{param_start, param_fact, seed_param, seed_params, param_row};
+ghost use Rattle.model.specs.Analyses.{unknown_row};
+ghost use Rattle.budget.specs.Outcome.{leaves, leaves_of};
 ghost use Rattle.sheet.specs.Measured.{Measured};
 ghost use Rattle.fact_row.specs.Rows.{WritableRow};
-ghost use Rattle.stage_entry.specs.First.{RowZero, rowLaid, zeroRow};
+ghost use Rattle.stage_entry.specs.First.{RowZero, row_laid, zero_row};
 
 use crate::layouts::charge_layouts;
 use crate::params::{ParamStart, param_fact, param_start};
@@ -32,10 +32,10 @@ fn seed_fact(
     row_values: &mut [u64],
 ) -> Outcome
     requires { Measured sheet.now sizes × WritableRow slots.now row_kinds.old row_values.old }
-    ensures { (row : Row) (fact : Fact) → RowLies row (rowSlices row_kinds.old row_values.old) → cell ≡ cell_of fact
-        → some (leaves result (rowSlices row_kinds.new row_values.new))
-        ≡ leavesOf rowLaid (zeroRow (length slots.now))
-        (seedParam sheet.now slots.now slot (some fact) row resources) }
+    ensures { (row : Row) (fact : Fact) → RowLies row (row_slices row_kinds.old row_values.old) → cell ≡ cell_of fact
+        → some (leaves result (row_slices row_kinds.new row_values.new))
+        ≡ leaves_of row_laid (zero_row (length slots.now))
+        (seed_param sheet.now slots.now slot (some fact) row resources) }
 {
     let charged = charge_layouts(sheet, sizes, cell, resources);
     let Outcome::Covered { left: _ } = charged else {
@@ -59,10 +59,10 @@ fn seed_param(
     row_values: &mut [u64],
 ) -> Outcome
     requires { Measured sheet.now sizes × (i < sizes.param_count) × WritableRow slots.now row_kinds.old row_values.old }
-    ensures { (row : Row) → RowLies row (rowSlices row_kinds.old row_values.old)
-        → some (leaves result (rowSlices row_kinds.new row_values.new))
-        ≡ leavesOf rowLaid (zeroRow (length slots.now))
-        (seedParam sheet.now slots.now slot (paramFact sheet.now i) row resources) }
+    ensures { (row : Row) → RowLies row (row_slices row_kinds.old row_values.old)
+        → some (leaves result (row_slices row_kinds.new row_values.new))
+        ≡ leaves_of row_laid (zero_row (length slots.now))
+        (seed_param sheet.now slots.now slot (param_fact sheet.now i) row resources) }
 {
     let cell = param_fact(sheet, sizes, i);
     if cell.kind == 0 {
@@ -84,10 +84,10 @@ fn seed_params(
     row_values: &mut [u64],
 ) -> Outcome
     requires { Measured sheet.now sizes × WritableRow slots.now row_kinds.old row_values.old }
-    ensures { (row : Row) → RowLies row (rowSlices row_kinds.old row_values.old)
-        → some (leaves result (rowSlices row_kinds.new row_values.new))
-        ≡ leavesOf rowLaid (zeroRow (length slots.now))
-        (seedParams sheet.now slots.now start (paramCount sheet.now) row resources) }
+    ensures { (row : Row) → RowLies row (row_slices row_kinds.old row_values.old)
+        → some (leaves result (row_slices row_kinds.new row_values.new))
+        ≡ leaves_of row_laid (zero_row (length slots.now))
+        (seed_params sheet.now slots.now start (param_count sheet.now) row resources) }
 {
     let count = sizes.param_count;
     let begin = wide(start);
@@ -117,9 +117,9 @@ pub fn param_row(
     row_values: &mut [u64],
 ) -> Outcome
     requires { Measured sheet.now sizes × RowZero slots.now row_kinds.old row_values.old }
-    ensures { some (leaves result (rowSlices row_kinds.new row_values.new))
-        ≡ leavesOf rowLaid (zeroRow (length slots.now))
-        (paramRow sheet.now slots.now (paramStart sheet.now) (unknownRow slots.now) resources) }
+    ensures { some (leaves result (row_slices row_kinds.new row_values.new))
+        ≡ leaves_of row_laid (zero_row (length slots.now))
+        (param_row sheet.now slots.now (param_start sheet.now) (unknown_row slots.now) resources) }
 {
     let ParamStart::At(start) = param_start(sheet, sizes) else {
         return Outcome::Covered { left: resources };

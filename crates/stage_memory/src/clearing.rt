@@ -1,8 +1,8 @@
 // Clearing of what is lent, over its whole length.
 ghost use Rattle.std.specs.Prelude.{◌≡◌};
-ghost use Rattle.model.specs.Call.{zeros, zeroTable};
-ghost use Rattle.model.specs.Promise.{lentTable};
-ghost use Rattle.stage_memory.specs.Stage.{tableIf};
+ghost use Rattle.model.specs.Call.{zeros, zero_table};
+ghost use Rattle.model.specs.Promise.{lent_table};
+ghost use Rattle.stage_memory.specs.Stage.{table_if};
 
 use memory::{clear_u8, clear_u16, clear_u64};
 
@@ -17,7 +17,7 @@ pub fn clear_rows(present: &mut [u8], kinds: &mut [u8], values: &mut [u64])
 
 // An output becomes zero.
 pub fn clear_table(slots: &mut [u16], present: &mut [u8], kinds: &mut [u8], values: &mut [u64])
-    ensures { let t = lentTable slots present kinds values in t.exit ≡ zeroTable t.entry }
+    ensures { let t = lent_table slots present kinds values in t.exit ≡ zero_table t.entry }
 {
     clear_u16(slots);
     clear_rows(present, kinds, values);
@@ -47,7 +47,7 @@ pub fn clear_table_if(
     kinds: &mut [u8],
     values: &mut [u64],
 )
-    ensures { let t = lentTable slots present kinds values in t.exit ≡ tableIf test t.entry }
+    ensures { let t = lent_table slots present kinds values in t.exit ≡ table_if test t.entry }
 {
     if test {
         clear_table(slots, present, kinds, values);

@@ -1,4 +1,6 @@
 // Question 8, and what is cleared of the lent memory, before an analysis and behind it.
+#![tactic(auto)]
+
 mod clearing;
 mod conclusion;
 mod room;

@@ -1,12 +1,12 @@
 // Question 8.
 ghost use Rattle.std.specs.Prelude.{◌≡◌, ◌≤◌};
-ghost use Rattle.model.specs.Call.{workListRoom};
-ghost use Rattle.stage_memory.specs.Room.{roomBy};
+ghost use Rattle.model.specs.Call.{work_list_room};
+ghost use Rattle.stage_memory.specs.Room.{room_by};
 
 // "with s and n above zero, the work list n × (1 + 2 × s)"
 fn work_list_room(n: usize, s: usize, list: usize) -> bool
     requires { (n ≤ 4096) × (s ≤ 65535) }
-    ensures { result ≡ workListRoom n s list }
+    ensures { result ≡ work_list_room n s list }
 {
     if n == 0 {
         return true;
@@ -30,7 +30,7 @@ pub fn room_for(
     list: usize,
 ) -> bool
     requires { (n ≤ 4096) × (s ≤ 65535) }
-    ensures { result ≡ roomBy n s slots present kinds values row_kinds row_values list }
+    ensures { result ≡ room_by n s slots present kinds values row_kinds row_values list }
 {
     if slots < s {
         return false;

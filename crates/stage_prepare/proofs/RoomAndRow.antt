@@ -10,37 +10,37 @@ use native.Mathlib.Omega.{arith}
 use lib.ListN.{length, replicate, take, drop}
 use lib.Seq.{length-take-le}
 use borrow.Author.Tests.{leb-true}
-use Rattle.model.specs.Tables.{RowLies, RowSlices, rowSlices}
-use Rattle.model.specs.Sheet.{codeCount}
+use Rattle.model.specs.Tables.{RowLies, RowSlices, row_slices}
+use Rattle.model.specs.Sheet.{code_count}
 use Rattle.model.specs.Fact.{unknown, kind, value, Row}
-use Rattle.model.specs.Analyses.{unknownRow}
-use Rattle.model.specs.Call.{workListRoom, zeros}
+use Rattle.model.specs.Analyses.{unknown_row}
+use Rattle.model.specs.Call.{work_list_room, zeros}
 use Rattle.model.specs.Lookup.{ascends}
 use Rattle.model.specs.declared.VerifierResources.{VerifierResources}
 use Rattle.model.specs.declared.AnalysisKind.{AnalysisKind}
 use Rattle.model.proofs.Tests.{both}
-use Rattle.budget.specs.Outcome.{refusedBy, Leaves, leaves, leavesOf}
+use Rattle.budget.specs.Outcome.{refused_by, Leaves, leaves, leaves_of}
 use Rattle.budget.specs.declared.Outcome.{Outcome}
 use Rattle.budget.specs.declared.Outcome.TheVariants.{Covered, NoRoom}
-use Rattle.budget.proofs.Outcomes.{Left, covered, stopped, left_by, covered-leaves, stopped-leaves}
+use Rattle.budget.proofs.Outcomes.{Left, covered, stopped, left_by, covered_leaves, stopped_leaves}
 use Rattle.sheet.specs.Measured.{Accepted, Measured}
 use Rattle.sheet.specs.declared.Sizes.{Sizes}
 use Rattle.sheet.proofs.AcceptedSheet.{measured}
-use Rattle.stage_memory.specs.Room.{roomBy}
-use Rattle.stage_entry.specs.First.{RowZero, rowLaid, zeroRow}
-use Rattle.stage_entry.proofs.RowsMade.{lies-of}
-use Rattle.stage_prepare.specs.Begin.{entering, enterIf, enough, rowFilled, clearedRow}
+use Rattle.stage_memory.specs.Room.{room_by}
+use Rattle.stage_entry.specs.First.{RowZero, row_laid, zero_row}
+use Rattle.stage_entry.proofs.RowsMade.{lies_of}
+use Rattle.stage_prepare.specs.Begin.{entering, enter_if, enough, row_filled, cleared_row}
 use Rattle.stage_prepare.specs.declared.Room.{Room}
-use Rattle.stage_prepare.proofs.StageParts.{enters-at-once}
-use Rattle.stage_prepare.proofs.ZeroFronts.{take-zero, front-cleared, front-filled, part_length, zero-filled}
+use Rattle.stage_prepare.proofs.StageParts.{enters_at_once}
+use Rattle.stage_prepare.proofs.ZeroFronts.{take_zero, front_cleared, front_filled, part_length, zero_filled}
 
 -- ---- question 8, as inequalities
 
-module _ (n s slots present kinds values rowKinds rowValues list : ℕ) (e : roomBy n s slots present kinds values rowKinds rowValues list ≡ true) where
+module _ (n s slots present kinds values row_kinds row_values list : ℕ) (e : room_by n s slots present kinds values row_kinds row_values list ≡ true) where
   -- each of the seven tests
-  pub room-parts : (s ≤ slots) × (s ≤ rowKinds) × (s ≤ rowValues) × (n ≤ present) × (n * s ≤ kinds) × (n * s ≤ values) × (workListRoom n s list ≡ true)
-  unfolding roomBy
-  room-parts =
+  pub room_parts : (s ≤ slots) × (s ≤ row_kinds) × (s ≤ row_values) × (n ≤ present) × (n * s ≤ kinds) × (n * s ≤ values) × (work_list_room n s list ≡ true)
+  unfolding room_by
+  room_parts =
       let seven = both _ _ e in
       let six = both _ _ seven.0 in
       let five = both _ _ six.0 in
@@ -48,8 +48,8 @@ module _ (n s slots present kinds values rowKinds rowValues list : ℕ) (e : roo
       let three = both _ _ four.0 in
       let two = both _ _ three.0 in (
         leb-true s slots two.0,
-        leb-true s rowKinds two.1,
-        leb-true s rowValues three.1,
+        leb-true s row_kinds two.1,
+        leb-true s row_values three.1,
         leb-true n present four.1,
         leb-true (n * s) kinds five.1,
         leb-true (n * s) values six.1,
@@ -59,63 +59,63 @@ module _ (n s slots present kinds values rowKinds rowValues list : ℕ) (e : roo
 -- ---- the entry row
 
 -- Unknown is zero
-pub unknown-cells : (k : ℕ) → (map kind (replicate k unknown) ≡ replicate k 0) × (map value (replicate k unknown) ≡ replicate k 0)
+pub unknown_cells : (k : ℕ) → (map kind (replicate k unknown) ≡ replicate k 0) × (map value (replicate k unknown) ≡ replicate k 0)
 unfolding kind value
-unknown-cells zero = (refl, refl)
-unknown-cells (suc k) = (ap (λ (xs : List ℕ). 0 ∷ xs) (unknown-cells k).0, ap (λ (xs : List ℕ). 0 ∷ xs) (unknown-cells k).1)
+unknown_cells zero = (refl, refl)
+unknown_cells (suc k) = (ap (λ (xs : List ℕ). 0 ∷ xs) (unknown_cells k).0, ap (λ (xs : List ℕ). 0 ∷ xs) (unknown_cells k).1)
 
-module _ (which : AnalysisKind) (sheet : List ℕ) (n s : ℕ) (all : n ≡ codeCount sheet) (slots rowKinds rowValues : List ℕ) (room : Room) (left : VerifierResources)
-    (zk : rowKinds ≡ zeros rowKinds) (zv : rowValues ≡ zeros rowValues) where
+module _ (which : AnalysisKind) (sheet : List ℕ) (n s : ℕ) (all : n ≡ code_count sheet) (slots row_kinds row_values : List ℕ) (room : Room) (left : VerifierResources)
+    (zk : row_kinds ≡ zeros row_kinds) (zv : row_values ≡ zeros row_values) where
   -- question 8, as the code asks it
   abbrev asked : Bool
-  asked = roomBy n s (length slots) room.present room.kinds room.values (length rowKinds) (length rowValues) room.work_list
+  asked = room_by n s (length slots) room.present room.kinds room.values (length row_kinds) (length row_values) room.work_list
 
-  same : asked ≡ enough room sheet slots rowKinds rowValues s
-  same = ap (λ (m : ℕ). roomBy m s (length slots) room.present room.kinds room.values (length rowKinds) (length rowValues) room.work_list) all
+  same : asked ≡ enough room sheet slots row_kinds row_values s
+  same = ap (λ (m : ℕ). room_by m s (length slots) room.present room.kinds room.values (length row_kinds) (length row_values) room.work_list) all
 
   abbrev goal : Option (Leaves RowSlices)
-  goal = leavesOf (rowFilled rowKinds rowValues) (clearedRow rowKinds rowValues) (enterIf (enough room sheet slots rowKinds rowValues s) which sheet (take s slots) left)
+  goal = leaves_of (row_filled row_kinds row_values) (cleared_row row_kinds row_values) (enter_if (enough room sheet slots row_kinds row_values s) which sheet (take s slots) left)
 
-  pub refused-room : asked ≡ false → some (leaves (NoRoom left) (rowSlices rowKinds rowValues)) ≡ goal
-  unfolding enterIf leavesOf refusedBy
-  refused-room e = rw (sym same ∙ e) (cc)
+  pub refused_room : asked ≡ false → some (leaves (NoRoom left) (row_slices row_kinds row_values)) ≡ goal
+  unfolding enter_if leaves_of refused_by
+  refused_room e = rw (sym same ∙ e) (cc)
 
   module _ (e : asked ≡ true) where
-    slots-fit : s ≤ length slots
-    slots-fit = (room-parts n s _ _ _ _ _ _ _ e).0
+    slots_fit : s ≤ length slots
+    slots_fit = (room_parts n s _ _ _ _ _ _ _ e).0
 
-    with-room : leavesOf (rowFilled rowKinds rowValues) (clearedRow rowKinds rowValues) (entering which sheet (take s slots) left) ≡ goal
-    unfolding enterIf
-    with-room = rw (sym same ∙ e)
+    with_room : leaves_of (row_filled row_kinds row_values) (cleared_row row_kinds row_values) (entering which sheet (take s slots) left) ≡ goal
+    unfolding enter_if
+    with_room = rw (sym same ∙ e)
 
-    pub ended-at-once : (n ≡ 0) ⊎ (s ≡ 0) → some (leaves (Covered left) (rowSlices rowKinds rowValues)) ≡ goal
-    ended-at-once none_here = covered-leaves _ _ (enters-at-once which sheet (take s slots) left (here none_here)) refl unknown-is ∙ with-room
+    pub ended_at_once : (n ≡ 0) ⊎ (s ≡ 0) → some (leaves (Covered left) (row_slices row_kinds row_values)) ≡ goal
+    ended_at_once none_here = covered_leaves _ _ (enters_at_once which sheet (take s slots) left (here none_here)) refl unknown_is ∙ with_room
       where
-        here : (n ≡ 0) ⊎ (s ≡ 0) → (codeCount sheet ≡ 0) ⊎ (length (take s slots) ≡ 0)
+        here : (n ≡ 0) ⊎ (s ≡ 0) → (code_count sheet ≡ 0) ⊎ (length (take s slots) ≡ 0)
         here (inl h) = inl (sym all ∙ h)
-        here (inr h) = inr (length-take-le s slots slots-fit ∙ h)
+        here (inr h) = inr (length-take-le s slots slots_fit ∙ h)
 
-        unknown-is : rowSlices rowKinds rowValues ≡ rowFilled rowKinds rowValues (unknownRow (take s slots))
-        unknown-is = unfold unknownRow in (
-            let fit = room-parts n s _ _ _ _ _ _ _ e in
-            rw (length-take-le s slots slots-fit) (
-            let k = zero-filled s rowKinds fit.1 zk (unknown-cells s).0 in
-            let v = zero-filled s rowValues fit.2 zv (unknown-cells s).1 in cc))
+        unknown_is : row_slices row_kinds row_values ≡ row_filled row_kinds row_values (unknown_row (take s slots))
+        unknown_is = unfold unknown_row in (
+            let fit = room_parts n s _ _ _ _ _ _ _ e in
+            rw (length-take-le s slots slots_fit) (
+            let k = zero_filled s row_kinds fit.1 zk (unknown_cells s).0 in
+            let v = zero_filled s row_values fit.2 zv (unknown_cells s).1 in cc))
 
     -- what the entry row asks
-    pub entry-asks : {sizes : Sizes} → n ≡ sizes.code_count → Accepted sheet sizes → s ≤ 65535 → (s ≤ length slots → ascends (take s slots) ≡ true) → (n ≡ 0 → ⊥) → (s ≡ 0 → ⊥)
-        → Measured sheet sizes × RowZero (take s slots) (take s rowKinds) (take s rowValues) × (0 < sizes.code_count) × (0 < length (take s slots)) × (length (take s slots) ≤ 65535)
-    entry-asks is accepted few up some-n some-s =
-        let long : length (take s slots) ≡ s = length-take-le s slots slots-fit in
-        let fit = room-parts n s _ _ _ _ _ _ _ e in (
+    pub entry_asks : {sizes : Sizes} → n ≡ sizes.code_count → Accepted sheet sizes → s ≤ 65535 → (s ≤ length slots → ascends (take s slots) ≡ true) → (n ≡ 0 → ⊥) → (s ≡ 0 → ⊥)
+        → Measured sheet sizes × RowZero (take s slots) (take s row_kinds) (take s row_values) × (0 < sizes.code_count) × (0 < length (take s slots)) × (length (take s slots) ≤ 65535)
+    entry_asks is accepted few up some_n some_s =
+        let long : length (take s slots) ≡ s = length-take-le s slots slots_fit in
+        let fit = room_parts n s _ _ _ _ _ _ _ e in (
           measured accepted,
           record {
-            ascending = up slots-fit;
-            kinds-zero = rw long (take-zero s rowKinds fit.1 zk);
-            values-zero = rw long (take-zero s rowValues fit.2 zv);
+            ascending = up slots_fit;
+            kinds_zero = rw long (take_zero s row_kinds fit.1 zk);
+            values_zero = rw long (take_zero s row_values fit.2 zv);
           },
-          rw (← is) (above n some-n),
-          rw long (above s some-s),
+          rw (← is) (above n some_n),
+          rw long (above s some_s),
           rw long few,
         )
       where
@@ -124,29 +124,29 @@ module _ (which : AnalysisKind) (sheet : List ℕ) (n s : ℕ) (all : n ≡ code
         above (suc m) h = omega arith
 
     -- what the charges and the entry row leave in the first places is what they leave in the whole
-    pub entered-row : {entered : Outcome} (rk rv : List ℕ)
-        → some (leaves entered (rowSlices rk rv)) ≡ leavesOf rowLaid (zeroRow (length (take s slots))) (entering which sheet (take s slots) left)
-        → length (rk ++ drop s rowKinds) ≡ length rowKinds → length (rv ++ drop s rowValues) ≡ length rowValues
-        → some (leaves entered (rowSlices (rk ++ drop s rowKinds) (rv ++ drop s rowValues))) ≡ goal
-    entered-row {entered} rk rv h lk lv = go (left_by _ _ _ h) ∙ with-room
+    pub entered_row : {entered : Outcome} (rk rv : List ℕ)
+        → some (leaves entered (row_slices rk rv)) ≡ leaves_of row_laid (zero_row (length (take s slots))) (entering which sheet (take s slots) left)
+        → length (rk ++ drop s row_kinds) ≡ length row_kinds → length (rv ++ drop s row_values) ≡ length row_values
+        → some (leaves entered (row_slices (rk ++ drop s row_kinds) (rv ++ drop s row_values))) ≡ goal
+    entered_row {entered} rk rv h lk lv = go (left_by _ _ _ h) ∙ with_room
       where
-        fit : (s ≤ length rowKinds) × (s ≤ length rowValues)
-        fit = let f = room-parts n s _ _ _ _ _ _ _ e in (f.1, f.2)
+        fit : (s ≤ length row_kinds) × (s ≤ length row_values)
+        fit = let f = room_parts n s _ _ _ _ _ _ _ e in (f.1, f.2)
 
         long : length (take s slots) ≡ s
-        long = length-take-le s slots slots-fit
+        long = length-take-le s slots slots_fit
 
-        filled_is : (row : Row) → RowLies row (rowSlices rk rv) → rowSlices (rk ++ drop s rowKinds) (rv ++ drop s rowValues) ≡ rowFilled rowKinds rowValues row
-        filled_is row l = rw (front-filled s rowKinds fit.0 zk l.kinds-are (part_length s rowKinds fit.0 rk lk), front-filled s rowValues fit.1 zv l.values-are (part_length s rowValues fit.1 rv lv))
+        filled_is : (row : Row) → RowLies row (row_slices rk rv) → row_slices (rk ++ drop s row_kinds) (rv ++ drop s row_values) ≡ row_filled row_kinds row_values row
+        filled_is row l = rw (front_filled s row_kinds fit.0 zk l.kinds_are (part_length s row_kinds fit.0 rk lk), front_filled s row_values fit.1 zv l.values_are (part_length s row_values fit.1 rv lv))
 
-        zero_is : rowSlices rk rv ≡ zeroRow (length (take s slots)) → rowSlices (rk ++ drop s rowKinds) (rv ++ drop s rowValues) ≡ clearedRow rowKinds rowValues
+        zero_is : row_slices rk rv ≡ zero_row (length (take s slots)) → row_slices (rk ++ drop s row_kinds) (rv ++ drop s row_values) ≡ cleared_row row_kinds row_values
         zero_is m =
             let k = ap (λ (x : RowSlices). x.kinds) m ∙ ap (λ (j : ℕ). replicate j 0) long in
             let v = ap (λ (x : RowSlices). x.values) m ∙ ap (λ (j : ℕ). replicate j 0) long in
-            rw (front-cleared s rowKinds fit.0 zk k, front-cleared s rowValues fit.1 zv v)
+            rw (front_cleared s row_kinds fit.0 zk k, front_cleared s row_values fit.1 zv v)
 
-        go : Left rowLaid (zeroRow (length (take s slots))) (entering which sheet (take s slots) left) entered (rowSlices rk rv)
-            → some (leaves entered (rowSlices (rk ++ drop s rowKinds) (rv ++ drop s rowValues)))
-            ≡ leavesOf (rowFilled rowKinds rowValues) (clearedRow rowKinds rowValues) (entering which sheet (take s slots) left)
-        go (covered row rest c o m) = covered-leaves _ _ c o (filled_is row (lies-of m))
-        go (stopped refusal rest c o m) = stopped-leaves (record { refusal = refusal; left = rest; came = c; is = o }) _ (zero_is m)
+        go : Left row_laid (zero_row (length (take s slots))) (entering which sheet (take s slots) left) entered (row_slices rk rv)
+            → some (leaves entered (row_slices (rk ++ drop s row_kinds) (rv ++ drop s row_values)))
+            ≡ leaves_of (row_filled row_kinds row_values) (cleared_row row_kinds row_values) (entering which sheet (take s slots) left)
+        go (covered row rest c o m) = covered_leaves _ _ c o (filled_is row (lies_of m))
+        go (stopped refusal rest c o m) = stopped_leaves (record { refusal = refusal; left = rest; came = c; is = o }) _ (zero_is m)

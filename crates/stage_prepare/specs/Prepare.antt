@@ -14,17 +14,17 @@ pub record PrepareEnd : Type 0 where
   pub runs : Bool
   pub s : ℕ
   pub slots : List ℕ
-  pub rowKinds : List ℕ
-  pub rowValues : List ℕ
+  pub row_kinds : List ℕ
+  pub row_values : List ℕ
 
 abbrev pub prepared : Bool → ℕ → List ℕ → List ℕ → List ℕ → PrepareEnd
-prepared runs s slots rowKinds rowValues = record { runs = runs; s = s; slots = slots; rowKinds = rowKinds; rowValues = rowValues }
+prepared runs s slots row_kinds row_values = record { runs = runs; s = s; slots = slots; row_kinds = row_kinds; row_values = row_values }
 
 -- the tracked slots and the first row in the first places of what is lent, for n instructions
-abbrev pub preparedBy : ℕ → List ℕ → List ℕ → List ℕ → Begun → PrepareEnd
-preparedBy n slots rowKinds rowValues b =
-    prepared (something n (length b.slots)) (length b.slots) (filled b.slots slots) (filled (map kind b.entry) rowKinds) (filled (map value b.entry) rowValues)
+abbrev pub prepared_by : ℕ → List ℕ → List ℕ → List ℕ → Begun → PrepareEnd
+prepared_by n slots row_kinds row_values b =
+    prepared (something n (length b.slots)) (length b.slots) (filled b.slots slots) (filled (map kind b.entry) row_kinds) (filled (map value b.entry) row_values)
 
 -- nothing to run, and zeros: after 7 and 8
 abbrev pub unprepared : List ℕ → List ℕ → List ℕ → PrepareEnd
-unprepared slots rowKinds rowValues = prepared false 0 (zeros slots) (zeros rowKinds) (zeros rowValues)
+unprepared slots row_kinds row_values = prepared false 0 (zeros slots) (zeros row_kinds) (zeros row_values)

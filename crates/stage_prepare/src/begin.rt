@@ -1,14 +1,14 @@
 // What a stage does before its run: closure, question 8, the matrix charge and the entry row.
 ghost use Rattle.std.specs.Prelude.{◌≡◌, true, ◌≤◌, length, take};
 ghost use Rattle.std.proofs.Math.Option.{some};
-ghost use Rattle.model.specs.Tables.{rowSlices};
-ghost use Rattle.model.specs.Sheet.{codeCount};
+ghost use Rattle.model.specs.Tables.{row_slices};
+ghost use Rattle.model.specs.Sheet.{code_count};
 ghost use Rattle.model.specs.Lookup.{ascends};
 ghost use Rattle.model.specs.Call.{zeros};
-ghost use Rattle.budget.specs.Outcome.{leaves, leavesOf};
+ghost use Rattle.budget.specs.Outcome.{leaves, leaves_of};
 ghost use Rattle.sheet.specs.Measured.{Accepted};
-ghost use Rattle.stage_prepare.specs.Begin.{begin, enterIf, enough, MarksAndRowZero, rowFilled, clearedRow};
-ghost use Rattle.stage_prepare.specs.Prepare.{something, prepared, preparedBy, unprepared};
+ghost use Rattle.stage_prepare.specs.Begin.{begin, enter_if, enough, MarksAndRowZero, row_filled, cleared_row};
+ghost use Rattle.stage_prepare.specs.Prepare.{something, prepared, prepared_by, unprepared};
 
 use crate::entry::entry_row;
 use crate::{Prepared, Room};
@@ -44,9 +44,9 @@ fn enter_tracked(
     requires { Accepted sheet.now sizes × (s ≤ 65535) × (s ≤ length slots.now → ascends (take s slots.now) ≡ true)
         × (row_kinds.old ≡ zeros row_kinds.old) × (row_values.old ≡ zeros row_values.old) }
     ensures { let rk = row_kinds.old in let rv = row_values.old in
-        some (leaves result (rowSlices row_kinds.new row_values.new))
-        ≡ leavesOf (rowFilled rk rv) (clearedRow rk rv)
-        (enterIf (enough room sheet.now slots.now rk rv s) which sheet.now (take s slots.now) resources) }
+        some (leaves result (row_slices row_kinds.new row_values.new))
+        ≡ leaves_of (row_filled rk rv) (cleared_row rk rv)
+        (enter_if (enough room sheet.now slots.now rk rv s) which sheet.now (take s slots.now) resources) }
 {
     let n = sizes.code_count;
     if !room_for(
@@ -94,10 +94,10 @@ pub fn begin_stage(
     row_values: &mut [u64],
 ) -> Prepared
     requires { Accepted sheet.now sizes × (slots.old ≡ zeros slots.old) × MarksAndRowZero sheet.now marks.old stack.old row_kinds.old row_values.old }
-    ensures { let n = codeCount sheet.now in
+    ensures { let n = code_count sheet.now in
         let ss = slots.old in let rk = row_kinds.old in let rv = row_values.old in
         (some (leaves result.outcome (prepared result.runs result.s slots.new row_kinds.new row_values.new))
-        ≡ leavesOf (preparedBy n ss rk rv) (unprepared ss rk rv)
+        ≡ leaves_of (prepared_by n ss rk rv) (unprepared ss rk rv)
         (begin which sheet.now (enough room sheet.now ss rk rv) resources))
         × (marks.new ≡ zeros marks.old) × (stack.new ≡ zeros stack.old) }
 {

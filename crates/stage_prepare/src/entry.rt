@@ -1,10 +1,10 @@
 // The matrix charge and the entry row.
 ghost use Rattle.std.specs.Prelude.{◌≡◌, ◌≤◌, ◌<◌, length};
 ghost use Rattle.std.proofs.Math.Option.{some};
-ghost use Rattle.model.specs.Tables.{rowSlices};
-ghost use Rattle.budget.specs.Outcome.{leaves, leavesOf};
+ghost use Rattle.model.specs.Tables.{row_slices};
+ghost use Rattle.budget.specs.Outcome.{leaves, leaves_of};
 ghost use Rattle.sheet.specs.Measured.{Measured};
-ghost use Rattle.stage_entry.specs.First.{RowZero, rowLaid, zeroRow};
+ghost use Rattle.stage_entry.specs.First.{RowZero, row_laid, zero_row};
 ghost use Rattle.stage_prepare.specs.Begin.{entering};
 
 use budget::Outcome;
@@ -24,8 +24,8 @@ pub fn entry_row(
 ) -> Outcome
     requires { Measured sheet.now sizes × RowZero slots.now row_kinds.old row_values.old
         × (0 < sizes.code_count) × (0 < length slots.now) × (length slots.now ≤ 65535) }
-    ensures { some (leaves result (rowSlices row_kinds.new row_values.new))
-        ≡ leavesOf rowLaid (zeroRow (length slots.now)) (entering which sheet.now slots.now resources) }
+    ensures { some (leaves result (row_slices row_kinds.new row_values.new))
+        ≡ leaves_of row_laid (zero_row (length slots.now)) (entering which sheet.now slots.now resources) }
 {
     let charged = charge_matrix(which, sizes.code_count, slots.len(), resources);
     let Outcome::Covered { left } = charged else {

@@ -1,4 +1,6 @@
 // A stage up to its run: closure, question 8, matrix charge and entry row. It sees neither tables nor work list.
+#![tactic(auto)]
+
 mod begin;
 mod entry;
 mod preparation;
@@ -7,7 +9,7 @@ use budget::Outcome;
 pub use preparation::prepare;
 
 // How long the tables and the work list are, of which question 8 asks.
-#[derive(Drop)]
+#[derive(Clone, Copy)]
 pub struct Room {
     pub present: usize,
     pub kinds: usize,
@@ -16,7 +18,7 @@ pub struct Room {
 }
 
 // What is to run: whether anything is, and how many slots are tracked; and the outcome so far.
-#[derive(Drop)]
+#[derive(Clone, Copy)]
 pub struct Prepared {
     pub runs: bool,
     pub s: usize,

@@ -1,13 +1,13 @@
 // What a stage is to run, after an outcome; nothing where that is a refusal.
 ghost use Rattle.std.specs.Prelude.{◌≡◌};
 ghost use Rattle.std.proofs.Math.Option.{some};
-ghost use Rattle.model.specs.Sheet.{codeCount};
+ghost use Rattle.model.specs.Sheet.{code_count};
 ghost use Rattle.model.specs.Charges.{continue};
 ghost use Rattle.model.specs.Call.{zeros};
-ghost use Rattle.budget.specs.Outcome.{asSpent, leaves, leavesOf};
+ghost use Rattle.budget.specs.Outcome.{as_spent, leaves, leaves_of};
 ghost use Rattle.sheet.specs.Measured.{Accepted};
 ghost use Rattle.stage_prepare.specs.Begin.{begin, enough, MarksAndRowZero};
-ghost use Rattle.stage_prepare.specs.Prepare.{prepared, preparedBy, unprepared};
+ghost use Rattle.stage_prepare.specs.Prepare.{prepared, prepared_by, unprepared};
 
 use crate::begin::begin_stage;
 use crate::{Prepared, Room};
@@ -30,11 +30,11 @@ pub fn prepare(
     row_values: &mut [u64],
 ) -> Prepared
     requires { Accepted sheet.now sizes × MarksAndRowZero sheet.now marks.old stack.old row_kinds.old row_values.old }
-    ensures { let n = codeCount sheet.now in
+    ensures { let n = code_count sheet.now in
         let ss = slots.old in let rk = row_kinds.old in let rv = row_values.old in
         (some (leaves result.outcome (prepared result.runs result.s slots.new row_kinds.new row_values.new))
-        ≡ leavesOf (preparedBy n ss rk rv) (unprepared ss rk rv)
-        (continue (λ _. begin which sheet.now (enough room sheet.now ss rk rv)) (asSpent before)))
+        ≡ leaves_of (prepared_by n ss rk rv) (unprepared ss rk rv)
+        (continue (λ _. begin which sheet.now (enough room sheet.now ss rk rv)) (as_spent before)))
         × (marks.new ≡ zeros marks.old) × (stack.new ≡ zeros stack.old) }
 {
     clear_u16(slots);

@@ -1,9 +1,11 @@
 // The text of a fact, by its kind and value.
+#![tactic(auto)]
+
 ghost use Rattle.std.specs.Prelude.{List, ◌++◌, ℕ, ◌+◌, ◌≤◌, length};
-ghost use Rattle.model.specs.Listing.{ascii, decimal, constantText};
+ghost use Rattle.model.specs.Listing.{ascii, decimal, constant_text};
 ghost use Rattle.model.specs.Tables.{fact_of};
 ghost use Rattle.text_lines.specs.Text.{Added};
-ghost use Rattle.text_facts.specs.Text.{containerTextBy, factTextBy};
+ghost use Rattle.text_facts.specs.Text.{container_text_by, fact_text_by};
 
 use model::AnalysisKind;
 use sheet_layouts::class_of;
@@ -12,7 +14,7 @@ use text_lines::{put, put_decimal, put_spaced};
 // "A known constant prints in signed decimal.": kind 3 is value − 2^64
 fn put_constant(kind: u8, value: u64, at: usize, out: &mut [u8]) -> usize
     requires { (2 ≤ kind) × (at + 21 ≤ length out.old) }
-    ensures { (sheet : List ℕ) → Added 21 (constantText sheet (fact_of kind value)) at out.old result out.new }
+    ensures { (sheet : List ℕ) → Added 21 (constant_text sheet (fact_of kind value)) at out.old result out.new }
 {
     if kind < 3 {
         return put_decimal(value, at, out);
@@ -36,7 +38,7 @@ fn put_checked(value: u64, at: usize, out: &mut [u8]) -> usize
 // "`map 0 1`, `iter 0 1`, `queue 2`, with the lowest layout number of equal content": its class
 fn put_container(classes: &[u16], kind: u8, value: u64, at: usize, out: &mut [u8]) -> usize
     requires { (2 ≤ kind) × (at + 46 ≤ length out.old) }
-    ensures { Added 46 (containerTextBy classes.now (fact_of kind value)) at out.old result out.new }
+    ensures { Added 46 (container_text_by classes.now (fact_of kind value)) at out.old result out.new }
 {
     let first = class_of(classes, (value / 65536) as usize) as u64;
     if 3 < kind {
@@ -64,7 +66,7 @@ pub fn put_fact(
     out: &mut [u8],
 ) -> usize
     requires { at + 46 ≤ length out.old }
-    ensures { Added 46 (factTextBy which classes.now (fact_of kind value)) at out.old result out.new }
+    ensures { Added 46 (fact_text_by which classes.now (fact_of kind value)) at out.old result out.new }
 {
     if kind == 0 {
         return put(b"unknown", at, out);

@@ -16,8 +16,8 @@ pub record DigitsFound (x : ℕ) (buffer : List ℕ) (i left : ℕ) : Type 0 whe
   pub small : left < 10 ^ i
   pub same : digits 20 x [] ≡ digits i left (drop i buffer)
 
-pub found-start : (x : ℕ) (buffer : List ℕ) → x < 2 ^ 64 → length buffer ≡ 20 → DigitsFound x buffer 20 x
-found-start x buffer h e = record {
+pub found_start : (x : ℕ) (buffer : List ℕ) → x < 2 ^ 64 → length buffer ≡ 20 → DigitsFound x buffer 20 x
+found_start x buffer h e = record {
   within = omega arith;
   long = e;
   small = omega arith;
@@ -25,19 +25,19 @@ found-start x buffer h e = record {
 }
 
 -- while something is left there is a place for it
-pub found-above : (x : ℕ) (buffer : List ℕ) (i left : ℕ) → DigitsFound x buffer i left → 0 < left → 1 ≤ i
-found-above x buffer zero left f h = omega (arith, f.small)
-found-above x buffer (suc i) left f h = omega arith
+pub found_above : (x : ℕ) (buffer : List ℕ) (i left : ℕ) → DigitsFound x buffer i left → 0 < left → 1 ≤ i
+found_above x buffer zero left f h = omega (arith, f.small)
+found_above x buffer (suc i) left f h = omega arith
 
 -- the digit's byte in front of the others
 put_front : (buffer : List ℕ) (i v : ℕ) → i < length buffer → drop i (set buffer i v) ≡ v ∷ drop (suc i) buffer
 put_front buffer i v h =
     ap (drop i) (set_split buffer i v h) ∙ drop_at (take i buffer) (v ∷ drop (suc i) buffer) i (length-take-le i buffer (omega arith))
 
-one-digit : (i left : ℕ) (rest : List ℕ) → 0 < left → digits (suc i) left rest ≡ digits i (left / 10) ((48 + left % 10) ∷ rest)
+one_digit : (i left : ℕ) (rest : List ℕ) → 0 < left → digits (suc i) left rest ≡ digits i (left / 10) ((48 + left % 10) ∷ rest)
 unfolding digits
-one-digit i zero rest h = absurd (not-suc-le-zero h)
-one-digit i (suc left) rest h = refl
+one_digit i zero rest h = absurd (not-suc-le-zero h)
+one_digit i (suc left) rest h = refl
 
 less : (i left : ℕ) → left < 10 ^ suc i → left / 10 < 10 ^ i
 less i left h = (div-lt_iff_lt-mul {k = 10} {x = left} {y = 10 ^ i} (omega arith)).1 (rw pow-suc at h)
@@ -50,7 +50,7 @@ found_turn x buffer (suc i) left f h =
       within = omega (arith, f.within);
       long = length-set buffer i (48 + left % 10) ∙ f.long;
       small = less i left f.small;
-      same = f.same ∙ one-digit i left (drop (suc i) buffer) h ∙ ap (digits i (left / 10)) (sym (put_front buffer i (48 + left % 10) (omega (arith, f.within, f.long))));
+      same = f.same ∙ one_digit i left (drop (suc i) buffer) h ∙ ap (digits i (left / 10)) (sym (put_front buffer i (48 + left % 10) (omega (arith, f.within, f.long))));
     })
 
 no_digit : (i : ℕ) (rest : List ℕ) → digits i 0 rest ≡ rest
@@ -68,6 +68,6 @@ found_all x buffer i left f h k =
     let z : left ≡ 0 = omega arith in
     sym (above_zero x k ∙ f.same ∙ ap (λ (n : ℕ). digits i n (drop i buffer)) z ∙ no_digit i (drop i buffer))
 
-pub zero-digit : (x : ℕ) → x ≡ 0 → ascii "0" ≡ decimal x
+pub zero_digit : (x : ℕ) → x ≡ 0 → ascii "0" ≡ decimal x
 unfolding decimal
-zero-digit x e = rw e
+zero_digit x e = rw e

@@ -8,28 +8,28 @@ use native.Mathlib.Omega.{arith}
 use lib.ListN.{length, get_or, take}
 use lib.Seq.{take-suc, take_all}
 use Rattle.model.specs.Listing.{decimal, space}
-use Rattle.text_lines.specs.Text.{Added, spacedAll}
+use Rattle.text_lines.specs.Text.{Added, spaced_all}
 use Rattle.text_lines.proofs.TextWritten.{then, reword, no_text}
 
-spaced-last : (xs : List ℕ) (x : ℕ) → spacedAll (xs ++ (x ∷ [])) ≡ spacedAll xs ++ (space ++ decimal x)
-unfolding spacedAll
-spaced-last [] x = append-nil (space ++ decimal x)
-spaced-last (y ∷ ys) x =
-    ap (λ (t : List ℕ). (space ++ decimal y) ++ t) (spaced-last ys x) ∙ sym (append_assoc (space ++ decimal y) (spacedAll ys) (space ++ decimal x))
+spaced_last : (xs : List ℕ) (x : ℕ) → spaced_all (xs ++ (x ∷ [])) ≡ spaced_all xs ++ (space ++ decimal x)
+unfolding spaced_all
+spaced_last [] x = append-nil (space ++ decimal x)
+spaced_last (y ∷ ys) x =
+    ap (λ (t : List ℕ). (space ++ decimal y) ++ t) (spaced_last ys x) ∙ sym (append_assoc (space ++ decimal y) (spaced_all ys) (space ++ decimal x))
 
 module _ (xs : List ℕ) where
-  pub none : (old : List ℕ) (at : ℕ) → at ≤ length old → Added (21 * 0) (spacedAll (take 0 xs)) at old at old
-  unfolding spacedAll
+  pub none : (old : List ℕ) (at : ℕ) → at ≤ length old → Added (21 * 0) (spaced_all (take 0 xs)) at old at old
+  unfolding spaced_all
   none old at h = no_text old at h
 
   -- one more
-  pub more : {old mid new : List ℕ} {at a next i : ℕ} → i < length xs → Added (21 * i) (spacedAll (take i xs)) at old a mid
-      → Added 21 (space ++ decimal (get_or xs i 0)) a mid next new → Added (21 * (i + 1)) (spacedAll (take (i + 1) xs)) at old next new
+  pub more : {old mid new : List ℕ} {at a next i : ℕ} → i < length xs → Added (21 * i) (spaced_all (take i xs)) at old a mid
+      → Added 21 (space ++ decimal (get_or xs i 0)) a mid next new → Added (21 * (i + 1)) (spaced_all (take (i + 1) xs)) at old next new
   more {i} h w v =
-      let e : spacedAll (take i xs) ++ (space ++ decimal (get_or xs i 0)) ≡ spacedAll (take (i + 1) xs) = rw (add-one, take-suc xs i 0 h) (sym (spaced-last (take i xs) (get_or xs i 0))) in
+      let e : spaced_all (take i xs) ++ (space ++ decimal (get_or xs i 0)) ≡ spaced_all (take (i + 1) xs) = rw (add-one, take-suc xs i 0 h) (sym (spaced_last (take i xs) (get_or xs i 0))) in
       reword (omega arith) e (then w v)
 
   -- all of them
-  pub all : {old new : List ℕ} {at next i : ℕ} → i ≤ length xs → length xs ≤ i → Added (21 * i) (spacedAll (take i xs)) at old next new
-      → Added (21 * length xs) (spacedAll xs) at old next new
-  all {i} h k w = reword (omega arith) (ap spacedAll (take_all i xs k)) w
+  pub all : {old new : List ℕ} {at next i : ℕ} → i ≤ length xs → length xs ≤ i → Added (21 * i) (spaced_all (take i xs)) at old next new
+      → Added (21 * length xs) (spaced_all xs) at old next new
+  all {i} h k w = reword (omega arith) (ap spaced_all (take_all i xs k)) w

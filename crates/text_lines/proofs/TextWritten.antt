@@ -18,9 +18,9 @@ pub byte_more : (text old new : List ℕ) (at i v : ℕ) → at + i < length old
 byte_more text old new at i v h k e w = rw (w, e, add-one i) (paste-suc old at text i 0 h k)
 
 -- all of it is written
-pub text-written : (most : ℕ) (text old new : List ℕ) (at i : ℕ) → at + length text ≤ length old → i ≡ length text → i ≤ most → new ≡ paste old at text i
+pub text_written : (most : ℕ) (text old new : List ℕ) (at i : ℕ) → at + length text ≤ length old → i ≡ length text → i ≤ most → new ≡ paste old at text i
     → Added most text at old (at + i) new
-text-written most text old new at i h e k w = record {
+text_written most text old new at i h e k w = record {
   counts = omega arith;
   short = omega arith;
   within = omega arith;
@@ -50,23 +50,23 @@ then {m} {k} {first} {second} {old} {mid} {new} {at} {a} {next} w v = record {
   long = v.long ∙ w.long;
 }
   where
-    length-head : length (take at old ++ first) ≡ a
-    length-head = length-append (take at old) first ∙ ap (λ (n : ℕ). n + length first) (length-take-le at old (omega (arith, w.counts, w.within))) ∙ sym w.counts
+    length_head : length (take at old ++ first) ≡ a
+    length_head = length-append (take at old) first ∙ ap (λ (n : ℕ). n + length first) (length-take-le at old (omega (arith, w.counts, w.within))) ∙ sym w.counts
 
     taken : take a mid ≡ take at old ++ first
-    taken = ap (take a) w.bytes ∙ take_at (take at old ++ first) (drop a old) a length-head
+    taken = ap (take a) w.bytes ∙ take_at (take at old ++ first) (drop a old) a length_head
 
     dropped : drop next mid ≡ drop next old
     dropped =
-        ap₂ drop (v.counts ∙ ap (λ (n : ℕ). n + length second) (sym length-head)) w.bytes
+        ap₂ drop (v.counts ∙ ap (λ (n : ℕ). n + length second) (sym length_head)) w.bytes
         ∙ drop-append-add (take at old ++ first) (drop a old) (length second)
         ∙ drop-drop (length second) a old
         ∙ ap (λ (n : ℕ). drop n old) (sym v.counts)
 
 -- two texts behind another
-pub then-two : {m k : ℕ} {first old mid new : List ℕ} {at a next : ℕ} (second third : List ℕ) → Added m first at old a mid
+pub then_two : {m k : ℕ} {first old mid new : List ℕ} {at a next : ℕ} (second third : List ℕ) → Added m first at old a mid
     → Added k (second ++ third) a mid next new → Added (m + k) (first ++ second ++ third) at old next new
-then-two {first} second third w v = rw (append_assoc first second third) (then w v)
+then_two {first} second third w v = rw (append_assoc first second third) (then w v)
 
 -- no text
 pub no_text : (old : List ℕ) (at : ℕ) → at ≤ length old → Added 0 [] at old at old

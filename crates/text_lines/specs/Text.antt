@@ -5,17 +5,17 @@ use Rattle.std.proofs.Math.Option.{Option, some}
 use Rattle.model.specs.Listing.{decimal, newline, space}
 
 -- numbers, each behind a space
-unfoldable pub spacedAll : List ℕ → List ℕ
-spacedAll [] = []
-spacedAll (x ∷ xs) = (space ++ decimal x) ++ spacedAll xs
+unfoldable pub spaced_all : List ℕ → List ℕ
+spaced_all [] = []
+spaced_all (x ∷ xs) = (space ++ decimal x) ++ spaced_all xs
 
 -- a word and numbers
 abbrev pub numbered : List ℕ → List ℕ → List ℕ
-numbered word numbers = word ++ spacedAll numbers
+numbered word numbers = word ++ spaced_all numbers
 
 -- the same, which end the line
-abbrev pub numberedLine : List ℕ → List ℕ → List ℕ
-numberedLine word numbers = numbered word numbers ++ newline
+abbrev pub numbered_line : List ℕ → List ℕ → List ℕ
+numbered_line word numbers = numbered word numbers ++ newline
 
 -- The text stands in the buffer from a place on, and around it what stood there; the answer is the place behind the text, which is at most `most` long.
 pub record Added (most : ℕ) (text : List ℕ) (at : ℕ) (old : List ℕ) (next : ℕ) (new : List ℕ) : Type 0 where

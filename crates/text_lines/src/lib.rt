@@ -1,4 +1,6 @@
 // Words, numbers and lines, each written from a place of a lent buffer on. The answer is the place behind it.
+#![tactic(auto)]
+
 mod lines;
 mod words;
 

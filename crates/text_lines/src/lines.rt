@@ -1,6 +1,6 @@
 // The lines of a listing that name no cell, each written from a place of a lent buffer on. The answer is the place behind it.
 ghost use Rattle.std.specs.Prelude.{◌+◌, ◌≤◌, length};
-ghost use Rattle.model.specs.Listing.{analysisName, headLine, leftLine, refusedLine, tooLarge};
+ghost use Rattle.model.specs.Listing.{analysis_name, head_line, left_line, refused_line, too_large};
 ghost use Rattle.text_lines.specs.Text.{Added};
 
 use crate::words::{put, put_decimal, put_spaced};
@@ -9,7 +9,7 @@ use model::{AnalysisKind, VerifierResources};
 // The word of an analysis.
 fn put_name(which: AnalysisKind, at: usize, out: &mut [u8]) -> usize
     requires { at + 9 ≤ length out.old }
-    ensures { Added 9 (analysisName which) at out.old result out.new }
+    ensures { Added 9 (analysis_name which) at out.old result out.new }
 {
     match which {
         AnalysisKind::Constant => put(b"constant", at, out),
@@ -21,7 +21,7 @@ fn put_name(which: AnalysisKind, at: usize, out: &mut [u8]) -> usize
 // "Heads: analysis, n, s, pops."
 pub fn head_line(which: AnalysisKind, n: u64, s: u64, pops: u64, at: usize, out: &mut [u8]) -> usize
     requires { at + 73 ≤ length out.old }
-    ensures { Added 73 (headLine which n s pops) at out.old result out.new }
+    ensures { Added 73 (head_line which n s pops) at out.old result out.new }
 {
     let a = put_name(which, at, out);
     let b = put_spaced(n, a, out);
@@ -33,7 +33,7 @@ pub fn head_line(which: AnalysisKind, n: u64, s: u64, pops: u64, at: usize, out:
 // "Last: bytes and work left"
 pub fn left_line(left: VerifierResources, at: usize, out: &mut [u8]) -> usize
     requires { at + 47 ≤ length out.old }
-    ensures { Added 47 (leftLine left) at out.old result out.new }
+    ensures { Added 47 (left_line left) at out.old result out.new }
 {
     let a = put(b"left ", at, out);
     let b = put_decimal(left.bytes, a, out);
@@ -44,7 +44,7 @@ pub fn left_line(left: VerifierResources, at: usize, out: &mut [u8]) -> usize
 // "Refusals print only `refused` and the number."
 pub fn refused_line(number: u8, at: usize, out: &mut [u8]) -> usize
     requires { at + 29 ≤ length out.old }
-    ensures { Added 29 (refusedLine number) at out.old result out.new }
+    ensures { Added 29 (refused_line number) at out.old result out.new }
 {
     let a = put(b"refused ", at, out);
     let b = put_decimal(number as u64, a, out);
@@ -54,7 +54,7 @@ pub fn refused_line(number: u8, at: usize, out: &mut [u8]) -> usize
 // "`too large` alone"
 pub fn too_large(at: usize, out: &mut [u8]) -> usize
     requires { at + 10 ≤ length out.old }
-    ensures { Added 10 tooLarge at out.old result out.new }
+    ensures { Added 10 too_large at out.old result out.new }
 {
     put(b"too large\n", at, out)
 }

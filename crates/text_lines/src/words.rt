@@ -1,7 +1,7 @@
 // Words and numbers, each written from a place of a lent buffer on. The answer is the place behind it.
 ghost use Rattle.std.specs.Prelude.{◌++◌, ◌+◌, ◌*◌, ◌≤◌, length, drop};
 ghost use Rattle.model.specs.Listing.{decimal, space};
-ghost use Rattle.text_lines.specs.Text.{Added, spacedAll, numbered, numberedLine};
+ghost use Rattle.text_lines.specs.Text.{Added, spaced_all, numbered, numbered_line};
 
 // The bytes of word from a place on.
 fn put_from(word: &[u8], from: usize, at: usize, out: &mut [u8]) -> usize
@@ -56,7 +56,7 @@ pub fn put_spaced(x: u64, at: usize, out: &mut [u8]) -> usize
 // Numbers, each behind a space.
 fn put_numbers(numbers: &[u64], at: usize, out: &mut [u8]) -> usize
     requires { at + 21 * length numbers.now ≤ length out.old }
-    ensures { Added (21 * length numbers.now) (spacedAll numbers.now) at out.old result out.new }
+    ensures { Added (21 * length numbers.now) (spaced_all numbers.now) at out.old result out.new }
 {
     let mut end = at;
     let mut i = 0;
@@ -83,7 +83,7 @@ pub fn put_numbered_line(word: &[u8], numbers: &[u64], at: usize, out: &mut [u8]
     requires { at + length word.now + 21 * length numbers.now + 1 ≤ length out.old }
     ensures { let name = word.now in
         let given = numbers.now in
-        Added (length name + 21 * length given + 1) (numberedLine name given) at out.old result out.new }
+        Added (length name + 21 * length given + 1) (numbered_line name given) at out.old result out.new }
 {
     let a = put_numbered(word, numbers, at, out);
     put(b"\n", a, out)

@@ -2,9 +2,9 @@
 ghost use Rattle.std.specs.Prelude.{◌≡◌, ◌+◌, ◌≤◌, length};
 ghost use Rattle.model.specs.Call.{table};
 ghost use Rattle.text_lines.specs.Text.{Added};
-ghost use Rattle.text_facts.specs.Text.{factTextBy};
-ghost use Rattle.text_listing.specs.Rows.{printedAnalysis};
-ghost use Rattle.text_listing.specs.Answer.{Listable, AnswerListable, choose, answerPart, lastLine};
+ghost use Rattle.text_facts.specs.Text.{fact_text_by};
+ghost use Rattle.text_listing.specs.Rows.{printed_analysis};
+ghost use Rattle.text_listing.specs.Answer.{Listable, AnswerListable, choose, answer_part, last_line};
 
 use crate::rows::rows_lines;
 use model::{AnalysisKind, Answer, Counts};
@@ -25,7 +25,7 @@ fn analysis_lines(
 ) -> usize
     requires { (n ≤ 256) × (length slots.now ≤ 32) × Listable n counts (table slots.now present.now kinds.now values.now) × (at + 729161 ≤ length out.old) }
     ensures { Added 729161
-        (printedAnalysis which (factTextBy which classes.now) n counts (table slots.now present.now kinds.now values.now))
+        (printed_analysis which (fact_text_by which classes.now) n counts (table slots.now present.now kinds.now values.now))
         at out.old result out.new }
 {
     let behind = head_line(which, n as u64, counts.tracked, counts.pops, at, out);
@@ -73,7 +73,7 @@ pub fn answer_lines(
         × AnswerListable which answer n (table slots.now present.now kinds.now values.now)
         × (at + 729161 ≤ length out.old) }
     ensures { Added 729161
-        (answerPart which (factTextBy which classes.now) n answer (table slots.now present.now kinds.now values.now))
+        (answer_part which (fact_text_by which classes.now) n answer (table slots.now present.now kinds.now values.now))
         at out.old result out.new }
 {
     match answer {
@@ -102,7 +102,7 @@ pub fn answer_lines(
 // The last line: what is left, or the one line of a refusal.
 pub fn last_line(answer: Answer, at: usize, out: &mut [u8]) -> usize
     requires { at + 47 ≤ length out.old }
-    ensures { Added 47 (lastLine answer) at out.old result out.new }
+    ensures { Added 47 (last_line answer) at out.old result out.new }
 {
     match answer {
         Answer::Analyzed {

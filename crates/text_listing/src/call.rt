@@ -3,8 +3,8 @@ ghost use Rattle.std.specs.Prelude.{◌≤◌, length};
 ghost use Rattle.model.specs.Call.{table};
 ghost use Rattle.model.specs.declared.AnalysisKind.{AnalysisKind};
 ghost use Rattle.text_lines.specs.Text.{Added};
-ghost use Rattle.text_facts.specs.Text.{factTextBy};
-ghost use Rattle.text_listing.specs.Answer.{TablesListable, textBy};
+ghost use Rattle.text_facts.specs.Text.{fact_text_by};
+ghost use Rattle.text_listing.specs.Answer.{TablesListable, text_by};
 
 use crate::answer::{answer_lines, last_line};
 use model::{AnalysisKind, Answer};
@@ -35,7 +35,7 @@ pub fn call_lines(
     ensures { let constants = table constant_slots.now constant_present.now constant_kinds.now constant_values.now in
         let index = table index_slots.now index_present.now index_kinds.now index_values.now in
         let containers = table container_slots.now container_present.now container_kinds.now container_values.now in
-        Added 2187530 (textBy (λ which. factTextBy which classes.now) n answer constants index containers) 0 out.old result out.new }
+        Added 2187530 (text_by (λ which. fact_text_by which classes.now) n answer constants index containers) 0 out.old result out.new }
 {
     let a = answer_lines(
         AnalysisKind::Constant,

@@ -1,11 +1,11 @@
 // "Cells: pc, slot, fact; present rows ascending, slots ascending."
 ghost use Rattle.std.specs.Prelude.{◌≡◌, ◌+◌, ◌*◌, ◌≤◌, length, take};
 ghost use Rattle.model.specs.Count.{collect};
-ghost use Rattle.model.specs.Listing.{presentLines};
+ghost use Rattle.model.specs.Listing.{present_lines};
 ghost use Rattle.model.specs.Tables.{fact_of};
 ghost use Rattle.text_lines.specs.Text.{Added};
-ghost use Rattle.text_facts.specs.Text.{factTextBy};
-ghost use Rattle.text_listing.specs.Rows.{cellLine, tableRowOf, row_of};
+ghost use Rattle.text_facts.specs.Text.{fact_text_by};
+ghost use Rattle.text_listing.specs.Rows.{cell_line, table_row_of, row_of};
 
 use model::AnalysisKind;
 use text_facts::put_fact;
@@ -23,7 +23,7 @@ fn cell_line(
     out: &mut [u8],
 ) -> usize
     requires { at + 89 ≤ length out.old }
-    ensures { Added 89 (cellLine (factTextBy which classes.now) pc slot (fact_of kind value)) at out.old result out.new }
+    ensures { Added 89 (cell_line (fact_text_by which classes.now) pc slot (fact_of kind value)) at out.old result out.new }
 {
     let a = put_decimal(pc, at, out);
     let b = put_spaced(slot as u64, a, out);
@@ -46,7 +46,7 @@ fn row_lines(
 ) -> usize
     requires { (length kinds.now ≡ length slots.now) × (length values.now ≡ length slots.now) × (at + 89 * length slots.now ≤ length out.old) }
     ensures { Added (89 * length slots.now)
-        (presentLines (factTextBy which classes.now) pc slots.now (tableRowOf present kinds.now values.now)) at
+        (present_lines (fact_text_by which classes.now) pc slots.now (table_row_of present kinds.now values.now)) at
         out.old result out.new }
 {
     if present != 1 {
@@ -76,7 +76,7 @@ pub fn rows_lines(
 ) -> usize
     requires { (s ≤ length slots.now) × (n ≤ length present.now) × (n * s ≤ length kinds.now) × (n * s ≤ length values.now) × (at + n * (89 * s) ≤ length out.old) }
     ensures { Added (n * (89 * s))
-        (collect (λ pc. presentLines (factTextBy which classes.now) pc (take s slots.now)
+        (collect (λ pc. present_lines (fact_text_by which classes.now) pc (take s slots.now)
         (row_of s present.now kinds.now values.now pc)) n)
         at out.old result out.new }
 {

@@ -11,18 +11,18 @@ use native.Mathlib.Omega.{arith}
 use lib.ListN.{length, get_or, set}
 use borrow.Author.Tests.{lt-ltb, le-ltb}
 use Rattle.model.specs.Lookup.{ascends}
-use Rattle.model.specs.Tables.{rowSlices}
+use Rattle.model.specs.Tables.{row_slices}
 use Rattle.model.specs.Written.{in_range}
 use Rattle.model.specs.declared.FactCell.{FactCell}
-use Rattle.transfer_written.specs.Ranges.{holdsSlot, slotRangeCount, slotRange}
+use Rattle.transfer_written.specs.Ranges.{holds_slot, slot_range_count, slot_range}
 use Rattle.transfer_written.specs.declared.SlotRange.{SlotRange}
 use Rattle.transfer_written.specs.declared.Written.{Written}
-use Rattle.transfer_written.proofs.RangeTests.{starts-before, from_start}
-use Rattle.transfer_written.proofs.RangeLoop.{among, among-all}
+use Rattle.transfer_written.proofs.RangeTests.{starts_before, from_start}
+use Rattle.transfer_written.proofs.RangeLoop.{among, among_all}
 use Rattle.fact_row.specs.Rows.{Bound}
-use Rattle.fact_row.proofs.Ascending.{ascends-lt}
+use Rattle.fact_row.proofs.Ascending.{ascends_lt}
 use Rattle.transfer.specs.Wrote.{Wrote}
-use Rattle.transfer.proofs.SlotWrites.{FrontWritten, front-written-none, front-written-more, front-written-all, wrote, wrote_none, wrote-both, wrote_as}
+use Rattle.transfer.proofs.SlotWrites.{FrontWritten, front_written_none, front_written_more, front_written_all, wrote, wrote_none, wrote_both, wrote_as}
 
 -- ---- one range
 
@@ -31,21 +31,21 @@ module _ (slots : List ℕ) (start count : ℕ) (cell : ℕ → FactCell) (kinds
   pub record Writing (kinds' values' : List ℕ) (j : ℕ) : Type 0 where
     pub within : j ≤ length slots
     pub long : (length kinds ≡ length slots) × (length values ≡ length slots)
-    pub kinds-long : length kinds' ≡ length slots
-    pub values-long : length values' ≡ length slots
+    pub kinds_long : length kinds' ≡ length slots
+    pub values_long : length values' ≡ length slots
     pub from : (k : ℕ) → j ≤ k → k < length slots → start ≤ get_or slots k 0
-    pub kinds-partly : FrontWritten (λ k. in_range (get_or slots k 0) start count) (λ k. (cell (get_or slots k 0)).kind) kinds kinds' j
-    pub values-partly : FrontWritten (λ k. in_range (get_or slots k 0) start count) (λ k. (cell (get_or slots k 0)).value) values values' j
+    pub kinds_partly : FrontWritten (λ k. in_range (get_or slots k 0) start count) (λ k. (cell (get_or slots k 0)).kind) kinds kinds' j
+    pub values_partly : FrontWritten (λ k. in_range (get_or slots k 0) start count) (λ k. (cell (get_or slots k 0)).value) values values' j
 
   pub writing_start : (j : ℕ) → length kinds ≡ length slots → length values ≡ length slots → Bound slots start j → Writing kinds values j
   writing_start j nk nv b = record {
     within = b.within;
     long = (nk, nv);
-    kinds-long = nk;
-    values-long = nv;
+    kinds_long = nk;
+    values_long = nv;
     from = b.above;
-    kinds-partly = front-written-none _ _ kinds j (λ k l. sym (starts-before (get_or slots k 0) start count (b.below k l)));
-    values-partly = front-written-none _ _ values j (λ k l. sym (starts-before (get_or slots k 0) start count (b.below k l)));
+    kinds_partly = front_written_none _ _ kinds j (λ k l. sym (starts_before (get_or slots k 0) start count (b.below k l)));
+    values_partly = front_written_none _ _ values j (λ k l. sym (starts_before (get_or slots k 0) start count (b.below k l)));
   }
 
   module _ {kinds' values' : List ℕ} {j : ℕ} (w : Writing kinds' values' j) where
@@ -53,89 +53,89 @@ module _ (slots : List ℕ) (start count : ℕ) (cell : ℕ → FactCell) (kinds
         → Writing (set kinds' j r.kind) (set values' j r.value) (j + 1)
     writing_more {r} h l e =
         let t : in_range (get_or slots j 0) start count ≡ true = sym (from_start (get_or slots j 0) start count (w.from j (omega arith) h)) ∙ lt-ltb _ _ l in
-        let pk = front-written-more _ _ kinds w.kinds-partly (omega (arith, w.long)) t (ap (λ (c : FactCell). c.kind) e) in
-        let pv = front-written-more _ _ values w.values-partly (omega (arith, w.long)) t (ap (λ (c : FactCell). c.value) e) in
+        let pk = front_written_more _ _ kinds w.kinds_partly (omega (arith, w.long)) t (ap (λ (c : FactCell). c.kind) e) in
+        let pv = front_written_more _ _ values w.values_partly (omega (arith, w.long)) t (ap (λ (c : FactCell). c.value) e) in
         record {
           within = omega arith;
           long = w.long;
-          kinds-long = pk.long ∙ w.long.0;
-          values-long = pv.long ∙ w.long.1;
+          kinds_long = pk.long ∙ w.long.0;
+          values_long = pv.long ∙ w.long.1;
           from = λ k m u. w.from k (omega arith) u;
-          kinds-partly = pk;
-          values-partly = pv;
+          kinds_partly = pk;
+          values_partly = pv;
         }
 
     done : ((k : ℕ) → j ≤ k → k < length slots → in_range (get_or slots k 0) start count ≡ false)
-        → Wrote slots (λ slot. in_range slot start count) cell (rowSlices kinds values) (rowSlices kinds' values')
+        → Wrote slots (λ slot. in_range slot start count) cell (row_slices kinds values) (row_slices kinds' values')
     done h =
         wrote slots (λ slot. in_range slot start count) cell kinds values w.long.0 w.long.1 kinds' values'
-        w.kinds-partly.long
-        w.values-partly.long
-        (front-written-all _ _ kinds w.kinds-partly (λ k m u. h k m (omega (arith, w.long))))
-        (front-written-all _ _ values w.values-partly (λ k m u. h k m (omega (arith, w.long))))
+        w.kinds_partly.long
+        w.values_partly.long
+        (front_written_all _ _ kinds w.kinds_partly (λ k m u. h k m (omega (arith, w.long))))
+        (front_written_all _ _ values w.values_partly (λ k m u. h k m (omega (arith, w.long))))
 
-    pub written_all : length slots ≤ j → Wrote slots (λ slot. in_range slot start count) cell (rowSlices kinds values) (rowSlices kinds' values')
+    pub written_all : length slots ≤ j → Wrote slots (λ slot. in_range slot start count) cell (row_slices kinds values) (row_slices kinds' values')
     written_all h = done (λ k m u. absurd (omega arith))
 
-    pub written-range : ascends slots ≡ true → j < length slots → count ≤ get_or slots j 0 - start
-        → Wrote slots (λ slot. in_range slot start count) cell (rowSlices kinds values) (rowSlices kinds' values')
-    written-range asc h l = done (λ k m u. sym (from_start (get_or slots k 0) start count (w.from k m u)) ∙ le-ltb _ _ (later k u (eq-or-lt_of_le m)))
+    pub written_range : ascends slots ≡ true → j < length slots → count ≤ get_or slots j 0 - start
+        → Wrote slots (λ slot. in_range slot start count) cell (row_slices kinds values) (row_slices kinds' values')
+    written_range asc h l = done (λ k m u. sym (from_start (get_or slots k 0) start count (w.from k m u)) ∙ le-ltb _ _ (later k u (eq-or-lt_of_le m)))
       where
         later : (k : ℕ) → k < length slots → (j ≡ k) ⊎ (j < k) → count ≤ get_or slots k 0 - start
         later k u (inl q) = rw (sym q) l
-        later k u (inr q) = omega (arith, ascends-lt slots asc j k q u)
+        later k u (inr q) = omega (arith, ascends_lt slots asc j k q u)
 
 -- a range behind all slots
-pub wrote-beyond : (slots : List ℕ) (start count : ℕ) (cell : ℕ → FactCell) (kinds values : List ℕ)
+pub wrote_beyond : (slots : List ℕ) (start count : ℕ) (cell : ℕ → FactCell) (kinds values : List ℕ)
     → length kinds ≡ length slots → length values ≡ length slots → ((k : ℕ) → k < length slots → get_or slots k 0 < start)
-    → Wrote slots (λ slot. in_range slot start count) cell (rowSlices kinds values) (rowSlices kinds values)
-wrote-beyond slots start count cell kinds values nk nv h =
+    → Wrote slots (λ slot. in_range slot start count) cell (row_slices kinds values) (row_slices kinds values)
+wrote_beyond slots start count cell kinds values nk nv h =
     wrote slots (λ slot. in_range slot start count) cell kinds values nk nv kinds values refl refl
-    (λ k l. rw (← starts-before (get_or slots k 0) start count (h k (omega arith))))
-    (λ k l. rw (← starts-before (get_or slots k 0) start count (h k (omega arith))))
+    (λ k l. rw (← starts_before (get_or slots k 0) start count (h k (omega arith))))
+    (λ k l. rw (← starts_before (get_or slots k 0) start count (h k (omega arith))))
 
 -- no slots at all
-pub wrote-nowhere : (slots : List ℕ) (writes : ℕ → Bool) (cell : ℕ → FactCell) (kinds values : List ℕ) → length slots ≡ 0 → length kinds ≡ length slots
+pub wrote_nowhere : (slots : List ℕ) (writes : ℕ → Bool) (cell : ℕ → FactCell) (kinds values : List ℕ) → length slots ≡ 0 → length kinds ≡ length slots
     → length values ≡ length slots
-    → Wrote slots writes cell (rowSlices kinds values) (rowSlices kinds values)
-wrote-nowhere slots writes cell kinds values none nk nv =
+    → Wrote slots writes cell (row_slices kinds values) (row_slices kinds values)
+wrote_nowhere slots writes cell kinds values none nk nv =
     wrote slots writes cell kinds values nk nv kinds values refl refl (λ k l. absurd (omega arith)) (λ k l. absurd (omega arith))
 
 -- so, where the last slot lies before it
-pub last-below : (slots : List ℕ) (start : ℕ) → ascends slots ≡ true → get_or slots (length slots - 1) 0 < start → (k : ℕ) → k < length slots → get_or slots k 0 < start
-last-below slots start asc h k l = let m : k ≤ length slots - 1 = omega arith in go (eq-or-lt_of_le m)
+pub last_below : (slots : List ℕ) (start : ℕ) → ascends slots ≡ true → get_or slots (length slots - 1) 0 < start → (k : ℕ) → k < length slots → get_or slots k 0 < start
+last_below slots start asc h k l = let m : k ≤ length slots - 1 = omega arith in go (eq-or-lt_of_le m)
   where
     go : (k ≡ length slots - 1) ⊎ (k < length slots - 1) → get_or slots k 0 < start
     go (inl q) = rw q h
-    go (inr q) = omega (arith, ascends-lt slots asc k (length slots - 1) q (omega arith))
+    go (inr q) = omega (arith, ascends_lt slots asc k (length slots - 1) q (omega arith))
 
 -- ---- several
 
 -- i of the ranges are written
 pub record Ranging (w : Written) (sheet slots : List ℕ) (cell : ℕ → FactCell) (kinds values kinds' values' : List ℕ) (i : ℕ) : Type 0 where
-  pub within : i ≤ slotRangeCount w
-  pub kinds-long : length kinds ≡ length slots
-  pub is : Wrote slots (among w sheet i) cell (rowSlices kinds values) (rowSlices kinds' values')
+  pub within : i ≤ slot_range_count w
+  pub kinds_long : length kinds ≡ length slots
+  pub is : Wrote slots (among w sheet i) cell (row_slices kinds values) (row_slices kinds' values')
 
 module _ (w : Written) (sheet slots : List ℕ) (cell : ℕ → FactCell) (kinds values : List ℕ) where
-  pub ranging-start : length kinds ≡ length slots → length values ≡ length slots → Ranging w sheet slots cell kinds values kinds values 0
+  pub ranging_start : length kinds ≡ length slots → length values ≡ length slots → Ranging w sheet slots cell kinds values kinds values 0
   unfolding among
-  ranging-start nk nv = record {
+  ranging_start nk nv = record {
     within = omega arith;
-    kinds-long = nk;
+    kinds_long = nk;
     is = wrote_none slots (among w sheet 0) cell kinds values nk nv (λ slot. refl);
   }
 
   module _ {kinds' values' : List ℕ} {i : ℕ} (r : Ranging w sheet slots cell kinds values kinds' values' i) where
-    pub ranging-more : {kinds'' values'' : List ℕ} {range : SlotRange} → i < slotRangeCount w → range ≡ slotRange w sheet i
-        → Wrote slots (λ slot. in_range slot range.start range.count) cell (rowSlices kinds' values') (rowSlices kinds'' values'')
+    pub ranging_more : {kinds'' values'' : List ℕ} {range : SlotRange} → i < slot_range_count w → range ≡ slot_range w sheet i
+        → Wrote slots (λ slot. in_range slot range.start range.count) cell (row_slices kinds' values') (row_slices kinds'' values'')
         → Ranging w sheet slots cell kinds values kinds'' values'' (i + 1)
     unfolding among
-    ranging-more h e u = record {
+    ranging_more h e u = record {
       within = omega arith;
-      kinds-long = r.kinds-long;
-      is = wrote-both (among w sheet (i + 1)) (λ slot. rw (add-one i, e)) r.is u;
+      kinds_long = r.kinds_long;
+      is = wrote_both (among w sheet (i + 1)) (λ slot. rw (add-one i, e)) r.is u;
     }
 
-    pub ranging-all : slotRangeCount w ≤ i → Wrote slots (holdsSlot w sheet) cell (rowSlices kinds values) (rowSlices kinds' values')
-    ranging-all h = let e : i ≡ slotRangeCount w = omega (arith, r.within) in wrote_as (λ slot. rw e (among-all w sheet slot)) r.is
+    pub ranging_all : slot_range_count w ≤ i → Wrote slots (holds_slot w sheet) cell (row_slices kinds values) (row_slices kinds' values')
+    ranging_all h = let e : i ≡ slot_range_count w = omega (arith, r.within) in wrote_as (λ slot. rw e (among_all w sheet slot)) r.is

@@ -6,7 +6,7 @@ use Rattle.model.specs.declared.AnalysisKind.{AnalysisKind}
 use Rattle.model.specs.declared.AnalysisKind.TheVariants.{Constant, IndexCheck, Container}
 
 -- whether the instruction sets a from its length: "IndexCheck then sets a"
-unfoldable pub checksIndex : AnalysisKind → ℕ → Bool
-checksIndex Constant op = false
-checksIndex IndexCheck op = eqb op O.IndexCheck
-checksIndex Container op = false
+unfoldable pub checks_index : AnalysisKind → ℕ → Bool
+checks_index Constant op = false
+checks_index IndexCheck op = eqb op O.IndexCheck
+checks_index Container op = false

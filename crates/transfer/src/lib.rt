@@ -1,4 +1,6 @@
 // "Transfers": facts written into a row, and a row of facts through an instruction.
+#![tactic(auto)]
+
 mod row;
 mod rows;
 

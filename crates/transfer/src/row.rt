@@ -1,14 +1,14 @@
 // A row through an instruction, once for the three analyses.
 ghost use Rattle.std.specs.Prelude.{◌≡◌, ◌<◌, length};
 ghost use Rattle.model.specs.Fact.{Row};
-ghost use Rattle.model.specs.Promise.{lentRow};
-ghost use Rattle.model.specs.Sheet.{codeCount, firstRange};
-ghost use Rattle.model.specs.Tables.{RowLies, factIn, factsIn};
-ghost use Rattle.model.specs.Transfer.{checkedFrom, indexChecked, transferRow};
+ghost use Rattle.model.specs.Promise.{lent_row};
+ghost use Rattle.model.specs.Sheet.{code_count, first_range};
+ghost use Rattle.model.specs.Tables.{RowLies, fact_in, facts_in};
+ghost use Rattle.model.specs.Transfer.{checked_from, index_checked, transfer_row};
 ghost use Rattle.memory.specs.Front.{Holds};
 ghost use Rattle.sheet.specs.Measured.{Accepted};
 ghost use Rattle.fact_row.specs.Rows.{ReadableRow, WritableRow};
-ghost use Rattle.transfer.specs.Analysis.{checksIndex};
+ghost use Rattle.transfer.specs.Analysis.{checks_index};
 
 use crate::rows::write_slots;
 use fact_row::{checked_cell, set_fact, wide};
@@ -22,7 +22,7 @@ const INDEX_CHECK: u8 = 121;
 
 // Whether the instruction sets a from its length: only IndexCheck does, and only in the index analysis.
 fn checks_index(which: AnalysisKind, op: u8) -> bool
-    ensures { result ≡ checksIndex which op }
+    ensures { result ≡ checks_index which op }
 {
     match which {
         AnalysisKind::Constant => false,
@@ -41,9 +41,9 @@ fn set_checked(
     values: &mut [u64],
 )
     requires { WritableRow slots.now kinds.old values.old }
-    ensures { let out = lentRow kinds values in
-        let fact = checkedFrom (factIn length_fact) in
-        (row : Row) → RowLies row out.entry → RowLies (indexChecked (checksIndex which inst.op) inst slots.now fact row) out.exit }
+    ensures { let out = lent_row kinds values in
+        let fact = checked_from (fact_in length_fact) in
+        (row : Row) → RowLies row out.entry → RowLies (index_checked (checks_index which inst.op) inst slots.now fact row) out.exit }
 {
     if checks_index(which, inst.op) {
         set_fact(
@@ -71,12 +71,12 @@ pub fn transfer_row(
     out_kinds: &mut [u8],
     out_values: &mut [u64],
 )
-    requires accepted { Accepted sheet.now sizes × Holds (firstRange sheet.now) (codeCount sheet.now) firsts.now × (pc < sizes.code_count) }
+    requires accepted { Accepted sheet.now sizes × Holds (first_range sheet.now) (code_count sheet.now) firsts.now × (pc < sizes.code_count) }
     requires readable_row { ReadableRow slots.now kinds.now values.now
         × (length out_kinds.old ≡ length slots.now) × (length out_values.old ≡ length slots.now) }
-    ensures { let old = lentRow kinds values in
-        let out = lentRow out_kinds out_values in
-        RowLies (transferRow which sheet.now slots.now (λ p. factIn length_fact) pc (factsIn old.entry)) out.exit }
+    ensures { let old = lent_row kinds values in
+        let out = lent_row out_kinds out_values in
+        RowLies (transfer_row which sheet.now slots.now (λ p. fact_in length_fact) pc (facts_in old.entry)) out.exit }
 {
     let inst = sheet_fields::instruction_at(sheet, pc);
     let effect = effect_of(which, sheet, sizes, slots, kinds, values, pc, inst);

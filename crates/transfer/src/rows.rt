@@ -1,12 +1,12 @@
 // Facts written into a row, slot by slot, from the row before.
 ghost use Rattle.std.specs.Prelude.{◌≡◌, ◌-◌, ◌≤◌, length, get_or};
-ghost use Rattle.model.specs.Promise.{lentRow};
-ghost use Rattle.model.specs.Tables.{factsIn};
+ghost use Rattle.model.specs.Promise.{lent_row};
+ghost use Rattle.model.specs.Tables.{facts_in};
 ghost use Rattle.model.specs.Written.{in_range};
 ghost use Rattle.sheet.specs.Measured.{Measured};
-ghost use Rattle.transfer_facts.specs.Effect.{effectCell};
+ghost use Rattle.transfer_facts.specs.Effect.{effect_cell};
 ghost use Rattle.fact_row.specs.Rows.{ReadableRow};
-ghost use Rattle.transfer_written.specs.Ranges.{holdsSlot, rangesEnd};
+ghost use Rattle.transfer_written.specs.Ranges.{holds_slot, ranges_end};
 ghost use Rattle.transfer.specs.Wrote.{Wrote};
 
 use fact_row::{lower_bound, wide};
@@ -29,9 +29,9 @@ fn write_range(
     requires { ReadableRow slots.now kinds.now values.now
         × (length out_kinds.old ≡ length slots.now) × (length out_values.old ≡ length slots.now)
         × (last ≡ get_or slots.now (length slots.now - 1) 0) }
-    ensures { let old = lentRow kinds values in
-        let out = lentRow out_kinds out_values in
-        let cell = effectCell effect slots.now (factsIn old.entry) in
+    ensures { let old = lent_row kinds values in
+        let out = lent_row out_kinds out_values in
+        let cell = effect_cell effect slots.now (facts_in old.entry) in
         Wrote slots.now (λ slot. in_range slot start count) cell out.entry out.exit }
 {
     // most ranges that a call writes lie beyond what is tracked
@@ -63,13 +63,13 @@ pub fn write_slots(
     out_kinds: &mut [u8],
     out_values: &mut [u64],
 )
-    requires measured { Measured sheet.now sizes × (rangesEnd written ≤ sizes.range_count) }
+    requires measured { Measured sheet.now sizes × (ranges_end written ≤ sizes.range_count) }
     requires readable_row { ReadableRow slots.now kinds.now values.now
         × (length out_kinds.old ≡ length slots.now) × (length out_values.old ≡ length slots.now) }
-    ensures { let old = lentRow kinds values in
-        let out = lentRow out_kinds out_values in
-        let cell = effectCell effect slots.now (factsIn old.entry) in
-        Wrote slots.now (holdsSlot written sheet.now) cell out.entry out.exit }
+    ensures { let old = lent_row kinds values in
+        let out = lent_row out_kinds out_values in
+        let cell = effect_cell effect slots.now (facts_in old.entry) in
+        Wrote slots.now (holds_slot written sheet.now) cell out.entry out.exit }
 {
     let len = slots.len();
     if len == 0 {

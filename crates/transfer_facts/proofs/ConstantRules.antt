@@ -10,40 +10,40 @@ use Rattle.model.specs.Fact.{Fact, unknown, Row}
 use Rattle.model.specs.Opcode.{select}
 use Rattle.model.specs.Successors.{imm32}
 use Rattle.model.specs.Tables.{cell_of}
-use Rattle.model.specs.Transfer.{factFor, copied, integer, loadConst, fold, foldBinary, u64Fact, shl, or, constantRule, constantFact}
+use Rattle.model.specs.Transfer.{fact_for, copied, integer, load_const, fold, fold_binary, u64_fact, shl, or, constant_rule, constant_fact}
 use Rattle.model.specs.declared.FactCell.{FactCell}
 use Rattle.model.specs.declared.Instruction.{Instruction}
-use Rattle.fact_row.specs.Target.{targetCell}
+use Rattle.fact_row.specs.Target.{target_cell}
 use Rattle.fact_row.proofs.TargetCell.{targeted, untargeted}
 
 module _ (sheet : List ℕ) (inst : Instruction) (slots : List ℕ) (row : Row) (slot : ℕ) where
   abbrev constant : Fact
-  constant = constantFact (constantRule inst.op) sheet inst slots row slot
+  constant = constant_fact (constant_rule inst.op) sheet inst slots row slot
 
-  pub loads-int : inst.op ≡ 1 → {r : FactCell} → r ≡ cell_of (integer (imm32 inst)) → targetCell (eqb inst.a slot) r ≡ cell_of constant
-  unfolding constantRule select constantFact imm32
-  loads-int h e = rw h (targeted (eqb inst.a slot) (integer (imm32 inst)) e)
+  pub loads_int : inst.op ≡ 1 → {r : FactCell} → r ≡ cell_of (integer (imm32 inst)) → target_cell (eqb inst.a slot) r ≡ cell_of constant
+  unfolding constant_rule select constant_fact imm32
+  loads_int h e = rw h (targeted (eqb inst.a slot) (integer (imm32 inst)) e)
 
-  pub loads-const : inst.op ≡ 2 → {r : FactCell} → r ≡ cell_of (loadConst sheet inst.b) → targetCell (eqb inst.a slot) r ≡ cell_of constant
-  unfolding constantRule select constantFact
-  loads-const h e = rw h (targeted (eqb inst.a slot) _ e)
+  pub loads_const : inst.op ≡ 2 → {r : FactCell} → r ≡ cell_of (load_const sheet inst.b) → target_cell (eqb inst.a slot) r ≡ cell_of constant
+  unfolding constant_rule select constant_fact
+  loads_const h e = rw h (targeted (eqb inst.a slot) _ e)
 
-  pub copies-constant : inst.op ≡ 3 → {r : FactCell} → r ≡ cell_of (factFor slots row inst.b) → targetCell (eqb inst.a slot) r ≡ cell_of constant
-  unfolding constantRule select constantFact copied
-  copies-constant h e = rw h (targeted (eqb inst.a slot) _ e)
+  pub copies_constant : inst.op ≡ 3 → {r : FactCell} → r ≡ cell_of (fact_for slots row inst.b) → target_cell (eqb inst.a slot) r ≡ cell_of constant
+  unfolding constant_rule select constant_fact copied
+  copies_constant h e = rw h (targeted (eqb inst.a slot) _ e)
 
-  pub shifts : inst.op ≡ 53 → {r : FactCell} → r ≡ cell_of (foldBinary shl (u64Fact (factFor slots row inst.b)) (u64Fact (factFor slots row inst.c))) → targetCell (eqb inst.a slot) r ≡ cell_of constant
-  unfolding constantRule select constantFact fold
+  pub shifts : inst.op ≡ 53 → {r : FactCell} → r ≡ cell_of (fold_binary shl (u64_fact (fact_for slots row inst.b)) (u64_fact (fact_for slots row inst.c))) → target_cell (eqb inst.a slot) r ≡ cell_of constant
+  unfolding constant_rule select constant_fact fold
   shifts h e = rw h (targeted (eqb inst.a slot) _ e)
 
-  pub ors : inst.op ≡ 49 → {r : FactCell} → r ≡ cell_of (foldBinary or (u64Fact (factFor slots row inst.b)) (u64Fact (factFor slots row inst.c))) → targetCell (eqb inst.a slot) r ≡ cell_of constant
-  unfolding constantRule select constantFact fold
+  pub ors : inst.op ≡ 49 → {r : FactCell} → r ≡ cell_of (fold_binary or (u64_fact (fact_for slots row inst.b)) (u64_fact (fact_for slots row inst.c))) → target_cell (eqb inst.a slot) r ≡ cell_of constant
+  unfolding constant_rule select constant_fact fold
   ors h e = rw h (targeted (eqb inst.a slot) _ e)
 
-  pub no-constant : inst.op ≢ 1 → inst.op ≢ 2 → inst.op ≢ 3 → inst.op ≢ 4 → inst.op ≢ 53 → inst.op ≢ 49 → {r : FactCell} → r ≡ cell_of unknown
-      → targetCell (eqb inst.a slot) r ≡ cell_of constant
-  unfolding constantRule select constantFact
-  no-constant n1 n2 n3 n4 n53 n49 e =
+  pub no_constant : inst.op ≢ 1 → inst.op ≢ 2 → inst.op ≢ 3 → inst.op ≢ 4 → inst.op ≢ 53 → inst.op ≢ 49 → {r : FactCell} → r ≡ cell_of unknown
+      → target_cell (eqb inst.a slot) r ≡ cell_of constant
+  unfolding constant_rule select constant_fact
+  no_constant n1 n2 n3 n4 n53 n49 e =
       rw (
         ne_eqb inst.op 1 n1,
         ne_eqb inst.op 2 n2,

@@ -11,32 +11,32 @@ use Rattle.model.specs.Fact.{Fact, Row}
 use Rattle.model.specs.Opcode.{select}
 use Rattle.model.specs.Sheet.{instruction}
 use Rattle.model.specs.Tables.{cell_of}
-use Rattle.model.specs.Transfer.{factFor, copied, instructionFact, orUnknown, iterInit, containerRule, containerFact}
+use Rattle.model.specs.Transfer.{fact_for, copied, instruction_fact, or_unknown, iter_init, container_rule, container_fact}
 use Rattle.model.specs.declared.FactCell.{FactCell}
 use Rattle.model.specs.declared.Instruction.{Instruction}
-use Rattle.fact_row.specs.Target.{targetCell}
+use Rattle.fact_row.specs.Target.{target_cell}
 use Rattle.fact_row.proofs.TargetCell.{targeted, untargeted}
-use Rattle.fact_row.proofs.NoteFacts.{no-container}
+use Rattle.fact_row.proofs.NoteFacts.{no_container}
 
 module _ (sheet : List ℕ) (pc : ℕ) (inst : Instruction) (is : inst ≡ instruction sheet pc) (slots : List ℕ) (row : Row) (slot : ℕ) where
   abbrev container : Fact
-  container = containerFact (containerRule inst.op) sheet pc slots row slot
+  container = container_fact (container_rule inst.op) sheet pc slots row slot
 
-  pub copies-container : inst.op ≡ 3 → {r : FactCell} → r ≡ cell_of (factFor slots row inst.b) → targetCell (eqb inst.a slot) r ≡ cell_of container
-  unfolding containerRule select containerFact copied
-  copies-container h e = rw (h, ← is) (targeted (eqb inst.a slot) _ e)
+  pub copies_container : inst.op ≡ 3 → {r : FactCell} → r ≡ cell_of (fact_for slots row inst.b) → target_cell (eqb inst.a slot) r ≡ cell_of container
+  unfolding container_rule select container_fact copied
+  copies_container h e = rw (h, ← is) (targeted (eqb inst.a slot) _ e)
 
-  pub iterates-container : inst.op ≡ 94 → {r : FactCell} → r ≡ cell_of (iterInit (factFor slots row inst.b)) → targetCell (eqb inst.a slot) r ≡ cell_of container
-  unfolding containerRule select containerFact
-  iterates-container h e = rw (h, ← is) (targeted (eqb inst.a slot) _ e)
+  pub iterates_container : inst.op ≡ 94 → {r : FactCell} → r ≡ cell_of (iter_init (fact_for slots row inst.b)) → target_cell (eqb inst.a slot) r ≡ cell_of container
+  unfolding container_rule select container_fact
+  iterates_container h e = rw (h, ← is) (targeted (eqb inst.a slot) _ e)
 
-  pub by-note : inst.op ≢ 3 → inst.op ≢ 94 → inst.op ≢ 95 → inst.op ≢ 4 → {r : FactCell} → r ≡ cell_of (orUnknown (instructionFact sheet pc)) → targetCell (eqb inst.a slot) r ≡ cell_of container
-  unfolding containerRule select containerFact orUnknown
-  by-note n3 n94 n95 n4 {r} e = go (eqb inst.op 89) refl (eqb inst.op 96) refl
+  pub by_note : inst.op ≢ 3 → inst.op ≢ 94 → inst.op ≢ 95 → inst.op ≢ 4 → {r : FactCell} → r ≡ cell_of (or_unknown (instruction_fact sheet pc)) → target_cell (eqb inst.a slot) r ≡ cell_of container
+  unfolding container_rule select container_fact or_unknown
+  by_note n3 n94 n95 n4 {r} e = go (eqb inst.op 89) refl (eqb inst.op 96) refl
     where
-      go : (m : Bool) → eqb inst.op 89 ≡ m → (q : Bool) → eqb inst.op 96 ≡ q → targetCell (eqb inst.a slot) r ≡ cell_of container
+      go : (m : Bool) → eqb inst.op 89 ≡ m → (q : Bool) → eqb inst.op 96 ≡ q → target_cell (eqb inst.a slot) r ≡ cell_of container
       go true p q u = rw (eqb-true inst.op 89 p, ← is) (targeted (eqb inst.a slot) _ e)
       go false p true u = rw (eqb-true inst.op 96 u, ← is) (targeted (eqb inst.a slot) _ e)
       go false p false u =
           rw (p, u, ne_eqb inst.op 94 n94, ne_eqb inst.op 95 n95, ne_eqb inst.op 3 n3, ne_eqb inst.op 4 n4)
-          (untargeted (eqb inst.a slot) (e ∙ ap cell_of (no-container sheet pc (ap (λ (x : Instruction). x.op) is) (eqb-false inst.op 89 p) (eqb-false inst.op 96 u))))
+          (untargeted (eqb inst.a slot) (e ∙ ap cell_of (no_container sheet pc (ap (λ (x : Instruction). x.op) is) (eqb-false inst.op 89 p) (eqb-false inst.op 96 u))))

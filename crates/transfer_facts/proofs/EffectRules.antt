@@ -12,39 +12,39 @@ use Rattle.model.specs.Fact.{Fact, unknown, Row}
 use Rattle.model.specs.Opcode.{select}
 use Rattle.model.specs.Sheet.{instruction}
 use Rattle.model.specs.Tables.{cell_of}
-use Rattle.model.specs.Transfer.{factFor, target, copied, copiedN, ConstantRule, loadIntRule, loadConstRule, copyConstantRule, copyNConstantRule, shlRule, orRule, otherConstantRule, constantRule, constantFact, IndexRule, copyIndexRule, copyNIndexRule, otherIndexRule, indexRule, indexFact, iterNext, ContainerRule, newRule, iterInitRule, iterNextRule, copyContainerRule, copyNContainerRule, otherContainerRule, containerRule, containerFact}
+use Rattle.model.specs.Transfer.{fact_for, target, copied, copied_n, ConstantRule, load_int_rule, load_const_rule, copy_constant_rule, copy_n_constant_rule, shl_rule, or_rule, other_constant_rule, constant_rule, constant_fact, IndexRule, copy_index_rule, copy_n_index_rule, other_index_rule, index_rule, index_fact, iter_next, ContainerRule, new_rule, iter_init_rule, iter_next_rule, copy_container_rule, copy_n_container_rule, other_container_rule, container_rule, container_fact}
 use Rattle.model.specs.Written.{in_range}
 use Rattle.model.specs.declared.FactCell.{FactCell}
 use Rattle.model.specs.declared.Instruction.{Instruction}
 use Rattle.model.specs.declared.AnalysisKind.{AnalysisKind}
 use Rattle.model.specs.declared.AnalysisKind.TheVariants.{Constant, IndexCheck, Container}
-use Rattle.fact_row.specs.Target.{targetCell}
+use Rattle.fact_row.specs.Target.{target_cell}
 use Rattle.fact_row.proofs.TargetCell.{targeted, untargeted}
-use Rattle.transfer_facts.specs.Effect.{effectCell, factWritten, iterates, effectBy, effect_of}
+use Rattle.transfer_facts.specs.Effect.{effect_cell, fact_written, iterates, effect_by, effect_of}
 use Rattle.transfer_facts.specs.declared.Effect.{Effect}
 use Rattle.transfer_facts.specs.declared.Effect.TheVariants.{Filled, Copied}
-use Rattle.transfer_facts.proofs.SlotEffects.{one-slot}
+use Rattle.transfer_facts.proofs.SlotEffects.{one_slot}
 
 -- ---- index checks
 
 module _ (inst : Instruction) (slots : List ℕ) (row : Row) (slot : ℕ) where
   abbrev index : Fact
-  index = indexFact (indexRule inst.op) inst slots row slot
+  index = index_fact (index_rule inst.op) inst slots row slot
 
-  pub copies-index : inst.op ≡ 3 → {r : FactCell} → r ≡ cell_of (factFor slots row inst.b) → targetCell (eqb inst.a slot) r ≡ cell_of index
-  unfolding indexRule select indexFact copied
-  copies-index h e = rw h (targeted (eqb inst.a slot) _ e)
+  pub copies_index : inst.op ≡ 3 → {r : FactCell} → r ≡ cell_of (fact_for slots row inst.b) → target_cell (eqb inst.a slot) r ≡ cell_of index
+  unfolding index_rule select index_fact copied
+  copies_index h e = rw h (targeted (eqb inst.a slot) _ e)
 
-  pub no_index : inst.op ≢ 3 → inst.op ≢ 4 → {r : FactCell} → r ≡ cell_of unknown → targetCell (eqb inst.a slot) r ≡ cell_of index
-  unfolding indexRule select indexFact
+  pub no_index : inst.op ≢ 3 → inst.op ≢ 4 → {r : FactCell} → r ≡ cell_of unknown → target_cell (eqb inst.a slot) r ≡ cell_of index
+  unfolding index_rule select index_fact
   no_index n3 n4 e = rw (ne_eqb inst.op 3 n3, ne_eqb inst.op 4 n4) (untargeted (eqb inst.a slot) e)
 
 -- ---- a fact that is found at one slot of those that get it
 
 -- the range of seven slots holds its first
-first-of-seven : (b : ℕ) → in_range b b 7 ≡ true
+first_of_seven : (b : ℕ) → in_range b b 7 ≡ true
 unfolding in_range
-first-of-seven b = rw (le-leb b b (omega arith), lt-ltb b (b + 7) (omega arith))
+first_of_seven b = rw (le-leb b b (omega arith), lt-ltb b (b + 7) (omega arith))
 
 again : (t : Bool) {u : Bool} (f : Fact) → u ≡ true → target t f ≡ target t (target u f)
 unfolding target
@@ -56,175 +56,175 @@ nothing true = refl
 nothing false = refl
 
 module _ (inst : Instruction) (slots : List ℕ) (row : Row) (slot : ℕ) where
-  a-is-a : eqb inst.a inst.a ≡ true
-  a-is-a = eq-eqb inst.a inst.a refl
+  a_is_a : eqb inst.a inst.a ≡ true
+  a_is_a = eq-eqb inst.a inst.a refl
 
   module _ (sheet : List ℕ) where
     abbrev OneConstant : ConstantRule → Type 0
-    OneConstant rule = constantFact rule sheet inst slots row slot ≡ target (eqb inst.a slot) (constantFact rule sheet inst slots row inst.a)
+    OneConstant rule = constant_fact rule sheet inst slots row slot ≡ target (eqb inst.a slot) (constant_fact rule sheet inst slots row inst.a)
 
-    constants-but : (int const copy shl or : Bool)
-        → OneConstant (cond int loadIntRule (cond const loadConstRule (cond copy copyConstantRule (cond false copyNConstantRule (cond shl shlRule (cond or orRule otherConstantRule))))))
-    unfolding constantFact copied
-    constants-but true const copy shl or = again _ _ a-is-a
-    constants-but false true copy shl or = again _ _ a-is-a
-    constants-but false false true shl or = again _ _ a-is-a
-    constants-but false false false true or = again _ _ a-is-a
-    constants-but false false false false true = again _ _ a-is-a
-    constants-but false false false false false = nothing _
+    constants_but : (int const copy shl or : Bool)
+        → OneConstant (cond int load_int_rule (cond const load_const_rule (cond copy copy_constant_rule (cond false copy_n_constant_rule (cond shl shl_rule (cond or or_rule other_constant_rule))))))
+    unfolding constant_fact copied
+    constants_but true const copy shl or = again _ _ a_is_a
+    constants_but false true copy shl or = again _ _ a_is_a
+    constants_but false false true shl or = again _ _ a_is_a
+    constants_but false false false true or = again _ _ a_is_a
+    constants_but false false false false true = again _ _ a_is_a
+    constants_but false false false false false = nothing _
 
-    one-constant : (op : ℕ) → op ≢ 4 → OneConstant (constantRule op)
-    unfolding constantRule select
-    one-constant op n = rw (ne_eqb op 4 n) (constants-but (eqb op 1) (eqb op 2) (eqb op 3) (eqb op 53) (eqb op 49))
+    one_constant : (op : ℕ) → op ≢ 4 → OneConstant (constant_rule op)
+    unfolding constant_rule select
+    one_constant op n = rw (ne_eqb op 4 n) (constants_but (eqb op 1) (eqb op 2) (eqb op 3) (eqb op 53) (eqb op 49))
 
   abbrev OneIndex : IndexRule → Type 0
-  OneIndex rule = indexFact rule inst slots row slot ≡ target (eqb inst.a slot) (indexFact rule inst slots row inst.a)
+  OneIndex rule = index_fact rule inst slots row slot ≡ target (eqb inst.a slot) (index_fact rule inst slots row inst.a)
 
-  indices-but : (copy : Bool) → OneIndex (cond copy copyIndexRule (cond false copyNIndexRule otherIndexRule))
-  unfolding indexFact copied
-  indices-but true = again _ _ a-is-a
-  indices-but false = nothing _
+  indices_but : (copy : Bool) → OneIndex (cond copy copy_index_rule (cond false copy_n_index_rule other_index_rule))
+  unfolding index_fact copied
+  indices_but true = again _ _ a_is_a
+  indices_but false = nothing _
 
-  one_index : (op : ℕ) → op ≢ 4 → OneIndex (indexRule op)
-  unfolding indexRule select
-  one_index op n = rw (ne_eqb op 4 n) (indices-but (eqb op 3))
+  one_index : (op : ℕ) → op ≢ 4 → OneIndex (index_rule op)
+  unfolding index_rule select
+  one_index op n = rw (ne_eqb op 4 n) (indices_but (eqb op 3))
 
 module _ (sheet : List ℕ) (pc : ℕ) (slots : List ℕ) (row : Row) (slot : ℕ) where
   abbrev OneContainer : ContainerRule → Type 0
-  OneContainer rule = containerFact rule sheet pc slots row slot ≡ target (eqb (instruction sheet pc).a slot) (containerFact rule sheet pc slots row (instruction sheet pc).a)
+  OneContainer rule = container_fact rule sheet pc slots row slot ≡ target (eqb (instruction sheet pc).a slot) (container_fact rule sheet pc slots row (instruction sheet pc).a)
 
-  containers-but : (map queue init copy : Bool)
-      → OneContainer (cond map newRule (cond queue newRule (cond init iterInitRule (cond false iterNextRule (cond copy copyContainerRule (cond false copyNContainerRule otherContainerRule))))))
-  unfolding containerFact copied
-  containers-but true queue init copy = again _ _ (a-is-a (instruction sheet pc) slots row slot)
-  containers-but false true init copy = again _ _ (a-is-a (instruction sheet pc) slots row slot)
-  containers-but false false true copy = again _ _ (a-is-a (instruction sheet pc) slots row slot)
-  containers-but false false false true = again _ _ (a-is-a (instruction sheet pc) slots row slot)
-  containers-but false false false false = nothing _
+  containers_but : (map queue init copy : Bool)
+      → OneContainer (cond map new_rule (cond queue new_rule (cond init iter_init_rule (cond false iter_next_rule (cond copy copy_container_rule (cond false copy_n_container_rule other_container_rule))))))
+  unfolding container_fact copied
+  containers_but true queue init copy = again _ _ (a_is_a (instruction sheet pc) slots row slot)
+  containers_but false true init copy = again _ _ (a_is_a (instruction sheet pc) slots row slot)
+  containers_but false false true copy = again _ _ (a_is_a (instruction sheet pc) slots row slot)
+  containers_but false false false true = again _ _ (a_is_a (instruction sheet pc) slots row slot)
+  containers_but false false false false = nothing _
 
-  one-container : (op : ℕ) → op ≢ 4 → eqb op 95 ≡ false → OneContainer (containerRule op)
-  unfolding containerRule select
-  one-container op n i = rw (ne_eqb op 4 n, i) (containers-but (eqb op 89) (eqb op 96) (eqb op 94) (eqb op 3))
+  one_container : (op : ℕ) → op ≢ 4 → eqb op 95 ≡ false → OneContainer (container_rule op)
+  unfolding container_rule select
+  one_container op n i = rw (ne_eqb op 4 n, i) (containers_but (eqb op 89) (eqb op 96) (eqb op 94) (eqb op 3))
 
-  seven-containers : (op : ℕ) → eqb op 95 ≡ true
-      → containerFact (containerRule op) sheet pc slots row slot ≡ target (in_range slot (instruction sheet pc).b 7) (containerFact (containerRule op) sheet pc slots row (instruction sheet pc).b)
-  unfolding containerRule select containerFact
-  seven-containers op i = rw (eqb-true op 95 i) (again _ _ (first-of-seven (instruction sheet pc).b))
+  seven_containers : (op : ℕ) → eqb op 95 ≡ true
+      → container_fact (container_rule op) sheet pc slots row slot ≡ target (in_range slot (instruction sheet pc).b 7) (container_fact (container_rule op) sheet pc slots row (instruction sheet pc).b)
+  unfolding container_rule select container_fact
+  seven_containers op i = rw (eqb-true op 95 i) (again _ _ (first_of_seven (instruction sheet pc).b))
 
   -- ---- the effect, slot by slot
 
   module _ (which : AnalysisKind) where
     abbrev written : ℕ → Fact
-    written = factWritten which sheet pc slots row
+    written = fact_written which sheet pc slots row
 
-    copied-n : (which : AnalysisKind) → (instruction sheet pc).op ≡ 4
-        → target (in_range slot (instruction sheet pc).a (instruction sheet pc).c) (factFor slots row ((instruction sheet pc).b + (slot - (instruction sheet pc).a))) ≡ factWritten which sheet pc slots row slot
-    unfolding factWritten constantRule constantFact indexRule indexFact containerRule containerFact select copiedN
-    copied-n Constant h = rw h
-    copied-n IndexCheck h = rw h
-    copied-n Container h = rw h
+    copied_n_lem : (which : AnalysisKind) → (instruction sheet pc).op ≡ 4
+        → target (in_range slot (instruction sheet pc).a (instruction sheet pc).c) (fact_for slots row ((instruction sheet pc).b + (slot - (instruction sheet pc).a))) ≡ fact_written which sheet pc slots row slot
+    unfolding fact_written constant_rule constant_fact index_rule index_fact container_rule container_fact select copied_n
+    copied_n_lem Constant h = rw h
+    copied_n_lem IndexCheck h = rw h
+    copied_n_lem Container h = rw h
 
     one_written : (which : AnalysisKind) → (instruction sheet pc).op ≢ 4 → iterates which (instruction sheet pc).op ≡ false
-        → factWritten which sheet pc slots row slot ≡ target (eqb (instruction sheet pc).a slot) (factWritten which sheet pc slots row (instruction sheet pc).a)
-    unfolding factWritten iterates
-    one_written Constant n i = one-constant (instruction sheet pc) slots row slot sheet (instruction sheet pc).op n
+        → fact_written which sheet pc slots row slot ≡ target (eqb (instruction sheet pc).a slot) (fact_written which sheet pc slots row (instruction sheet pc).a)
+    unfolding fact_written iterates
+    one_written Constant n i = one_constant (instruction sheet pc) slots row slot sheet (instruction sheet pc).op n
     one_written IndexCheck n i = one_index (instruction sheet pc) slots row slot (instruction sheet pc).op n
-    one_written Container n i = one-container (instruction sheet pc).op n i
+    one_written Container n i = one_container (instruction sheet pc).op n i
 
-    seven-written : (which : AnalysisKind) → iterates which (instruction sheet pc).op ≡ true
-        → factWritten which sheet pc slots row slot ≡ target (in_range slot (instruction sheet pc).b 7) (factWritten which sheet pc slots row (instruction sheet pc).b)
-    unfolding factWritten iterates
-    seven-written Constant i = absurd (false≢true i)
-    seven-written IndexCheck i = absurd (false≢true i)
-    seven-written Container i = seven-containers (instruction sheet pc).op i
+    seven_written : (which : AnalysisKind) → iterates which (instruction sheet pc).op ≡ true
+        → fact_written which sheet pc slots row slot ≡ target (in_range slot (instruction sheet pc).b 7) (fact_written which sheet pc slots row (instruction sheet pc).b)
+    unfolding fact_written iterates
+    seven_written Constant i = absurd (false≢true i)
+    seven_written IndexCheck i = absurd (false≢true i)
+    seven_written Container i = seven_containers (instruction sheet pc).op i
 
-    by-effect : (copy seven : Bool) → eqb (instruction sheet pc).op 4 ≡ copy → iterates which (instruction sheet pc).op ≡ seven
-        → effectCell (effectBy copy seven which sheet pc slots row) slots row slot ≡ cell_of (written slot)
-    unfolding effectCell effectBy
-    by-effect true seven p q =
-        targeted (in_range slot (instruction sheet pc).a (instruction sheet pc).c) (factFor slots row ((instruction sheet pc).b + (slot - (instruction sheet pc).a))) refl
-        ∙ ap cell_of (copied-n which (eqb-true (instruction sheet pc).op 4 p))
-    by-effect false true p q =
-        targeted (in_range slot (instruction sheet pc).b 7) (written (instruction sheet pc).b) refl ∙ ap cell_of (sym (seven-written which q))
-    by-effect false false p q =
-        ap (λ (t : Bool). targetCell t (cell_of (written (instruction sheet pc).a))) (one-slot slot (instruction sheet pc).a)
+    by_effect : (copy seven : Bool) → eqb (instruction sheet pc).op 4 ≡ copy → iterates which (instruction sheet pc).op ≡ seven
+        → effect_cell (effect_by copy seven which sheet pc slots row) slots row slot ≡ cell_of (written slot)
+    unfolding effect_cell effect_by
+    by_effect true seven p q =
+        targeted (in_range slot (instruction sheet pc).a (instruction sheet pc).c) (fact_for slots row ((instruction sheet pc).b + (slot - (instruction sheet pc).a))) refl
+        ∙ ap cell_of (copied_n_lem which (eqb-true (instruction sheet pc).op 4 p))
+    by_effect false true p q =
+        targeted (in_range slot (instruction sheet pc).b 7) (written (instruction sheet pc).b) refl ∙ ap cell_of (sym (seven_written which q))
+    by_effect false false p q =
+        ap (λ (t : Bool). target_cell t (cell_of (written (instruction sheet pc).a))) (one_slot slot (instruction sheet pc).a)
         ∙ targeted (eqb (instruction sheet pc).a slot) (written (instruction sheet pc).a) refl
         ∙ ap cell_of (sym (one_written which (eqb-false (instruction sheet pc).op 4 p) q))
 
     -- each slot that is written becomes what `model` says of it
-    pub effect-cells : effectCell (effect_of which sheet pc slots row) slots row slot ≡ cell_of (written slot)
+    pub effect_cells : effect_cell (effect_of which sheet pc slots row) slots row slot ≡ cell_of (written slot)
     unfolding effect_of
-    effect-cells = by-effect (eqb (instruction sheet pc).op 4) (iterates which (instruction sheet pc).op) refl refl
+    effect_cells = by_effect (eqb (instruction sheet pc).op 4) (iterates which (instruction sheet pc).op) refl refl
 
 -- ---- what the code finds
 
-at_target : (a : ℕ) {cell r : FactCell} → targetCell (eqb a a) cell ≡ r → cell ≡ r
-unfolding targetCell
+at_target : (a : ℕ) {cell r : FactCell} → target_cell (eqb a a) cell ≡ r → cell ≡ r
+unfolding target_cell
 at_target a e = rw (eq-eqb a a refl) at e
 
 module _ (sheet : List ℕ) (pc : ℕ) (slots : List ℕ) (row : Row) where
   -- an effect of the instruction at pc is found from the instruction read there
-  read-there : (effect : Instruction → Effect) (Asked : Instruction → Type 0) (which : AnalysisKind) (inst : Instruction) → inst ≡ instruction sheet pc
+  read_there : (effect : Instruction → Effect) (Asked : Instruction → Type 0) (which : AnalysisKind) (inst : Instruction) → inst ≡ instruction sheet pc
       → (Asked (instruction sheet pc) → effect (instruction sheet pc) ≡ effect_of which sheet pc slots row) → Asked inst → effect inst ≡ effect_of which sheet pc slots row
-  read-there effect Asked which inst is h = subst (λ (i : Instruction). Asked i → effect i ≡ effect_of which sheet pc slots row) (sym is) h
+  read_there effect Asked which inst is h = subst (λ (i : Instruction). Asked i → effect i ≡ effect_of which sheet pc slots row) (sym is) h
 
   copies : (which : AnalysisKind) → (instruction sheet pc).op ≡ 4
       → Copied (instruction sheet pc).a (instruction sheet pc).c (instruction sheet pc).b ≡ effect_of which sheet pc slots row
-  unfolding effect_of effectBy
+  unfolding effect_of effect_by
   copies which h = rw h
 
   fills : (which : AnalysisKind) → (instruction sheet pc).op ≢ 4 → iterates which (instruction sheet pc).op ≡ false → {cell : FactCell}
-      → cell ≡ cell_of (factWritten which sheet pc slots row (instruction sheet pc).a) → Filled (instruction sheet pc).a 1 cell ≡ effect_of which sheet pc slots row
-  unfolding effect_of effectBy
+      → cell ≡ cell_of (fact_written which sheet pc slots row (instruction sheet pc).a) → Filled (instruction sheet pc).a 1 cell ≡ effect_of which sheet pc slots row
+  unfolding effect_of effect_by
   fills which n i e = rw (ne_eqb (instruction sheet pc).op 4 n, i) (ap (Filled (instruction sheet pc).a 1) e)
 
-  iterated : (op : ℕ) → op ≡ 95 → containerFact (containerRule op) sheet pc slots row (instruction sheet pc).b ≡ iterNext (factFor slots row (instruction sheet pc).b)
-  unfolding containerRule select containerFact target
-  iterated op h = rw (h, first-of-seven (instruction sheet pc).b)
+  iterated : (op : ℕ) → op ≡ 95 → container_fact (container_rule op) sheet pc slots row (instruction sheet pc).b ≡ iter_next (fact_for slots row (instruction sheet pc).b)
+  unfolding container_rule select container_fact target
+  iterated op h = rw (h, first_of_seven (instruction sheet pc).b)
 
-  fills-seven : (instruction sheet pc).op ≡ 95 → {cell : FactCell} → cell ≡ cell_of (iterNext (factFor slots row (instruction sheet pc).b))
+  fills_seven : (instruction sheet pc).op ≡ 95 → {cell : FactCell} → cell ≡ cell_of (iter_next (fact_for slots row (instruction sheet pc).b))
       → Filled (instruction sheet pc).b 7 cell ≡ effect_of Container sheet pc slots row
-  unfolding effect_of effectBy iterates factWritten
-  fills-seven h {cell} e =
+  unfolding effect_of effect_by iterates fact_written
+  fills_seven h {cell} e =
       rw (ne_eqb (instruction sheet pc).op 4 (λ q. omega arith), eq-eqb (instruction sheet pc).op 95 h)
       (ap (Filled (instruction sheet pc).b 7) (e ∙ ap cell_of (sym (iterated (instruction sheet pc).op h))))
 
   module _ (inst : Instruction) (is : inst ≡ instruction sheet pc) where
     -- CopyN
-    pub copies-n : (which : AnalysisKind) → inst.op ≡ 4 → Copied inst.a inst.c inst.b ≡ effect_of which sheet pc slots row
-    copies-n which = read-there (λ i. Copied i.a i.c i.b) (λ i. i.op ≡ 4) which inst is (copies which)
+    pub copies_n : (which : AnalysisKind) → inst.op ≡ 4 → Copied inst.a inst.c inst.b ≡ effect_of which sheet pc slots row
+    copies_n which = read_there (λ i. Copied i.a i.c i.b) (λ i. i.op ≡ 4) which inst is (copies which)
 
-    pub constant-effect : {which : AnalysisKind} → which ≡ Constant → inst.op ≢ 4 → {cell : FactCell}
-        → ((slot : ℕ) → targetCell (eqb inst.a slot) cell ≡ cell_of (constantFact (constantRule inst.op) sheet inst slots row slot))
+    pub constant_effect : {which : AnalysisKind} → which ≡ Constant → inst.op ≢ 4 → {cell : FactCell}
+        → ((slot : ℕ) → target_cell (eqb inst.a slot) cell ≡ cell_of (constant_fact (constant_rule inst.op) sheet inst slots row slot))
         → Filled inst.a 1 cell ≡ effect_of which sheet pc slots row
-    unfolding iterates factWritten
-    constant-effect w n {cell} e =
+    unfolding iterates fact_written
+    constant_effect w n {cell} e =
         rw w
-        (read-there (λ i. Filled i.a 1 cell)
-        (λ i. (i.op ≢ 4) × ((slot : ℕ) → targetCell (eqb i.a slot) cell ≡ cell_of (constantFact (constantRule i.op) sheet i slots row slot))) Constant inst is
+        (read_there (λ i. Filled i.a 1 cell)
+        (λ i. (i.op ≢ 4) × ((slot : ℕ) → target_cell (eqb i.a slot) cell ≡ cell_of (constant_fact (constant_rule i.op) sheet i slots row slot))) Constant inst is
         (λ h. fills Constant h.0 refl (at_target (instruction sheet pc).a (h.1 (instruction sheet pc).a))) (n, e))
 
-    pub index-effect : {which : AnalysisKind} → which ≡ IndexCheck → inst.op ≢ 4 → {cell : FactCell}
-        → ((slot : ℕ) → targetCell (eqb inst.a slot) cell ≡ cell_of (indexFact (indexRule inst.op) inst slots row slot))
+    pub index_effect : {which : AnalysisKind} → which ≡ IndexCheck → inst.op ≢ 4 → {cell : FactCell}
+        → ((slot : ℕ) → target_cell (eqb inst.a slot) cell ≡ cell_of (index_fact (index_rule inst.op) inst slots row slot))
         → Filled inst.a 1 cell ≡ effect_of which sheet pc slots row
-    unfolding iterates factWritten
-    index-effect w n {cell} e =
+    unfolding iterates fact_written
+    index_effect w n {cell} e =
         rw w
-        (read-there (λ i. Filled i.a 1 cell)
-        (λ i. (i.op ≢ 4) × ((slot : ℕ) → targetCell (eqb i.a slot) cell ≡ cell_of (indexFact (indexRule i.op) i slots row slot))) IndexCheck inst is
+        (read_there (λ i. Filled i.a 1 cell)
+        (λ i. (i.op ≢ 4) × ((slot : ℕ) → target_cell (eqb i.a slot) cell ≡ cell_of (index_fact (index_rule i.op) i slots row slot))) IndexCheck inst is
         (λ h. fills IndexCheck h.0 refl (at_target (instruction sheet pc).a (h.1 (instruction sheet pc).a))) (n, e))
 
-    pub container-effect : inst.op ≢ 95 → inst.op ≢ 4 → {cell : FactCell}
-        → ((slot : ℕ) → targetCell (eqb inst.a slot) cell ≡ cell_of (containerFact (containerRule inst.op) sheet pc slots row slot))
+    pub container_effect : inst.op ≢ 95 → inst.op ≢ 4 → {cell : FactCell}
+        → ((slot : ℕ) → target_cell (eqb inst.a slot) cell ≡ cell_of (container_fact (container_rule inst.op) sheet pc slots row slot))
         → Filled inst.a 1 cell ≡ effect_of Container sheet pc slots row
-    unfolding iterates factWritten
-    container-effect m n {cell} e =
-        read-there (λ i. Filled i.a 1 cell)
-        (λ i. (i.op ≢ 95) × (i.op ≢ 4) × ((slot : ℕ) → targetCell (eqb i.a slot) cell ≡ cell_of (containerFact (containerRule i.op) sheet pc slots row slot))) Container inst is
+    unfolding iterates fact_written
+    container_effect m n {cell} e =
+        read_there (λ i. Filled i.a 1 cell)
+        (λ i. (i.op ≢ 95) × (i.op ≢ 4) × ((slot : ℕ) → target_cell (eqb i.a slot) cell ≡ cell_of (container_fact (container_rule i.op) sheet pc slots row slot))) Container inst is
         (λ h. fills Container h.1 (ne_eqb (instruction sheet pc).op 95 h.0) (at_target (instruction sheet pc).a (h.2 (instruction sheet pc).a))) (m, n, e)
 
     -- MapIterNext
-    pub iterates-on : inst.op ≡ 95 → {cell : FactCell} → cell ≡ cell_of (iterNext (factFor slots row inst.b)) → Filled inst.b 7 cell ≡ effect_of Container sheet pc slots row
-    iterates-on h {cell} e =
-        read-there (λ i. Filled i.b 7 cell) (λ i. (i.op ≡ 95) × (cell ≡ cell_of (iterNext (factFor slots row i.b)))) Container inst is
-        (λ h. fills-seven h.0 h.1) (h, e)
+    pub iterates_on : inst.op ≡ 95 → {cell : FactCell} → cell ≡ cell_of (iter_next (fact_for slots row inst.b)) → Filled inst.b 7 cell ≡ effect_of Container sheet pc slots row
+    iterates_on h {cell} e =
+        read_there (λ i. Filled i.b 7 cell) (λ i. (i.op ≡ 95) × (cell ≡ cell_of (iter_next (fact_for slots row i.b)))) Container inst is
+        (λ h. fills_seven h.0 h.1) (h, e)

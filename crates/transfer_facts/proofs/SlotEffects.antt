@@ -9,19 +9,19 @@ use lib.Dec.{leb, ltb, eqb}
 use borrow.Author.Tests.{ltb-true, ltb-false, lt-ltb, le-ltb, le-leb, lt-leb, eq-eqb, ne_eqb}
 use Rattle.model.specs.Fact.{unknown, Row}
 use Rattle.model.specs.Tables.{cell_of}
-use Rattle.model.specs.Transfer.{factFor}
+use Rattle.model.specs.Transfer.{fact_for}
 use Rattle.model.specs.Written.{in_range}
 use Rattle.model.specs.declared.FactCell.{FactCell}
-use Rattle.transfer_written.proofs.RangeTests.{starts-before, from_start}
-use Rattle.fact_row.specs.Target.{targetCell}
-use Rattle.transfer_facts.specs.Effect.{effectCell}
+use Rattle.transfer_written.proofs.RangeTests.{starts_before, from_start}
+use Rattle.fact_row.specs.Target.{target_cell}
+use Rattle.transfer_facts.specs.Effect.{effect_cell}
 use Rattle.transfer_facts.specs.declared.Effect.{Effect}
 use Rattle.transfer_facts.specs.declared.Effect.TheVariants.{Filled, Copied}
 
 -- a range of one slot
-pub one-slot : (slot a : ℕ) → in_range slot a 1 ≡ eqb a slot
+pub one_slot : (slot a : ℕ) → in_range slot a 1 ≡ eqb a slot
 unfolding in_range
-one-slot slot a = go (ltb slot a) refl (ltb a slot) refl
+one_slot slot a = go (ltb slot a) refl (ltb a slot) refl
   where
     go : (t : Bool) → ltb slot a ≡ t → (u : Bool) → ltb a slot ≡ u → (leb a slot && ltb slot (a + 1)) ≡ eqb a slot
     go true p u q = rw (lt-leb a slot (ltb-true slot a p), ne_eqb a slot (λ e. omega (arith, ltb-true slot a p)))
@@ -40,38 +40,38 @@ one-slot slot a = go (ltb slot a) refl (ltb a slot) refl
 
 module _ (slots : List ℕ) (row : Row) (slot : ℕ) where
   module _ (start count : ℕ) where
-    outside : slot < start → targetCell (in_range slot start count) ≡ targetCell false
-    outside h = ap targetCell (sym (starts-before slot start count h))
+    outside : slot < start → target_cell (in_range slot start count) ≡ target_cell false
+    outside h = ap target_cell (sym (starts_before slot start count h))
 
-    past : start ≤ slot → count ≤ slot - start → targetCell (in_range slot start count) ≡ targetCell false
-    past h l = ap targetCell (sym (from_start slot start count h) ∙ le-ltb (slot - start) count l)
+    past : start ≤ slot → count ≤ slot - start → target_cell (in_range slot start count) ≡ target_cell false
+    past h l = ap target_cell (sym (from_start slot start count h) ∙ le-ltb (slot - start) count l)
 
-    inside : start ≤ slot → slot - start < count → targetCell (in_range slot start count) ≡ targetCell true
-    inside h l = ap targetCell (sym (from_start slot start count h) ∙ lt-ltb (slot - start) count l)
+    inside : start ≤ slot → slot - start < count → target_cell (in_range slot start count) ≡ target_cell true
+    inside h l = ap target_cell (sym (from_start slot start count h) ∙ lt-ltb (slot - start) count l)
 
     module _ (effect : Effect) where
       module _ (cell : FactCell) (is : effect ≡ Filled start count cell) where
-        pub filled-outside : slot < start → {r : FactCell} → r ≡ cell_of unknown → r ≡ effectCell effect slots row slot
-        unfolding effectCell targetCell
-        filled-outside h e = rw (is, outside h) e
+        pub filled_outside : slot < start → {r : FactCell} → r ≡ cell_of unknown → r ≡ effect_cell effect slots row slot
+        unfolding effect_cell target_cell
+        filled_outside h e = rw (is, outside h) e
 
-        pub filled-past : start ≤ slot → count ≤ slot - start → {r : FactCell} → r ≡ cell_of unknown → r ≡ effectCell effect slots row slot
-        unfolding effectCell targetCell
-        filled-past h l e = rw (is, past h l) e
+        pub filled_past : start ≤ slot → count ≤ slot - start → {r : FactCell} → r ≡ cell_of unknown → r ≡ effect_cell effect slots row slot
+        unfolding effect_cell target_cell
+        filled_past h l e = rw (is, past h l) e
 
-        pub filled-inside : start ≤ slot → slot - start < count → cell ≡ effectCell effect slots row slot
-        unfolding effectCell targetCell
-        filled-inside h l = rw (is, inside h l)
+        pub filled_inside : start ≤ slot → slot - start < count → cell ≡ effect_cell effect slots row slot
+        unfolding effect_cell target_cell
+        filled_inside h l = rw (is, inside h l)
 
       module _ (from : ℕ) (is : effect ≡ Copied start count from) where
-        pub copied-outside : slot < start → {r : FactCell} → r ≡ cell_of unknown → r ≡ effectCell effect slots row slot
-        unfolding effectCell targetCell
-        copied-outside h e = rw (is, outside h) e
+        pub copied_outside : slot < start → {r : FactCell} → r ≡ cell_of unknown → r ≡ effect_cell effect slots row slot
+        unfolding effect_cell target_cell
+        copied_outside h e = rw (is, outside h) e
 
-        pub copied-past : start ≤ slot → count ≤ slot - start → {r : FactCell} → r ≡ cell_of unknown → r ≡ effectCell effect slots row slot
-        unfolding effectCell targetCell
-        copied-past h l e = rw (is, past h l) e
+        pub copied_past : start ≤ slot → count ≤ slot - start → {r : FactCell} → r ≡ cell_of unknown → r ≡ effect_cell effect slots row slot
+        unfolding effect_cell target_cell
+        copied_past h l e = rw (is, past h l) e
 
-        pub copied-inside : start ≤ slot → slot - start < count → (source : ℕ) → source ≡ from + (slot - start) → {r : FactCell} → r ≡ cell_of (factFor slots row source) → r ≡ effectCell effect slots row slot
-        unfolding effectCell targetCell
-        copied-inside h l source q e = rw (is, inside h l, ← q) e
+        pub copied_inside : start ≤ slot → slot - start < count → (source : ℕ) → source ≡ from + (slot - start) → {r : FactCell} → r ≡ cell_of (fact_for slots row source) → r ≡ effect_cell effect slots row slot
+        unfolding effect_cell target_cell
+        copied_inside h l source q e = rw (is, inside h l, ← q) e

@@ -1,10 +1,10 @@
 // What the constant analysis knows of a slot that an instruction writes.
 ghost use Rattle.std.specs.Prelude.{◌≡◌, ℕ, ◌+◌, ◌*◌, ◌<◌, eqb};
 ghost use Rattle.model.specs.Successors.{signed, imm32};
-ghost use Rattle.model.specs.Tables.{factIn, cell_of, facts_of};
-ghost use Rattle.model.specs.Transfer.{integer, loadConst, foldBinary, u64Fact, shl, or, constantRule, constantFact};
+ghost use Rattle.model.specs.Tables.{fact_in, cell_of, facts_of};
+ghost use Rattle.model.specs.Transfer.{integer, load_const, fold_binary, u64_fact, shl, or, constant_rule, constant_fact};
 ghost use Rattle.sheet.specs.Measured.{Measured};
-ghost use Rattle.fact_row.specs.Target.{targetCell};
+ghost use Rattle.fact_row.specs.Target.{target_cell};
 ghost use Rattle.fact_row.specs.Rows.{ReadableRow};
 
 use crate::{COPY, LOAD_CONST, LOAD_INT, OR, SHL};
@@ -42,7 +42,7 @@ fn imm32_bits(inst: Instruction) -> u64
 // LoadConst of an integer constant; any other, and a number from k up, is Unknown.
 fn load_const_cell(sheet: &[u8], sizes: Sizes, i: usize) -> FactCell
     requires { Measured sheet.now sizes }
-    ensures { result ≡ cell_of (loadConst sheet.now i) }
+    ensures { result ≡ cell_of (load_const sheet.now i) }
 {
     if sizes.constant_count <= i {
         return unknown_cell();
@@ -55,7 +55,7 @@ fn load_const_cell(sheet: &[u8], sizes: Sizes, i: usize) -> FactCell
 
 // Shl of two facts "from 0 to 2^64 − 1"; a shift by 64 or more is Unknown.
 fn shl_cell(x: FactCell, y: FactCell) -> FactCell
-    ensures { result ≡ cell_of (foldBinary shl (u64Fact (factIn x)) (u64Fact (factIn y))) }
+    ensures { result ≡ cell_of (fold_binary shl (u64_fact (fact_in x)) (u64_fact (fact_in y))) }
 {
     if x.kind != 2 {
         return unknown_cell();
@@ -74,7 +74,7 @@ fn shl_cell(x: FactCell, y: FactCell) -> FactCell
 
 // Or of two facts "from 0 to 2^64 − 1".
 fn or_cell(left: FactCell, right: FactCell) -> FactCell
-    ensures { result ≡ cell_of (foldBinary or (u64Fact (factIn left)) (u64Fact (factIn right))) }
+    ensures { result ≡ cell_of (fold_binary or (u64_fact (fact_in left)) (u64_fact (fact_in right))) }
 {
     if left.kind != 2 {
         return unknown_cell();
@@ -98,8 +98,8 @@ pub fn constant_fact_written_to_slot(
     inst: Instruction,
 ) -> FactCell
     requires { Measured sheet.now sizes × ReadableRow slots.now kinds.now values.now × (inst.op ≡ 4 → ⊥) }
-    ensures { ((slot : ℕ) → targetCell (eqb inst.a slot) result
-        ≡ cell_of (constantFact (constantRule inst.op) sheet.now inst slots.now (facts_of kinds.now values.now) slot)) }
+    ensures { ((slot : ℕ) → target_cell (eqb inst.a slot) result
+        ≡ cell_of (constant_fact (constant_rule inst.op) sheet.now inst slots.now (facts_of kinds.now values.now) slot)) }
 {
     let op = inst.op;
     if op == LOAD_INT {

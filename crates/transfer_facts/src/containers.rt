@@ -1,10 +1,10 @@
 // What the container analysis knows of a slot that an instruction writes.
 ghost use Rattle.std.specs.Prelude.{◌≡◌, ℕ, ◌<◌, eqb};
 ghost use Rattle.model.specs.Sheet.{instruction};
-ghost use Rattle.model.specs.Tables.{factIn, cell_of, facts_of};
-ghost use Rattle.model.specs.Transfer.{iterInit, iterNext, containerRule, containerFact};
+ghost use Rattle.model.specs.Tables.{fact_in, cell_of, facts_of};
+ghost use Rattle.model.specs.Transfer.{iter_init, iter_next, container_rule, container_fact};
 ghost use Rattle.sheet.specs.Measured.{Measured};
-ghost use Rattle.fact_row.specs.Target.{targetCell};
+ghost use Rattle.fact_row.specs.Target.{target_cell};
 ghost use Rattle.fact_row.specs.Rows.{ReadableRow};
 
 use crate::{COPY, MAP_ITER_INIT};
@@ -14,7 +14,7 @@ use sheet::Sizes;
 
 // MapIterInit's fact from b's: a map or an iterator gives the iterator, Conflict stays, a queue gives Unknown.
 fn iter_init_cell(cell: FactCell) -> FactCell
-    ensures { result ≡ cell_of (iterInit (factIn cell)) }
+    ensures { result ≡ cell_of (iter_init (fact_in cell)) }
 {
     let kind = cell.kind;
     if kind == 2 {
@@ -28,7 +28,7 @@ fn iter_init_cell(cell: FactCell) -> FactCell
 
 // MapIterNext's fact from b's: an iterator and Conflict stay, a map and a queue give Unknown.
 pub fn iter_next_cell(cell: FactCell) -> FactCell
-    ensures { result ≡ cell_of (iterNext (factIn cell)) }
+    ensures { result ≡ cell_of (iter_next (fact_in cell)) }
 {
     let kind = cell.kind;
     if kind == 1 {
@@ -54,9 +54,9 @@ pub fn container_fact_written_to_slot(
     inst: Instruction,
 ) -> FactCell
     requires measured { Measured sheet.now sizes × ReadableRow slots.now kinds.now values.now × (pc < sizes.code_count) × (inst ≡ instruction sheet.now pc) }
-    requires fact { (inst.op ≡ 4 → ⊥) × (inst.op ≡ 95 → ⊥) }
-    ensures { ((slot : ℕ) → targetCell (eqb inst.a slot) result
-        ≡ cell_of (containerFact (containerRule inst.op) sheet.now pc slots.now (facts_of kinds.now values.now) slot)) }
+    requires other_opcode { (inst.op ≡ 4 → ⊥) × (inst.op ≡ 95 → ⊥) }
+    ensures { ((slot : ℕ) → target_cell (eqb inst.a slot) result
+        ≡ cell_of (container_fact (container_rule inst.op) sheet.now pc slots.now (facts_of kinds.now values.now) slot)) }
 {
     let op = inst.op;
     if op == COPY {

@@ -4,7 +4,7 @@ ghost use Rattle.model.specs.Sheet.{instruction};
 ghost use Rattle.model.specs.Tables.{facts_of};
 ghost use Rattle.model.specs.declared.AnalysisKind.TheVariants.{Container};
 ghost use Rattle.sheet.specs.Measured.{Measured};
-ghost use Rattle.transfer_facts.specs.Effect.{effectCell, effect_of};
+ghost use Rattle.transfer_facts.specs.Effect.{effect_cell, effect_of};
 ghost use Rattle.fact_row.specs.Rows.{ReadableRow};
 
 use crate::Effect;
@@ -31,7 +31,7 @@ fn container_effect(
     inst: Instruction,
 ) -> Effect
     requires measured { Measured sheet.now sizes × ReadableRow slots.now kinds.now values.now × (pc < sizes.code_count) × (inst ≡ instruction sheet.now pc) }
-    requires fact { inst.op ≡ 4 → ⊥ }
+    requires other_opcode { inst.op ≡ 4 → ⊥ }
     ensures { result ≡ effect_of Container sheet.now pc slots.now (facts_of kinds.now values.now) }
 {
     if inst.op == MAP_ITER_NEXT {
@@ -103,7 +103,7 @@ pub fn effect_on_slot(
     slot: u16,
 ) -> FactCell
     requires { ReadableRow slots.now kinds.now values.now }
-    ensures { result ≡ effectCell effect slots.now (facts_of kinds.now values.now) slot }
+    ensures { result ≡ effect_cell effect slots.now (facts_of kinds.now values.now) slot }
 {
     match effect {
         Effect::Filled { start, count, cell } => {

@@ -1,8 +1,8 @@
 // What the index analysis knows of a slot that an instruction writes.
 ghost use Rattle.std.specs.Prelude.{◌≡◌, ℕ, eqb};
 ghost use Rattle.model.specs.Tables.{cell_of, facts_of};
-ghost use Rattle.model.specs.Transfer.{indexRule, indexFact};
-ghost use Rattle.fact_row.specs.Target.{targetCell};
+ghost use Rattle.model.specs.Transfer.{index_rule, index_fact};
+ghost use Rattle.fact_row.specs.Target.{target_cell};
 ghost use Rattle.fact_row.specs.Rows.{ReadableRow};
 
 use fact_row::{fact_for_tracked_source, unknown_cell, wide};
@@ -19,8 +19,8 @@ pub fn index_check_fact_written_to_slot(
     inst: Instruction,
 ) -> FactCell
     requires { ReadableRow slots.now kinds.now values.now × (inst.op ≡ 4 → ⊥) }
-    ensures { ((slot : ℕ) → targetCell (eqb inst.a slot) result
-        ≡ cell_of (indexFact (indexRule inst.op) inst slots.now (facts_of kinds.now values.now) slot)) }
+    ensures { ((slot : ℕ) → target_cell (eqb inst.a slot) result
+        ≡ cell_of (index_fact (index_rule inst.op) inst slots.now (facts_of kinds.now values.now) slot)) }
 {
     if inst.op == COPY {
         return fact_for_tracked_source(slots, kinds, values, wide(inst.b));

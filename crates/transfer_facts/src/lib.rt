@@ -1,6 +1,8 @@
 // What the constant analysis knows of a slot that an instruction writes.
 // What the container analysis knows of a slot that an instruction writes.
 // "Transfers": what the slots that an instruction writes become.
+#![tactic(auto)]
+
 mod constants;
 mod containers;
 mod effects;
@@ -26,7 +28,7 @@ const MAP_ITER_INIT: u8 = 94;
 
 // What the slots that an instruction writes become, as far as it can be found before any slot is asked: the slots of a range become one
 // fact, or the facts of as many slots from another on; "any other written slot becomes Unknown".
-#[derive(Drop)]
+#[derive(Clone, Copy)]
 pub enum Effect {
     Filled {
         start: u16,

@@ -7,33 +7,33 @@ use mathlib.Core.List.{List}
 use Prim.Native.Nat.{ℕ}
 use lib.Dec.{ltb}
 use borrow.Author.Tests.{eq-eqb, ne_eqb}
-use Rattle.model.specs.Sheet.{instruction, noteKind, noteA, layoutLength}
-use Rattle.model.specs.Written.{slotLayoutNote, hasElements, noteElemSlots}
+use Rattle.model.specs.Sheet.{instruction, note_kind, note_a, layout_length}
+use Rattle.model.specs.Written.{slot_layout_note, has_elements, note_elem_slots}
 use Rattle.model.specs.declared.Instruction.{Instruction}
 
-module _ (sheet : List ℕ) (pc kind : ℕ) (is : kind ≡ noteKind sheet pc) where
+module _ (sheet : List ℕ) (pc kind : ℕ) (is : kind ≡ note_kind sheet pc) where
   module _ (h : kind ≡ 3) where
-    note : slotLayoutNote sheet pc ≡ true
-    unfolding slotLayoutNote
-    note = eq-eqb (noteKind sheet pc) 3 (sym is ∙ h)
+    note : slot_layout_note sheet pc ≡ true
+    unfolding slot_layout_note
+    note = eq-eqb (note_kind sheet pc) 3 (sym is ∙ h)
 
-    pub elements : (len : ℕ) → len ≡ layoutLength sheet (noteA sheet pc) → ltb 0 len ≡ hasElements (slotLayoutNote sheet pc) sheet pc
-    unfolding hasElements
+    pub elements : (len : ℕ) → len ≡ layout_length sheet (note_a sheet pc) → ltb 0 len ≡ has_elements (slot_layout_note sheet pc) sheet pc
+    unfolding has_elements
     elements len e = rw (note, e)
 
-    pub note-elements : (len : ℕ) → len ≡ layoutLength sheet (noteA sheet pc) → len ≡ noteElemSlots (slotLayoutNote sheet pc) sheet pc
-    unfolding noteElemSlots
-    note-elements len e = rw (note, e)
+    pub note_elements : (len : ℕ) → len ≡ layout_length sheet (note_a sheet pc) → len ≡ note_elem_slots (slot_layout_note sheet pc) sheet pc
+    unfolding note_elem_slots
+    note_elements len e = rw (note, e)
 
   module _ (h : kind ≢ 3) where
-    no_note : slotLayoutNote sheet pc ≡ false
-    unfolding slotLayoutNote
-    no_note = ne_eqb (noteKind sheet pc) 3 (λ q. h (is ∙ q))
+    no_note : slot_layout_note sheet pc ≡ false
+    unfolding slot_layout_note
+    no_note = ne_eqb (note_kind sheet pc) 3 (λ q. h (is ∙ q))
 
-    pub no-elements : false ≡ hasElements (slotLayoutNote sheet pc) sheet pc
-    unfolding hasElements
-    no-elements = rw no_note
+    pub no_elements : false ≡ has_elements (slot_layout_note sheet pc) sheet pc
+    unfolding has_elements
+    no_elements = rw no_note
 
-    pub flag-elements : (inst : Instruction) → inst ≡ instruction sheet pc → inst.flags ≡ noteElemSlots (slotLayoutNote sheet pc) sheet pc
-    unfolding noteElemSlots
-    flag-elements inst e = rw no_note (ap (λ (x : Instruction). x.flags) e)
+    pub flag_elements : (inst : Instruction) → inst ≡ instruction sheet pc → inst.flags ≡ note_elem_slots (slot_layout_note sheet pc) sheet pc
+    unfolding note_elem_slots
+    flag_elements inst e = rw no_note (ap (λ (x : Instruction). x.flags) e)

@@ -10,9 +10,9 @@ use borrow.Author.Tests.{ltb-true, ltb-false, lt-ltb, le-ltb, le-leb, lt-leb}
 use Rattle.model.specs.Written.{in_range}
 
 -- a slot before the start
-pub starts-before : (slot start count : ℕ) → slot < start → false ≡ in_range slot start count
+pub starts_before : (slot start count : ℕ) → slot < start → false ≡ in_range slot start count
 unfolding in_range
-starts-before slot start count h = rw (lt-leb start slot h)
+starts_before slot start count h = rw (lt-leb start slot h)
 
 -- one from the start on, by its offset
 pub from_start : (slot start count : ℕ) → start ≤ slot → ltb (slot - start) count ≡ in_range slot start count
@@ -33,8 +33,8 @@ enough slot start len (suc elem) h k =
     ∙ sym (lt-ltb slot (start + len * suc elem) (omega (arith, mul-le-mul_left {m = 1} {n = suc elem} len (omega arith)))))
 
 -- and so as far as all of them
-pub span-reaches : (len elem slot start : ℕ) → slot < 65536 → in_range slot start (min len 65536 * elem) ≡ in_range slot start (len * elem)
-span-reaches len elem slot start h = by (ltb len 65536) refl
+pub span_reaches : (len elem slot start : ℕ) → slot < 65536 → in_range slot start (min len 65536 * elem) ≡ in_range slot start (len * elem)
+span_reaches len elem slot start h = by (ltb len 65536) refl
   where
     by : (t : Bool) → ltb len 65536 ≡ t → in_range slot start (min len 65536 * elem) ≡ in_range slot start (len * elem)
     by true q = let few : min len 65536 ≡ len = omega (arith, ltb-true len 65536 q) in rw few

@@ -2,62 +2,62 @@
 -- Assumes nothing.
 use Rattle.std.specs.Prelude.{Bool, true, false, List, ℕ, ◌*◌, min}
 use Rattle.model.specs.Fact.{Fact, unknown, conflict, known, Row}
-use Rattle.model.specs.Sheet.{instruction, writeCount, erred, firstRange}
-use Rattle.model.specs.Transfer.{factFor}
-use Rattle.model.specs.Written.{slotLayoutNote, hasElements, noteElemSlots, Writes, slotSet, slotSetN, byRanges, writes, written, indexWritten}
+use Rattle.model.specs.Sheet.{instruction, write_count, erred, first_range}
+use Rattle.model.specs.Transfer.{fact_for}
+use Rattle.model.specs.Written.{slot_layout_note, has_elements, note_elem_slots, Writes, slot_set, slot_set_n, by_ranges, writes, written, index_written}
 use Rattle.model.specs.declared.AnalysisKind.{AnalysisKind}
 use Rattle.model.specs.declared.AnalysisKind.TheVariants.{Constant, IndexCheck, Container}
 use Rattle.transfer_written.specs.declared.Written.{Written}
 use Rattle.transfer_written.specs.declared.Written.TheVariants.{Span, Ranges}
 
 -- "For all other opcodes the ranges decide .., and an erring visitor writes all.": 65,536 slots are all
-unfoldable pub rangeSpans : Bool → List ℕ → ℕ → Written
-rangeSpans true sheet pc = Span 0 65536
-rangeSpans false sheet pc = Ranges (firstRange sheet pc) (writeCount sheet pc)
+unfoldable pub range_spans : Bool → List ℕ → ℕ → Written
+range_spans true sheet pc = Span 0 65536
+range_spans false sheet pc = Ranges (first_range sheet pc) (write_count sheet pc)
 
 -- every slot from a up, or "nothing"
-unfoldable pub elementSpans : Bool → List ℕ → ℕ → Written
-elementSpans true sheet pc = Span (instruction sheet pc).a 65536
-elementSpans false sheet pc = Span 0 0
+unfoldable pub element_spans : Bool → List ℕ → ℕ → Written
+element_spans true sheet pc = Span (instruction sheet pc).a 65536
+element_spans false sheet pc = Span 0 0
 
 -- "SlotSet writes every slot from a up. SlotSetN does so with a SlotLayout note whose layout is not empty, and else writes nothing."
-unfoldable pub spansBy : Writes → List ℕ → ℕ → Written
-spansBy slotSet sheet pc = Span (instruction sheet pc).a 65536
-spansBy slotSetN sheet pc = elementSpans (hasElements (slotLayoutNote sheet pc) sheet pc) sheet pc
-spansBy byRanges sheet pc = rangeSpans (erred sheet pc) sheet pc
+unfoldable pub spans_by : Writes → List ℕ → ℕ → Written
+spans_by slot_set sheet pc = Span (instruction sheet pc).a 65536
+spans_by slot_set_n sheet pc = element_spans (has_elements (slot_layout_note sheet pc) sheet pc) sheet pc
+spans_by by_ranges sheet pc = range_spans (erred sheet pc) sheet pc
 
 -- in the constant and container analyses
 unfoldable pub spans : List ℕ → ℕ → Written
-spans sheet pc = spansBy (writes (instruction sheet pc).op) sheet pc
+spans sheet pc = spans_by (writes (instruction sheet pc).op) sheet pc
 
 -- "SlotSet and SlotSetN whose b is Checked len write exactly a up to a + len × e", of no more than 65,536 elements; `before` is b's fact
-unfoldable pub indexSpansBy : Writes → Fact → List ℕ → ℕ → Written
-indexSpansBy slotSet (known k len) sheet pc = Span (instruction sheet pc).a (min len 65536 * 1)
-indexSpansBy slotSet unknown sheet pc = spans sheet pc
-indexSpansBy slotSet conflict sheet pc = spans sheet pc
-indexSpansBy slotSetN (known k len) sheet pc = Span (instruction sheet pc).a (min len 65536 * noteElemSlots (slotLayoutNote sheet pc) sheet pc)
-indexSpansBy slotSetN unknown sheet pc = spans sheet pc
-indexSpansBy slotSetN conflict sheet pc = spans sheet pc
-indexSpansBy byRanges before sheet pc = spans sheet pc
+unfoldable pub index_spans_by : Writes → Fact → List ℕ → ℕ → Written
+index_spans_by slot_set (known k len) sheet pc = Span (instruction sheet pc).a (min len 65536 * 1)
+index_spans_by slot_set unknown sheet pc = spans sheet pc
+index_spans_by slot_set conflict sheet pc = spans sheet pc
+index_spans_by slot_set_n (known k len) sheet pc = Span (instruction sheet pc).a (min len 65536 * note_elem_slots (slot_layout_note sheet pc) sheet pc)
+index_spans_by slot_set_n unknown sheet pc = spans sheet pc
+index_spans_by slot_set_n conflict sheet pc = spans sheet pc
+index_spans_by by_ranges before sheet pc = spans sheet pc
 
 -- "In the index analysis"
-unfoldable pub indexSpans : List ℕ → ℕ → Fact → Written
-indexSpans sheet pc before = indexSpansBy (writes (instruction sheet pc).op) before sheet pc
+unfoldable pub index_spans : List ℕ → ℕ → Fact → Written
+index_spans sheet pc before = index_spans_by (writes (instruction sheet pc).op) before sheet pc
 
 -- b's fact where it says how many elements are written
-unfoldable pub elementsFact : Writes → Fact → Fact
-elementsFact slotSet before = before
-elementsFact slotSetN before = before
-elementsFact byRanges before = unknown
+unfoldable pub elements_fact : Writes → Fact → Fact
+elements_fact slot_set before = before
+elements_fact slot_set_n before = before
+elements_fact by_ranges before = unknown
 
 -- in one of the analyses
-unfoldable pub slotsWritten : AnalysisKind → List ℕ → ℕ → List ℕ → Row → Written
-slotsWritten Constant sheet pc slots row = spans sheet pc
-slotsWritten IndexCheck sheet pc slots row = indexSpans sheet pc (factFor slots row (instruction sheet pc).b)
-slotsWritten Container sheet pc slots row = spans sheet pc
+unfoldable pub slots_written : AnalysisKind → List ℕ → ℕ → List ℕ → Row → Written
+slots_written Constant sheet pc slots row = spans sheet pc
+slots_written IndexCheck sheet pc slots row = index_spans sheet pc (fact_for slots row (instruction sheet pc).b)
+slots_written Container sheet pc slots row = spans sheet pc
 
 -- whether the instruction at pc writes the slot, in one of the analyses
-unfoldable pub slotWritten : AnalysisKind → List ℕ → ℕ → List ℕ → Row → ℕ → Bool
-slotWritten Constant sheet pc slots row slot = written sheet pc slot
-slotWritten IndexCheck sheet pc slots row slot = indexWritten sheet pc (factFor slots row (instruction sheet pc).b) slot
-slotWritten Container sheet pc slots row slot = written sheet pc slot
+unfoldable pub slot_written : AnalysisKind → List ℕ → ℕ → List ℕ → Row → ℕ → Bool
+slot_written Constant sheet pc slots row slot = written sheet pc slot
+slot_written IndexCheck sheet pc slots row slot = index_written sheet pc (fact_for slots row (instruction sheet pc).b) slot
+slot_written Container sheet pc slots row slot = written sheet pc slot

@@ -1,7 +1,7 @@
 // The elements of SlotSetN, by its note.
 ghost use Rattle.std.specs.Prelude.{◌≡◌, ◌<◌};
-ghost use Rattle.model.specs.Sheet.{instruction, noteA, layoutLength};
-ghost use Rattle.model.specs.Written.{slotLayoutNote, hasElements, noteElemSlots};
+ghost use Rattle.model.specs.Sheet.{instruction, note_a, layout_length};
+ghost use Rattle.model.specs.Written.{slot_layout_note, has_elements, note_elem_slots};
 ghost use Rattle.sheet.specs.Measured.{Measured};
 
 use model::Instruction;
@@ -13,7 +13,7 @@ const SLOT_LAYOUT: u8 = 3;
 // The length of the note's layout A.
 fn note_length(sheet: &[u8], sizes: Sizes, pc: usize) -> u16
     requires { Measured sheet.now sizes × (pc < sizes.code_count) }
-    ensures { result ≡ layoutLength sheet.now (noteA sheet.now pc) }
+    ensures { result ≡ layout_length sheet.now (note_a sheet.now pc) }
 {
     sheet_fields::layout_length_at(
         sheet,
@@ -25,7 +25,7 @@ fn note_length(sheet: &[u8], sizes: Sizes, pc: usize) -> u16
 // "a SlotLayout note whose layout is not empty"
 pub fn has_elements(sheet: &[u8], sizes: Sizes, pc: usize) -> bool
     requires { Measured sheet.now sizes × (pc < sizes.code_count) }
-    ensures { result ≡ hasElements (slotLayoutNote sheet.now pc) sheet.now pc }
+    ensures { result ≡ has_elements (slot_layout_note sheet.now pc) sheet.now pc }
 {
     if sheet_fields::note_kind_at(sheet, sizes, pc) == SLOT_LAYOUT {
         return 0 < note_length(sheet, sizes, pc);
@@ -36,7 +36,7 @@ pub fn has_elements(sheet: &[u8], sizes: Sizes, pc: usize) -> bool
 // "for SlotSetN the SlotLayout's length, or without one the flags byte"
 pub fn elem_slots(sheet: &[u8], sizes: Sizes, pc: usize, inst: Instruction) -> u16
     requires { Measured sheet.now sizes × (pc < sizes.code_count) × (inst ≡ instruction sheet.now pc) }
-    ensures { result ≡ noteElemSlots (slotLayoutNote sheet.now pc) sheet.now pc }
+    ensures { result ≡ note_elem_slots (slot_layout_note sheet.now pc) sheet.now pc }
 {
     if sheet_fields::note_kind_at(sheet, sizes, pc) == SLOT_LAYOUT {
         return note_length(sheet, sizes, pc);

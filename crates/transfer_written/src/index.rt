@@ -1,13 +1,13 @@
 // What an instruction writes in the index analysis, and in any of the three.
 ghost use Rattle.std.specs.Prelude.{◌≡◌, ◌<◌};
-ghost use Rattle.model.specs.Sheet.{instruction, codeCount, firstRange};
-ghost use Rattle.model.specs.Tables.{factIn, cell_of, facts_of};
-ghost use Rattle.model.specs.Transfer.{factFor};
-ghost use Rattle.model.specs.Written.{writes, indexWritten};
+ghost use Rattle.model.specs.Sheet.{instruction, code_count, first_range};
+ghost use Rattle.model.specs.Tables.{fact_in, cell_of, facts_of};
+ghost use Rattle.model.specs.Transfer.{fact_for};
+ghost use Rattle.model.specs.Written.{writes, index_written};
 ghost use Rattle.memory.specs.Front.{Holds};
 ghost use Rattle.sheet.specs.Measured.{Accepted};
 ghost use Rattle.fact_row.specs.Rows.{ReadableRow};
-ghost use Rattle.transfer_written.specs.Spans.{indexSpans, elementsFact, slotsWritten};
+ghost use Rattle.transfer_written.specs.Spans.{index_spans, elements_fact, slots_written};
 
 use crate::Written;
 use crate::elements::elem_slots;
@@ -26,9 +26,9 @@ fn index_check_instruction_writes(
     inst: Instruction,
     before: FactCell,
 ) -> Written
-    requires accepted { Accepted sheet.now sizes × Holds (firstRange sheet.now) (codeCount sheet.now) firsts.now × (pc < sizes.code_count) }
+    requires accepted { Accepted sheet.now sizes × Holds (first_range sheet.now) (code_count sheet.now) firsts.now × (pc < sizes.code_count) }
     requires inst_value { inst ≡ instruction sheet.now pc }
-    ensures { result ≡ indexSpans sheet.now pc (factIn before) }
+    ensures { result ≡ index_spans sheet.now pc (fact_in before) }
 {
     let op = inst.op;
     if 1 < before.kind {
@@ -58,9 +58,9 @@ pub fn index_check_instruction_writes_slot(
     before: FactCell,
     slot: u16,
 ) -> bool
-    requires accepted { Accepted sheet.now sizes × Holds (firstRange sheet.now) (codeCount sheet.now) firsts.now × (pc < sizes.code_count) }
+    requires accepted { Accepted sheet.now sizes × Holds (first_range sheet.now) (code_count sheet.now) firsts.now × (pc < sizes.code_count) }
     requires inst_value { inst ≡ instruction sheet.now pc }
-    ensures { result ≡ indexWritten sheet.now pc (factIn before) slot }
+    ensures { result ≡ index_written sheet.now pc (fact_in before) slot }
 {
     let found = index_check_instruction_writes(sheet, sizes, firsts, pc, inst, before);
     holds(sheet, sizes, found, slot)
@@ -69,7 +69,7 @@ pub fn index_check_instruction_writes_slot(
 // b's cell where it says how many elements are written; Unknown of any other instruction, so that none is looked up in vain.
 fn elements_fact(slots: &[u16], kinds: &[u8], values: &[u64], inst: Instruction) -> FactCell
     requires { ReadableRow slots.now kinds.now values.now }
-    ensures { result ≡ cell_of (elementsFact (writes inst.op) (factFor slots.now (facts_of kinds.now values.now) inst.b)) }
+    ensures { result ≡ cell_of (elements_fact (writes inst.op) (fact_for slots.now (facts_of kinds.now values.now) inst.b)) }
 {
     let op = inst.op;
     if op == crate::SLOT_SET || op == crate::SLOT_SET_N {
@@ -90,9 +90,9 @@ pub fn slots_written(
     pc: usize,
     inst: Instruction,
 ) -> Written
-    requires accepted { Accepted sheet.now sizes × Holds (firstRange sheet.now) (codeCount sheet.now) firsts.now × (pc < sizes.code_count) }
+    requires accepted { Accepted sheet.now sizes × Holds (first_range sheet.now) (code_count sheet.now) firsts.now × (pc < sizes.code_count) }
     requires inst_value { (inst ≡ instruction sheet.now pc) × ReadableRow slots.now kinds.now values.now }
-    ensures { result ≡ slotsWritten which sheet.now pc slots.now (facts_of kinds.now values.now) }
+    ensures { result ≡ slots_written which sheet.now pc slots.now (facts_of kinds.now values.now) }
 {
     match which {
         AnalysisKind::Constant => instruction_writes(sheet, sizes, firsts, pc, inst),

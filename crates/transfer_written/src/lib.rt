@@ -1,4 +1,6 @@
 // "Written slots": which slots an instruction writes, found once, and whether a slot is among them.
+#![tactic(auto)]
+
 mod elements;
 mod index;
 mod ranges;
@@ -9,14 +11,14 @@ pub use ranges::{range_count, range_of};
 pub use slots::instruction_writes_slot;
 
 // The slots that an instruction writes: those of one range, or of count ranges of the sheet from the range first on.
-#[derive(Drop)]
+#[derive(Clone, Copy)]
 pub enum Written {
     Span { start: u16, count: u64 },
     Ranges { first: usize, count: usize },
 }
 
 // One range of slots.
-#[derive(Drop)]
+#[derive(Clone, Copy)]
 pub struct SlotRange {
     pub start: u16,
     pub count: u64,

@@ -1,11 +1,11 @@
 // Ranges of slots, in whole numbers.
 ghost use Rattle.std.specs.Prelude.{◌≡◌, ◌*◌, ◌<◌, ◌≤◌, min};
-ghost use Rattle.model.specs.Sheet.{codeCount, firstRange, erred};
+ghost use Rattle.model.specs.Sheet.{code_count, first_range, erred};
 ghost use Rattle.model.specs.Written.{in_range};
 ghost use Rattle.memory.specs.Front.{Holds};
 ghost use Rattle.sheet.specs.Measured.{Measured, Accepted};
-ghost use Rattle.transfer_written.specs.Ranges.{holdsSlot, slotRangeCount, slotRange, rangesEnd};
-ghost use Rattle.transfer_written.specs.Spans.{rangeSpans};
+ghost use Rattle.transfer_written.specs.Ranges.{holds_slot, slot_range_count, slot_range, ranges_end};
+ghost use Rattle.transfer_written.specs.Spans.{range_spans};
 
 use crate::{SlotRange, Written};
 use fact_row::wide;
@@ -35,7 +35,7 @@ pub fn span(len: u64, elem_slots: u16) -> u64
 
 // How many ranges the written slots are.
 pub fn range_count(written: Written) -> usize
-    ensures { result ≡ slotRangeCount written }
+    ensures { result ≡ slot_range_count written }
 {
     match written {
         Written::Span { start: _, count: _ } => 1,
@@ -45,8 +45,8 @@ pub fn range_count(written: Written) -> usize
 
 // The i-th of them.
 pub fn range_of(written: Written, sheet: &[u8], sizes: Sizes, i: usize) -> SlotRange
-    requires { Measured sheet.now sizes × (rangesEnd written ≤ sizes.range_count) × (i < slotRangeCount written) }
-    ensures { result ≡ slotRange written sheet.now i }
+    requires { Measured sheet.now sizes × (ranges_end written ≤ sizes.range_count) × (i < slot_range_count written) }
+    ensures { result ≡ slot_range written sheet.now i }
 {
     match written {
         Written::Span { start, count } => SlotRange { start, count },
@@ -59,8 +59,8 @@ pub fn range_of(written: Written, sheet: &[u8], sizes: Sizes, i: usize) -> SlotR
 
 // Whether the slot is among them. No range is read after the first that holds it.
 pub fn holds(sheet: &[u8], sizes: Sizes, written: Written, slot: u16) -> bool
-    requires { Measured sheet.now sizes × (rangesEnd written ≤ sizes.range_count) }
-    ensures { result ≡ holdsSlot written sheet.now slot }
+    requires { Measured sheet.now sizes × (ranges_end written ≤ sizes.range_count) }
+    ensures { result ≡ holds_slot written sheet.now slot }
 {
     let n = range_count(written);
     let mut i = 0;
@@ -76,8 +76,8 @@ pub fn holds(sheet: &[u8], sizes: Sizes, written: Written, slot: u16) -> bool
 
 // "For all other opcodes the ranges decide .., and an erring visitor writes all." `firsts` holds the number of each instruction's first range.
 pub fn ranges_written(sheet: &[u8], sizes: Sizes, firsts: &[u16], pc: usize) -> Written
-    requires { Accepted sheet.now sizes × Holds (firstRange sheet.now) (codeCount sheet.now) firsts.now × (pc < sizes.code_count) }
-    ensures { result ≡ rangeSpans (erred sheet.now pc) sheet.now pc }
+    requires { Accepted sheet.now sizes × Holds (first_range sheet.now) (code_count sheet.now) firsts.now × (pc < sizes.code_count) }
+    ensures { result ≡ range_spans (erred sheet.now pc) sheet.now pc }
 {
     let count = sheet_fields::write_count_at(sheet, sizes, pc);
     if count == 65535 {

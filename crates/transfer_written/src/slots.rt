@@ -1,6 +1,6 @@
 // What an instruction writes in the constant and container analyses.
 ghost use Rattle.std.specs.Prelude.{◌≡◌, ◌<◌};
-ghost use Rattle.model.specs.Sheet.{instruction, codeCount, firstRange};
+ghost use Rattle.model.specs.Sheet.{instruction, code_count, first_range};
 ghost use Rattle.model.specs.Written.{written};
 ghost use Rattle.memory.specs.Front.{Holds};
 ghost use Rattle.sheet.specs.Measured.{Accepted};
@@ -20,7 +20,7 @@ pub fn instruction_writes(
     pc: usize,
     inst: Instruction,
 ) -> Written
-    requires accepted { Accepted sheet.now sizes × Holds (firstRange sheet.now) (codeCount sheet.now) firsts.now × (pc < sizes.code_count) }
+    requires accepted { Accepted sheet.now sizes × Holds (first_range sheet.now) (code_count sheet.now) firsts.now × (pc < sizes.code_count) }
     requires inst_value { inst ≡ instruction sheet.now pc }
     ensures { result ≡ spans sheet.now pc }
 {
@@ -52,7 +52,7 @@ pub fn instruction_writes_slot(
     inst: Instruction,
     slot: u16,
 ) -> bool
-    requires accepted { Accepted sheet.now sizes × Holds (firstRange sheet.now) (codeCount sheet.now) firsts.now × (pc < sizes.code_count) }
+    requires accepted { Accepted sheet.now sizes × Holds (first_range sheet.now) (code_count sheet.now) firsts.now × (pc < sizes.code_count) }
     requires inst_value { inst ≡ instruction sheet.now pc }
     ensures { result ≡ written sheet.now pc slot }
 {

@@ -1,8 +1,10 @@
 // The call: questions 1 to 8, all charges, and the three analyses, on any bytes and any lent buffers.
+#![tactic(auto)]
+
 ghost use Rattle.std.specs.Prelude.{◌≡◌};
 ghost use Rattle.std.proofs.Math.Option.{some};
-ghost use Rattle.model.specs.Call.{result, analyzed};
-ghost use Rattle.model.specs.Promise.{lentTable, lentScratch, lentCall};
+ghost use Rattle.model.specs.Call.{analyzed, call_result};
+ghost use Rattle.model.specs.Promise.{lent_table, lent_scratch, lent_call};
 ghost use Rattle.model.specs.CallDemand.{LentDemand};
 ghost use Rattle.model.specs.declared.Answer.TheVariants.{Analyzed};
 ghost use Rattle.model.specs.declared.Counts.{Counts};
@@ -37,23 +39,19 @@ pub fn analyze(
     row_values: &mut [u64],
     work_list: &mut [u16],
 ) -> Answer
-    ensures* call { λ r. ⌜ (
-        let l = lentCall
-        (lentTable constant_slots constant_present constant_kinds constant_values)
-        (lentTable index_slots index_present index_kinds index_values)
-        (lentTable container_slots container_present container_kinds container_values)
-        (lentScratch marks stack row_kinds row_values work_list) in
-        some (result r l.exit) ≡ analyzed sheet.now resources l.entry
-        ) ⌝ }
-    ensures* demand { λ r. ⌜ (
-        let l = lentCall
-        (lentTable constant_slots constant_present constant_kinds constant_values)
-        (lentTable index_slots index_present index_kinds index_values)
-        (lentTable container_slots container_present container_kinds container_values)
-        (lentScratch marks stack row_kinds row_values work_list) in
-        (constant index container : Counts) (left : VerifierResources) → r ≡ Analyzed constant index container left
-        → LentDemand sheet.now resources l.entry constant index container left l.exit
-        ) ⌝ }
+    ensures call { let l = lent_call
+        (lent_table constant_slots constant_present constant_kinds constant_values)
+        (lent_table index_slots index_present index_kinds index_values)
+        (lent_table container_slots container_present container_kinds container_values)
+        (lent_scratch marks stack row_kinds row_values work_list) in
+        some (call_result result l.exit) ≡ analyzed sheet.now resources l.entry }
+    ensures demand { let l = lent_call
+        (lent_table constant_slots constant_present constant_kinds constant_values)
+        (lent_table index_slots index_present index_kinds index_values)
+        (lent_table container_slots container_present container_kinds container_values)
+        (lent_scratch marks stack row_kinds row_values work_list) in
+        (constant index container : Counts) (left : VerifierResources) → result ≡ Analyzed constant index container left
+        → LentDemand sheet.now resources l.entry constant index container left l.exit }
 {
     let admission = admit(sheet, marks.len(), stack.len());
     match admission {

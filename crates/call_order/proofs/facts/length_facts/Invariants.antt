@@ -1,0 +1,15 @@
+-- `call_order::length_facts` meets its contract, by the law of its loop. Assumes nothing.
+use Prim.Native.Nat.{◌-◌}
+use native.Mathlib.Omega.{arith}
+use Rattle.sheet.proofs.SizeNames.{counted}
+use Rattle.call_order.proofs.LengthTables.{small_fact, StoredUpto, stored_none, stored_more, stored_all, lengths_read}
+use Rattle.fact_row.proofs.Facts.{value_of}
+use Rattle.call_order.proofs.facts.length_facts.Given as goal
+
+abbrev pub invariant-loop-pc : goal.invariant-loop-pc
+invariant-loop-pc l =
+    StoredUpto l.sheet l.slots l.present l.kinds l.values l.n l.initial.out_kinds l.initial.out_values l.out_kinds l.out_values l.pc
+
+abbrev pub decreases-loop-pc : goal.decreases-loop-pc
+decreases-loop-pc l =
+    l.n - l.pc

@@ -1,0 +1,32 @@
+-- `check_corner_text::answer_line` meets its contract: by what is asked. An accepted sheet has each instruction below n.
+-- Assumes nothing.
+use Rattle.sheet.proofs.AcceptedSheet.{measured}
+use Rattle.sheet.proofs.SizeNames.{counted}
+use Rattle.sheet.proofs.FieldBounds.{code_inside}
+use Rattle.sheet.proofs.SizeLimits.{limited}
+use Rattle.check_corner_text.proofs.AnswerLines.{successors_answered, writes_answered, index_answered, not_answered}
+use borrow.Author.Rules.{rules}
+use Rattle.check_corner_text.proofs.text.answer_line.Goals as goal
+
+pub instruction_at-inst-requires : goal.instruction_at-inst-requires
+instruction_at-inst-requires c = let p = c.requires in code_inside (measured p.0) _ p.2
+
+pub instruction_successors-successors-requires : goal.instruction_successors-successors-requires
+instruction_successors-successors-requires c = let p = c.requires in ((limited (measured p.0)).code_count_is, p.2)
+
+pub returns-then-question-eq-SUCCESSORS : goal.returns-then-question-eq-SUCCESSORS
+returns-then-question-eq-SUCCESSORS c =
+    successors_answered c.args.sheet.now c.args.question _ _ c.if-question-eq-SUCCESSORS.true (counted c.requires.0.are).code_count_is c.instruction_at-inst.ensures
+    c.instruction_successors-successors.ensures c.successors_line.ensures
+
+pub returns-then-question-eq-WRITES : goal.returns-then-question-eq-WRITES
+returns-then-question-eq-WRITES c =
+    writes_answered c.args.sheet.now c.args.question c.if-question-eq-WRITES.true c.instruction_writes_slot-is_written.ensures c.writes_line.ensures
+
+pub returns-then-question-eq-INDEX_WRITES : goal.returns-then-question-eq-INDEX_WRITES
+returns-then-question-eq-INDEX_WRITES c =
+    index_answered c.args.sheet.now c.args.question c.if-question-eq-INDEX_WRITES.true c.index_check_instruction_writes_slot-is_written.ensures c.index_writes_line.ensures
+
+pub returns : goal.returns
+returns c =
+    not_answered c.args.sheet.now c.args.out.now c.args.question c.if-question-eq-SUCCESSORS.false c.if-question-eq-WRITES.false c.if-question-eq-INDEX_WRITES.false

@@ -1,0 +1,15 @@
+-- `check_replay_lent::buffers::with_u64` meets its contract, by the law of loops that put a list into a checksum.
+-- Assumes nothing.
+use mathlib.Core.Path.{refl}
+use Prim.Native.Nat.{◌-◌, zero-le}
+use native.Mathlib.Omega.{arith}
+use lib.ListN.{length}
+use Rattle.check_replay_lent.specs.Checksum.{with_numbers}
+use Rattle.check_replay_lent.proofs.ChecksumLoop.{ChecksumSoFar, checksum_turn, whole}
+use Rattle.check_replay_lent.proofs.buffers.with_u64.Given as goal
+
+abbrev pub invariant-loop-i : goal.invariant-loop-i
+invariant-loop-i l = ChecksumSoFar (with_numbers l.initial.sum l.buffer) l.buffer l.sum l.i
+
+abbrev pub decreases-loop-i : goal.decreases-loop-i
+decreases-loop-i l = length l.buffer - l.i

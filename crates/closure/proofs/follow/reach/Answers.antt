@@ -1,0 +1,11 @@
+-- `closure::reach` meets its contract.
+-- Assumes nothing.
+use Rattle.std.proofs.Common.{arith, rules}
+use Rattle.closure.proofs.FollowEdges.{copy_n_reach, other_reach}
+use Rattle.closure.proofs.follow.reach.Goals as goal
+
+pub returns-then-op-eq-COPY_N : goal.returns-then-op-eq-COPY_N
+returns-then-op-eq-COPY_N c = (omega arith, copy_n_reach c.args.inst c.if-op-eq-COPY_N.true)
+
+pub returns : goal.returns
+returns c = (omega arith, other_reach c.args.inst c.if-op-eq-COPY_N.false)

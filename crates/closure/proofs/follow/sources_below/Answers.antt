@@ -1,0 +1,22 @@
+-- `closure::sources_below` meets its contract: each way out is one case of the two tests.
+-- Assumes nothing.
+use Rattle.std.proofs.Common.{rules, le-ltb, lt-ltb}
+use Rattle.closure.specs.Sources.{only_if}
+use Rattle.closure_marks.proofs.Marks.{none_held, one_held, two_held}
+use Rattle.closure.proofs.follow.sources_below.Goals as goal
+
+pub returns-then-first-l : goal.returns-then-first-l
+unfolding only_if
+returns-then-first-l c = rw (lt-ltb _ _ c.if-first-l.true, c.if-fold-second.true) (two_held c.two.ensures)
+
+pub returns-then-fold-second : goal.returns-then-fold-second
+unfolding only_if
+returns-then-fold-second c = rw (le-ltb _ _ c.if-first-l.false, c.if-fold-second.true) (one_held c.one.ensures)
+
+pub returns-then-first-l-2 : goal.returns-then-first-l-2
+unfolding only_if
+returns-then-first-l-2 c = rw (lt-ltb _ _ c.if-first-l-2.true, c.if-fold-second.false) (one_held c.one-then-first-l-2.ensures)
+
+pub returns : goal.returns
+unfolding only_if
+returns c = rw (le-ltb _ _ c.if-first-l-2.false, c.if-fold-second.false) (none_held c.none.ensures)

@@ -1,0 +1,24 @@
+-- `closure::slots::tracked_slots` meets its contract: the first L marks are lent, and the others stay zero.
+-- Assumes nothing.
+use Rattle.std.proofs.Common.{sym, length-take-le, rules}
+use Rattle.sheet.proofs.SizeNames.{counted}
+use Rattle.closure.proofs.TrackedSlots.{blank, marks_clear}
+use Rattle.closure.proofs.slots.tracked_slots.Goals as goal
+
+pub slice_bounds-track-end-2 : goal.slice_bounds-track-end-2
+slice_bounds-track-end-2 c = sym (length-take-le _ c.args.marks.now c.requires.1)
+
+pub track-requires : goal.track-requires
+track-requires c =
+    let asked = c.requires in
+    (asked.0, blank _ c.args.marks.now c.args.stack.now (counted asked.0.are).local_slots_is asked.1 asked.2 asked.3 asked.4)
+
+pub returns : goal.returns
+returns c =
+    let asked = c.requires in
+    record {
+      closes = c.track.ensures.closes;
+      no_marks = marks_clear _ c.args.marks.now c.args.stack.now (counted asked.0.are).local_slots_is asked.1 asked.2 asked.3 asked.4
+          c.track.ensures.no_marks;
+      no_entries = c.track.ensures.no_entries;
+    }

@@ -1,0 +1,16 @@
+-- `closure_edges::edges::copy_work` meets its contract.
+-- Assumes nothing.
+use mathlib.Core.Path.{sym}
+use Rattle.model.specs.Opcode.{select}
+use Rattle.model.specs.Dependencies.{copy_work, depends}
+use Rattle.closure_edges.proofs.EdgeRows.{no_copy_work}
+use borrow.Author.Rules.{rules}
+use Rattle.closure_edges.proofs.edges.copy_work.Goals as goal
+
+pub returns-then-op-eq-COPY_N : goal.returns-then-op-eq-COPY_N
+unfolding copy_work depends select
+returns-then-op-eq-COPY_N c = rw c.if-op-eq-COPY_N.true
+
+pub returns : goal.returns
+unfolding copy_work
+returns c = sym (no_copy_work c.args.inst c.if-op-eq-COPY_N.false)

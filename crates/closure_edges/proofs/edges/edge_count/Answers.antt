@@ -1,0 +1,15 @@
+-- `closure_edges::edges::edge_count` meets its contract: the rows' lengths.
+-- Assumes nothing.
+use Rattle.closure_edges.proofs.EdgeRows.{edge_rows_are, counted_one, counted_fold}
+use borrow.Author.Rules.{rules}
+use Rattle.closure_edges.proofs.edges.edge_count.Goals as goal
+
+pub returns-then-fold : goal.returns-then-fold
+returns-then-fold c =
+    counted_fold c.args.inst _ c.dependence_of-d.result
+    (edge_rows_are _ c.dependence_of-d.ensures _) c.if-fold.true c.row_length-first.ensures.0 c.row_length.ensures.0
+
+pub returns : goal.returns
+returns c =
+    counted_one c.args.inst _ c.dependence_of-d.result (edge_rows_are _ c.dependence_of-d.ensures _) c.if-fold.false
+    c.row_length-first.ensures.0

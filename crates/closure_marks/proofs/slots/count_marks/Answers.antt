@@ -1,0 +1,17 @@
+-- `closure_marks::slots::count_marks` meets its contract: the marks passed are counted.
+-- Assumes nothing.
+use Prim.Native.Nat.{◌-◌}
+use native.Mathlib.Omega.{arith}
+use borrow.Author.Rules.{rules}
+use lib.ListN.{length}
+use Rattle.closure_marks.proofs.MarkedSlots.{Counting, counting_none, counting_more, counting_all}
+use Rattle.closure_marks.proofs.slots.count_marks.Goals as goal
+
+pub loop-i-init : goal.loop-i-init
+loop-i-init c = counting_none _
+
+pub loop-i-preserved : goal.loop-i-preserved
+loop-i-preserved c = counting_more c.loop-i.invariant c.loop-i-test.true c.one_if_set-count.ensures.0 c.one_if_set-count.ensures.1
+
+pub returns : goal.returns
+returns c = counting_all c.loop-i.invariant c.loop-i-test.false

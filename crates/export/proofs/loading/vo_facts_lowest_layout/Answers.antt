@@ -1,0 +1,6 @@
+-- `vo_facts_lowest_layout` meets its contract. Assumes nothing.
+use borrow.Author.Rules.{rules}
+use Rattle.export.proofs.loading.vo_facts_lowest_layout.Goals as goal
+
+pub returns : goal.returns
+returns c = c.lowest_layout.ensures

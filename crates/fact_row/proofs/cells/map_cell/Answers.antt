@@ -1,0 +1,11 @@
+-- `fact_row::map_cell` meets its contract: the cell is the definition's. Assumes nothing.
+use mathlib.Core.Path.{refl}
+use borrow.Author.Rules.{rules}
+use Rattle.model.specs.Fact.{kind, value}
+use Rattle.model.specs.Tables.{cell_of}
+use Rattle.model.specs.Transfer.{map_fact}
+use Rattle.fact_row.proofs.cells.map_cell.Goals as goal
+
+pub returns : goal.returns
+unfolding cell_of kind value map_fact
+returns c = refl

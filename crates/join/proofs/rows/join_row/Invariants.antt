@@ -1,0 +1,17 @@
+-- `join::rows::join_row` meets its contract. The loop's invariant: the first i places are joined, and the others are as they were.
+-- Assumes nothing.
+use mathlib.Core.Logic.{⊎_elim}
+use Prim.Native.Nat.{◌-◌}
+use native.Mathlib.Omega.{arith}
+use borrow.Author.Rules.{rules}
+use lib.ListN.{length}
+use Rattle.sheet_layouts.specs.Classes.{equal_by}
+use Rattle.join.proofs.JoinLoop.{Partly, carried, partly_start, partly_changed, partly_kept, partly_end}
+use Rattle.join.proofs.rows.join_row.Given as goal
+
+abbrev pub invariant-loop-i : goal.invariant-loop-i
+invariant-loop-i l =
+    Partly (equal_by l.which l.classes) l.initial.kinds l.initial.values l.new_kinds l.new_values l.kinds l.values l.changed l.i
+
+abbrev pub decreases-loop-i : goal.decreases-loop-i
+decreases-loop-i l = length l.initial.kinds - l.i

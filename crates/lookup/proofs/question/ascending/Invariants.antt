@@ -1,0 +1,13 @@
+-- `lookup::question::ascending` meets its contract. Assumes nothing.
+use mathlib.Core.Path.{sym}
+use Prim.Native.Nat.{◌-◌, ◌≤◌}
+use lib.ListN.{length}
+use Rattle.lookup.proofs.AscendingLoop.{Rising, rising_all, rising_more, falling}
+use native.Mathlib.Omega.{arith}
+use Rattle.lookup.proofs.question.ascending.Given as goal
+
+abbrev pub invariant-loop-i : goal.invariant-loop-i
+invariant-loop-i l = (1 ≤ l.i) × Rising l.slots l.i
+
+abbrev pub decreases-loop-i : goal.decreases-loop-i
+decreases-loop-i l = length l.slots - l.i

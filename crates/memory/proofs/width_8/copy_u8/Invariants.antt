@@ -1,0 +1,13 @@
+-- `memory::width_8::copy_u8` meets its contract, by the law of loops that copy. Assumes nothing.
+use Prim.Native.Nat.{◌-◌}
+use lib.ListN.{length, get_or}
+use mathlib.Core.Path.{refl}
+use Rattle.memory.proofs.StoreLoops.{Turned, turned_none, turn, turned_copy}
+use native.Mathlib.Omega.{arith}
+use Rattle.memory.proofs.width_8.copy_u8.Given as goal
+
+abbrev pub invariant-loop-i : goal.invariant-loop-i
+invariant-loop-i l = Turned (λ j. get_or l.from j 0) l.initial.to l.to l.i
+
+abbrev pub decreases-loop-i : goal.decreases-loop-i
+decreases-loop-i l = length l.initial.to - l.i

@@ -1,0 +1,40 @@
+-- `stage_entry::layouts::charge_instruction_facts` meets its contract: so far all charges were covered. Assumes nothing.
+use Prim.Native.Nat.{◌-◌}
+use mathlib.Core.Path.{◌≡◌, ap, ◌∙◌}
+use Rattle.model.specs.Transfer.{instruction_fact}
+use Rattle.model.specs.Parameters.{charge_fact, charge_instruction_facts}
+use Rattle.model.specs.declared.Instruction.{Instruction}
+use Rattle.budget.specs.Outcome.{as_spent}
+use Rattle.budget.proofs.Outcomes.{spent_stopped}
+use Rattle.budget.proofs.Spending.{Charged, charged_none, charged_more, charged_all, charged_refused, covered}
+use Rattle.sheet.proofs.SizeNames.{counted}
+use Rattle.sheet.proofs.FieldBounds.{code_inside}
+use Rattle.stage_entry.proofs.LayoutCharges.{fact_charged}
+use native.Mathlib.Omega.{arith}
+use borrow.Author.Rules.{rules}
+use Rattle.stage_entry.proofs.layouts.charge_instruction_facts.Goals as goal
+
+pub loop-pc-init : goal.loop-pc-init
+loop-pc-init c = charged_none _ _ _
+
+pub instruction_at-op-requires : goal.instruction_at-op-requires
+instruction_at-op-requires c = code_inside c.requires _ c.loop-pc-test.true
+
+pub instruction_fact-requires : goal.instruction_fact-requires
+instruction_fact-requires c = (c.requires, c.loop-pc-test.true, ap (λ (i : Instruction). i.op) c.instruction_at-op.ensures)
+
+pub returns-in_default : goal.returns-in_default
+unfolding charge_instruction_facts
+returns-in_default c =
+    charged_refused _ _ _ (counted c.requires.are).code_count_is c.loop-pc.invariant c.loop-pc-test.true
+    (spent_stopped c.charge_layouts-charged.result (let came : as_spent c.charge_layouts-charged.result
+    ≡ (let sheet = c.args.sheet.now in charge_fact sheet (instruction_fact sheet c.loop-pc.pc) c.loop-pc.left) = c.charge_layouts-charged.ensures ∙ fact_charged _ _ c.instruction_fact.ensures _ in came) c.in_default.in_default-own.keys2)
+
+pub loop-pc-preserved : goal.loop-pc-preserved
+loop-pc-preserved c =
+    charged_more _ _ _ c.loop-pc.invariant c.loop-pc-test.true (covered (let came : as_spent c.charge_layouts-charged.result
+    ≡ (let sheet = c.args.sheet.now in charge_fact sheet (instruction_fact sheet c.loop-pc.pc) c.loop-pc.left) = c.charge_layouts-charged.ensures ∙ fact_charged _ _ c.instruction_fact.ensures _ in came) c.in-Covered.is)
+
+pub returns : goal.returns
+unfolding charge_instruction_facts
+returns c = charged_all _ _ _ (counted c.requires.are).code_count_is c.loop-pc.invariant c.loop-pc-test.false

@@ -1,0 +1,54 @@
+-- `stage_entry::params::param_start` meets its contract: each way out is one case of the definition's tests. Assumes nothing.
+use mathlib.Core.Path.{refl}
+use Rattle.sheet.proofs.SizeLimits.{limited}
+use Rattle.sheet.proofs.SizeNames.{counted}
+use Rattle.stage_entry.proofs.ParamStarts.{no_params_lem, too_wide, too_many, behind_all, no_receiver, behind_closure, nowhere}
+use native.Mathlib.Omega.{arith}
+use borrow.Author.Rules.{rules}
+use Rattle.stage_entry.proofs.params.param_start.Goals as goal
+
+pub returns-then-sizes-eq0 : goal.returns-then-sizes-eq0
+returns-then-sizes-eq0 c =
+    let n = counted c.requires.are in
+    no_params_lem _ n.param_count_is refl n.param_slots_is n.recv_slots_is n.is_closure_is c.if-sizes-eq0.true
+
+pub returns-then-transfer-gt65535 : goal.returns-then-transfer-gt65535
+returns-then-transfer-gt65535 c =
+    let n = counted c.requires.are in
+    too_wide _ n.param_count_is c.transfer_slots-transfer.ensures.0 n.param_slots_is n.recv_slots_is n.is_closure_is c.if-sizes-eq0.false c.if-transfer-gt65535.true
+
+pub overflow_add-implicit : goal.overflow_add-implicit
+overflow_add-implicit c = let l = limited c.requires in omega arith
+
+pub returns-then-implicit-gt65535 : goal.returns-then-implicit-gt65535
+returns-then-implicit-gt65535 c =
+    let n = counted c.requires.are in
+    too_many _ n.param_count_is c.transfer_slots-transfer.ensures.0 n.param_slots_is n.recv_slots_is n.is_closure_is c.if-sizes-eq0.false c.if-transfer-gt65535.false c.if-implicit-gt65535.true
+
+pub returns-then-sizes-implicit : goal.returns-then-sizes-implicit
+returns-then-sizes-implicit c =
+    let n = counted c.requires.are in
+    behind_all _ n.param_count_is c.transfer_slots-transfer.ensures.0 n.param_slots_is n.recv_slots_is n.is_closure_is c.if-sizes-eq0.false c.if-transfer-gt65535.false c.if-implicit-gt65535.false c.if-sizes-implicit.true
+
+pub returns-then-sizes-eq0-2 : goal.returns-then-sizes-eq0-2
+returns-then-sizes-eq0-2 c =
+    let n = counted c.requires.are in
+    no_receiver _ n.param_count_is c.transfer_slots-transfer.ensures.0 n.param_slots_is n.recv_slots_is n.is_closure_is c.if-sizes-eq0.false c.if-transfer-gt65535.false c.if-implicit-gt65535.false c.if-sizes-implicit.false c.if-sizes-eq0-2.true
+
+pub overflow_add-sizes : goal.overflow_add-sizes
+overflow_add-sizes c = let l = limited c.requires in omega arith
+
+pub overflow_cast-result-then-sizes-transfer : goal.overflow_cast-result-then-sizes-transfer
+overflow_cast-result-then-sizes-transfer c =
+    let l = limited c.requires in
+    omega arith
+
+pub returns-then-sizes-transfer : goal.returns-then-sizes-transfer
+returns-then-sizes-transfer c =
+    let n = counted c.requires.are in
+    behind_closure _ n.param_count_is c.transfer_slots-transfer.ensures.0 n.param_slots_is n.recv_slots_is n.is_closure_is c.if-sizes-eq0.false c.if-transfer-gt65535.false c.if-implicit-gt65535.false c.if-sizes-implicit.false c.if-sizes-eq0-2.false c.if-sizes-transfer.true
+
+pub returns : goal.returns
+returns c =
+    let n = counted c.requires.are in
+    nowhere _ n.param_count_is c.transfer_slots-transfer.ensures.0 n.param_slots_is n.recv_slots_is n.is_closure_is c.if-sizes-eq0.false c.if-transfer-gt65535.false c.if-implicit-gt65535.false c.if-sizes-implicit.false c.if-sizes-eq0-2.false c.if-sizes-transfer.false

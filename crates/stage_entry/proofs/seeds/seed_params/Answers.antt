@@ -1,0 +1,48 @@
+-- `stage_entry::seeds::seed_params` meets its contract: so far all charges were covered. Assumes nothing.
+use Prim.Native.Nat.{ℕ, ◌-◌}
+use mathlib.Core.Path.{◌≡◌, ap, ◌∙◌}
+use Rattle.model.specs.Fact.{Row}
+use lib.ListN.{length}
+use Rattle.model.specs.Sheet.{param_count}
+use Rattle.model.specs.Parameters.{seed_params}
+use Rattle.budget.specs.Outcome.{leaves_of}
+use Rattle.sheet.proofs.SizeLimits.{limited}
+use Rattle.sheet.proofs.SizeNames.{counted}
+use Rattle.stage_entry.specs.First.{row_laid, zero_row}
+use Rattle.stage_entry.proofs.ParamSeeds.{Seeded, seeded_none, seeded_more, seeded_refused, seeded_all}
+use native.Mathlib.Omega.{arith}
+use borrow.Author.Rules.{rules}
+use Rattle.stage_entry.proofs.seeds.seed_params.Goals as goal
+
+pub loop-i-init : goal.loop-i-init
+loop-i-init c = seeded_none _ _ _ _ _ _ _ c.requires.1
+
+pub overflow_add-slot : goal.overflow_add-slot
+overflow_add-slot c = let l = limited c.requires.0 in omega arith
+
+pub seed_param-seeded-requires : goal.seed_param-seeded-requires
+seed_param-seeded-requires c =
+    let asked = c.requires in
+    (asked.0, c.loop-i-test.true, record { ascending = asked.1.ascending; kinds_long = c.loop-i.invariant.kinds_long; values_long = c.loop-i.invariant.values_long })
+
+pub returns-in_default : goal.returns-in_default
+returns-in_default c row l =
+    seeded_refused _ _ _ _ _ _ _ c.loop-i.invariant c.loop-i-test.true _ c.seed_param-seeded.ensures c.in_default.in_default-own.keys2 (counted c.requires.0.are).param_count_is row l
+    ∙ (let a = c.args in
+    ap (λ (n : ℕ). leaves_of row_laid (zero_row (length a.slots.now)) (seed_params a.sheet.now a.slots.now n (param_count a.sheet.now) row a.resources)) c.wide-begin.ensures.0)
+
+pub overflow_add-passed : goal.overflow_add-passed
+overflow_add-passed c = let l = limited c.requires.0 in omega arith
+
+pub overflow_add-i : goal.overflow_add-i
+overflow_add-i c = let l = limited c.requires.0 in omega arith
+
+pub loop-i-preserved : goal.loop-i-preserved
+loop-i-preserved c =
+    seeded_more _ _ _ _ _ _ _ c.loop-i.invariant c.loop-i-test.true _ c.seed_param-seeded.ensures c.in-Covered.is
+    (c.wide-passed.ensures.0 ∙ c.param_width_at.ensures) (omega arith) (omega arith) (omega arith)
+
+pub returns : goal.returns
+returns c row l =
+    seeded_all _ _ _ _ _ _ _ c.loop-i.invariant c.loop-i-test.false (counted c.requires.0.are).param_count_is row l ∙ (let a = c.args in
+    ap (λ (n : ℕ). leaves_of row_laid (zero_row (length a.slots.now)) (seed_params a.sheet.now a.slots.now n (param_count a.sheet.now) row a.resources)) c.wide-begin.ensures.0)

@@ -1,0 +1,16 @@
+-- `transfer::write_slots` meets its contract: each turn is one range more. Assumes nothing.
+use mathlib.Core.Path.{refl}
+use Prim.Native.Nat.{◌-◌}
+use native.Mathlib.Omega.{arith}
+use borrow.Author.Rules.{rules}
+use Rattle.model.specs.Tables.{facts_of}
+use Rattle.transfer_facts.specs.Effect.{effect_cell}
+use Rattle.transfer.proofs.RangeWrites.{wrote_nowhere, Ranging, ranging_start, ranging_more, ranging_all}
+use Rattle.transfer.proofs.rows.write_slots.Given as goal
+
+abbrev pub invariant-loop-i : goal.invariant-loop-i
+invariant-loop-i l =
+    Ranging l.written l.sheet l.slots (effect_cell l.effect l.slots (facts_of l.kinds l.values)) l.initial.out_kinds l.initial.out_values l.out_kinds l.out_values l.i
+
+abbrev pub decreases-loop-i : goal.decreases-loop-i
+decreases-loop-i l = l.n - l.i

@@ -1,0 +1,29 @@
+-- `transfer_written::index::index_check_instruction_writes` meets its contract: SlotSet and SlotSetN by a Checked b, any other as in the other analyses. Assumes nothing.
+use mathlib.Core.Logic.{⊎_elim}
+use borrow.Author.Rules.{rules}
+use Rattle.model.specs.Tables.{fact_in}
+use Rattle.sheet.proofs.AcceptedSheet.{measured}
+use Rattle.transfer_written.proofs.Spans.{unchecked_spans, checked_spans, checked_n_spans, as_other_spans}
+use Rattle.transfer_written.proofs.index.index_check_instruction_writes.Goals as goal
+
+pub returns-then-op-eq-SLOT_SET : goal.returns-then-op-eq-SLOT_SET
+unfolding fact_in
+returns-then-op-eq-SLOT_SET c =
+    checked_spans c.args.sheet.now c.args.pc c.args.inst c.requires.inst_value c.args.before.kind c.args.before.value c.if-before-gt1.true c.if-op-eq-SLOT_SET.true c.span.ensures
+
+pub elem_slots-requires : goal.elem_slots-requires
+elem_slots-requires c =
+    (measured c.requires.accepted.0, c.requires.accepted.2, c.requires.inst_value)
+
+pub returns-then-op-eq-SLOT_SET_N : goal.returns-then-op-eq-SLOT_SET_N
+unfolding fact_in
+returns-then-op-eq-SLOT_SET_N c =
+    checked_n_spans c.args.sheet.now c.args.pc c.args.inst c.requires.inst_value c.args.before.kind c.args.before.value c.if-before-gt1.true c.if-op-eq-SLOT_SET_N.true c.elem_slots.ensures c.span-then-op-eq-SLOT_SET_N.ensures
+
+pub returns : goal.returns
+unfolding fact_in
+returns c =
+    ⊎_elim
+    (λ w. as_other_spans c.args.sheet.now c.args.pc c.args.inst c.requires.inst_value _ w.1.left w.2.left c.instruction_writes.ensures)
+    (λ w. unchecked_spans c.args.sheet.now c.args.pc c.args.inst c.requires.inst_value c.args.before.kind c.args.before.value w.left c.instruction_writes.ensures)
+    c.if-before-gt1.branch

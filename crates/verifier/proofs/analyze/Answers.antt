@@ -1,0 +1,88 @@
+-- `analyze` meets its contract: questions 1 to 6, the sheet's index, then the three analyses.
+-- Assumes nothing.
+use Rattle.model.specs.Call.{Lent, lent, table, scratch}
+use Rattle.sheet_index.proofs.IndexFound.{few_layouts, firsts_found, classes_found}
+use Rattle.sheet_questions.proofs.AdmissionTests.{admitted_lengths, turned_away}
+use Rattle.call_order.proofs.ClearedOutputs.{few_code}
+use Rattle.call_order.proofs.CallOrder.{demanded}
+use borrow.Author.Rules.{rules}
+use Rattle.verifier.proofs.analyze.Goals as goal
+
+-- all that was lent
+abbrev before : goal.Start → Lent
+before s =
+    lent (table s.args.constant-slots.now s.args.constant-present.now s.args.constant_kinds.now s.args.constant_values.now)
+    (table s.args.index-slots.now s.args.index-present.now s.args.index-kinds.now s.args.index-values.now)
+    (table s.args.container-slots.now s.args.container-present.now s.args.container-kinds.now s.args.container-values.now)
+    (scratch s.args.marks.now s.args.stack.now s.args.row-kinds.now s.args.row-values.now s.args.work-list.now)
+
+-- ---- the needs
+pub index_sheet-requires : goal.index_sheet-requires
+index_sheet-requires c =
+    let asks = admitted_lengths _ _ _ c.admit-admission.ensures c.in-Admitted.is in
+    (asks.0, few_code asks.0, few_layouts asks.0)
+
+pub analyze_indexed-requires : goal.analyze_indexed-requires
+analyze_indexed-requires c =
+    let asks = admitted_lengths _ _ _ c.admit-admission.ensures c.in-Admitted.is in
+    (asks.0, firsts_found asks.0 _ (few_code asks.0) c.index_sheet.ensures.0, classes_found asks.0 _ (few_layouts asks.0) c.index_sheet.ensures.1, asks.1, asks.2)
+
+pub returns-in-Refused : goal.returns-in-Refused
+returns-in-Refused c =
+    let call = turned_away _ (before c) c.admit-admission.ensures c.args.resources c.in-Refused.is in
+    (call, demanded _ c.args.resources (before c) _ (before c) call)
+
+pub shape_of-constant_slots : goal.shape_of-constant_slots
+shape_of-constant_slots c = c.analyze_indexed.auto.constant_slots
+
+pub shape_of-constant_present : goal.shape_of-constant_present
+shape_of-constant_present c = c.analyze_indexed.auto.constant_present
+
+pub shape_of-constant_kinds : goal.shape_of-constant_kinds
+shape_of-constant_kinds c = c.analyze_indexed.auto.constant_kinds
+
+pub shape_of-constant_values : goal.shape_of-constant_values
+shape_of-constant_values c = c.analyze_indexed.auto.constant_values
+
+pub shape_of-index_slots : goal.shape_of-index_slots
+shape_of-index_slots c = c.analyze_indexed.auto.index_slots
+
+pub shape_of-index_present : goal.shape_of-index_present
+shape_of-index_present c = c.analyze_indexed.auto.index_present
+
+pub shape_of-index_kinds : goal.shape_of-index_kinds
+shape_of-index_kinds c = c.analyze_indexed.auto.index_kinds
+
+pub shape_of-index_values : goal.shape_of-index_values
+shape_of-index_values c = c.analyze_indexed.auto.index_values
+
+pub shape_of-container_slots : goal.shape_of-container_slots
+shape_of-container_slots c = c.analyze_indexed.auto.container_slots
+
+pub shape_of-container_present : goal.shape_of-container_present
+shape_of-container_present c = c.analyze_indexed.auto.container_present
+
+pub shape_of-container_kinds : goal.shape_of-container_kinds
+shape_of-container_kinds c = c.analyze_indexed.auto.container_kinds
+
+pub shape_of-container_values : goal.shape_of-container_values
+shape_of-container_values c = c.analyze_indexed.auto.container_values
+
+pub shape_of-marks : goal.shape_of-marks
+shape_of-marks c = c.analyze_indexed.auto.marks
+
+pub shape_of-stack : goal.shape_of-stack
+shape_of-stack c = c.analyze_indexed.auto.stack
+
+pub shape_of-row_kinds : goal.shape_of-row_kinds
+shape_of-row_kinds c = c.analyze_indexed.auto.row_kinds
+
+pub shape_of-row_values : goal.shape_of-row_values
+shape_of-row_values c = c.analyze_indexed.auto.row_values
+
+pub shape_of-work_list : goal.shape_of-work_list
+shape_of-work_list c = c.analyze_indexed.auto.work_list
+
+pub returns-in-Admitted : goal.returns-in-Admitted
+returns-in-Admitted c =
+    (c.analyze_indexed.ensures, demanded _ c.args.resources (before c) _ _ c.analyze_indexed.ensures)
