@@ -1,19 +1,14 @@
 -- What a part that spends came to and left, taken apart: one law for all of them.
 -- Assumes nothing.
 use mathlib.Core.Path.{◌≡◌, refl, sym, ap}
-use mathlib.Core.Logic.{inl, inr}
-use mathlib.Core.List.{[], ◌∷◌}
 use mathlib.Core.Option.{Option, none, some}
 use native.Mathlib.Omega.{arith}
 use Prim.Native.Nat.{ℕ}
-use types.Run.{OneOf}
-use denote.Enum.Declared.{tag_of}
 use Rattle.model.specs.Charges.{Refusal, over_budget, no_room, Spent, ok, stop, unfinished, Metered, continue}
 use Rattle.model.specs.declared.VerifierResources.{VerifierResources}
 use Rattle.budget.specs.Outcome.{refused_by, as_spent, Leaves, leaves, leaves_of}
 use Rattle.budget.specs.declared.Outcome.{Outcome}
 use Rattle.budget.specs.declared.Outcome.TheVariants.{Covered, Refused, NoRoom}
-use Rattle.budget.specs.contracts.Outcome.{the_type}
 
 -- an outcome and memory, by what the definitions' part comes to
 pub data Left {A M : Type 0} (given : A → M) (refused : M) (spent : Spent A) (outcome : Outcome) (memory : M) : Type 0 where
@@ -52,9 +47,9 @@ pub record Stopped {A : Type 0} (spent : Spent A) (outcome : Outcome) : Type 0 w
   pub came : spent ≡ stop refusal left
   pub is : outcome ≡ refused_by refusal left
 
--- what the code knows behind `let Outcome::Covered { .. } = outcome else`: one of the two others
+-- what the code knows behind `let Outcome::Covered { .. } = outcome else`
 abbrev pub NotCovered : Outcome → Type 0
-NotCovered outcome = OneOf (1 ∷ 2 ∷ []) (tag_of the_type outcome)
+NotCovered outcome = (left : VerifierResources) → outcome ≡ Covered left → ⊥
 
 module _ {A : Type 0} {spent : Spent A} {outcome : Outcome} (s : Stopped spent outcome) where
   -- it ends what follows
@@ -77,8 +72,7 @@ stopped_spent {spent} {outcome} s = rw (s.came, s.is) (go s.refusal)
 
 pub spent_stopped : (outcome : Outcome) {spent : Spent (Unit {0})} → as_spent outcome ≡ spent → NotCovered outcome → Stopped spent outcome
 unfolding as_spent refused_by
-spent_stopped (Covered left) e (inl h) = absurd (omega arith)
-spent_stopped (Covered left) e (inr h) = absurd (omega arith)
+spent_stopped (Covered left) e h = absurd (h left refl)
 spent_stopped (Refused stage requested remaining left) e h = record { refusal = over_budget stage requested remaining; left = left; came = sym e; is = refl }
 spent_stopped (NoRoom left) e h = record { refusal = no_room; left = left; came = sym e; is = refl }
 
@@ -97,12 +91,6 @@ module _ {A M : Type 0} (given : A → M) (refused : M) (spent : Spent A) {outco
   pub left_stopped : NotCovered outcome → Stopped spent outcome × (memory ≡ refused)
   left_stopped h = go (left_by given refused spent e)
     where
-      none_covered : (o : Outcome) {left : VerifierResources} → o ≡ Covered left → NotCovered o → ⊥
-      none_covered (Covered left) e (inl h) = omega arith
-      none_covered (Covered left) e (inr h) = omega arith
-      none_covered (Refused stage requested remaining left) e h = let z : ◌≡◌ {A = ℕ} 0 1 = cc in omega arith
-      none_covered (NoRoom left) e h = let z : ◌≡◌ {A = ℕ} 0 1 = cc in omega arith
-
       go : Left given refused spent outcome memory → Stopped spent outcome × (memory ≡ refused)
-      go (covered a left s o m) = absurd (none_covered outcome o h)
+      go (covered a left s o m) = absurd (h left o)
       go (stopped refusal left s o m) = (record { refusal = refusal; left = left; came = s; is = o }, m)

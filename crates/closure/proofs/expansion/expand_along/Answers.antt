@@ -33,7 +33,7 @@ returns-in_default c =
     let asked = c.requires in
     let after = c.take_slot-followed.ensures.lies c.loop-top.invariant.lies in
     let stops = expanding_refused _ _ c.loop-top.invariant c.loop-top-test.true c.take_slot-followed.ensures c.charge_work.ensures
-    c.stage_number-stage.ensures c.metered-charged.result c.metered-charged.ensures c.in_default.in_default-own.keys2 in
+    c.stage_number-stage.ensures c.metered-charged.result c.metered-charged.ensures c.in_default.not-Covered in
     record {
       closes = stopped_leaves stops _ (c.clear_u8.ensures ∙ zeros_same _ _ (omega (arith, after.wide, asked.1.wide)));
       no_entries = c.clear_u16.ensures ∙ zeros_same _ _ (after.long ∙ goes_long c.seed_slots-top.ensures (some_lain (zero_lies asked.0 asked.1)));

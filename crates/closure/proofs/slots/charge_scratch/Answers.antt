@@ -9,7 +9,7 @@ use Rattle.closure.proofs.slots.charge_scratch.Goals as goal
 
 pub returns-in_default : goal.returns-in_default
 unfolding scratch_charges
-returns-in_default c = first_refused _ _ c.args.resources c.metered-marks.result (let came : as_spent c.metered-marks.result ≡ (let a = c.args in spend_bytes a.stage (a.l * 1) a.resources) = bytes_came _ c.metered-marks.result c.args.resources c.charge_bytes.ensures c.metered-marks.ensures (omega arith) in came) c.in_default.in_default-own.keys2
+returns-in_default c = first_refused _ _ c.args.resources c.metered-marks.result (let came : as_spent c.metered-marks.result ≡ (let a = c.args in spend_bytes a.stage (a.l * 1) a.resources) = bytes_came _ c.metered-marks.result c.args.resources c.charge_bytes.ensures c.metered-marks.ensures (omega arith) in came) c.in_default.not-Covered
 
 pub returns : goal.returns
 unfolding scratch_charges

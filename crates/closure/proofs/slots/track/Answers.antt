@@ -17,7 +17,7 @@ pub returns-in_default : goal.returns-in_default
 returns-in_default c =
     record {
       closes = scratch_refused _ _ _ (counted c.requires.0.are).local_slots_is c.args.resources _ c.charge_scratch-scratch.result (let came : as_spent c.charge_scratch-scratch.result ≡ (let a = c.args in scratch_charges (stage_number a.which) a.sizes.local_slots a.resources) = let a = c.args in
-    c.charge_scratch-scratch.ensures ∙ ap (λ (k : ℕ). scratch_charges k a.sizes.local_slots a.resources) c.stage_number.ensures in came) c.in_default.in_default-own.keys2;
+    c.charge_scratch-scratch.ensures ∙ ap (λ (k : ℕ). scratch_charges k a.sizes.local_slots a.resources) c.stage_number.ensures in came) c.in_default.not-Covered;
       no_marks = c.requires.1.no_marks;
       no_entries = c.requires.1.no_entries;
     }
@@ -26,7 +26,7 @@ pub returns-in_default-ended : goal.returns-in_default-ended
 returns-in_default-ended c =
     let refused = refused_closed _ _ _ (counted c.requires.0.are).local_slots_is c.args.resources _ c.charge_scratch-scratch.result (let came : as_spent c.charge_scratch-scratch.result ≡ (let a = c.args in scratch_charges (stage_number a.which) a.sizes.local_slots a.resources) = let a = c.args in
     c.charge_scratch-scratch.ensures ∙ ap (λ (k : ℕ). scratch_charges k a.sizes.local_slots a.resources) c.stage_number.ensures in came)
-    c.in-Covered.is _ c.expand-ended.ensures.closes c.in_default-ended.in_default-ended-own.keys2 in
+    c.in-Covered.is _ c.expand-ended.ensures.closes c.in_default-ended.not-Covered in
     record { closes = refused.0; no_marks = refused.1; no_entries = c.expand-ended.ensures.no_entries }
 
 pub list_slots-s-requires : goal.list_slots-s-requires

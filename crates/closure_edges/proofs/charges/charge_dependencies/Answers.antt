@@ -23,7 +23,7 @@ pub returns-in_default : goal.returns-in_default
 unfolding charge_dependencies charges
 returns-in_default c =
     charged_refused _ _ _ (counted c.requires.are).code_count_is c.loop-pc.invariant c.loop-pc-test.true
-    (spent_stopped c.charge_instruction-charged.result (let came : as_spent c.charge_instruction-charged.result ≡ charges c.args.sheet.now c.loop-pc.pc c.loop-pc.left = c.charge_instruction-charged.ensures ∙ same_charge _ _ _ c.instruction_at.ensures (counted c.requires.are).local_slots_is in came) c.in_default.in_default-own.keys2)
+    (spent_stopped c.charge_instruction-charged.result (let came : as_spent c.charge_instruction-charged.result ≡ charges c.args.sheet.now c.loop-pc.pc c.loop-pc.left = c.charge_instruction-charged.ensures ∙ same_charge _ _ _ c.instruction_at.ensures (counted c.requires.are).local_slots_is in came) c.in_default.not-Covered)
 
 pub loop-pc-preserved : goal.loop-pc-preserved
 loop-pc-preserved c =

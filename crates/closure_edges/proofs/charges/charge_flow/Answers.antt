@@ -11,7 +11,7 @@ use Rattle.closure_edges.proofs.charges.charge_flow.Goals as goal
 pub returns-in_default : goal.returns-in_default
 returns-in_default c =
     let a = c.args in
-    first_refused _ (spend_work 1 a.sizes.code_count) a.resources c.metered-records.result (let came : as_spent c.metered-records.result ≡ spend_bytes 1 (c.args.sizes.code_count * 24) c.args.resources = bytes_came 1 c.metered-records.result c.args.resources c.charge_bytes.ensures c.metered-records.ensures refl in came) c.in_default.in_default-own.keys2
+    first_refused _ (spend_work 1 a.sizes.code_count) a.resources c.metered-records.result (let came : as_spent c.metered-records.result ≡ spend_bytes 1 (c.args.sizes.code_count * 24) c.args.resources = bytes_came 1 c.metered-records.result c.args.resources c.charge_bytes.ensures c.metered-records.ensures refl in came) c.in_default.not-Covered
 
 pub returns : goal.returns
 returns c =

@@ -15,7 +15,7 @@ charge_flow-flow-requires c = (limited c.requires).code_count_is
 
 pub returns-in_default : goal.returns-in_default
 unfolding charge_graph
-returns-in_default c = first_refused _ _ c.args.resources c.charge_flow-flow.result (let came : as_spent c.charge_flow-flow.result ≡ charge_flow c.args.sheet.now c.args.resources = flow_counted _ c.args.resources c.charge_flow-flow.result c.charge_flow-flow.ensures c.requires in came) c.in_default.in_default-own.keys2
+returns-in_default c = first_refused _ _ c.args.resources c.charge_flow-flow.result (let came : as_spent c.charge_flow-flow.result ≡ charge_flow c.args.sheet.now c.args.resources = flow_counted _ c.args.resources c.charge_flow-flow.result c.charge_flow-flow.ensures c.requires in came) c.in_default.not-Covered
 
 pub returns : goal.returns
 unfolding charge_graph

@@ -10,7 +10,7 @@ use Rattle.closure_edges.proofs.charges.charge_instruction.Goals as goal
 
 pub returns-in_default : goal.returns-in_default
 unfolding charge_instruction
-returns-in_default c = first_refused _ _ c.args.resources c.metered-copied.result (let came : as_spent c.metered-copied.result ≡ (let a = c.args in spend_work 2 (copy_work (depends a.inst.op) a.inst) a.resources) = work_came 2 c.metered-copied.result c.args.resources c.charge_work.ensures c.metered-copied.ensures c.copy_work.ensures in came) c.in_default.in_default-own.keys2
+returns-in_default c = first_refused _ _ c.args.resources c.metered-copied.result (let came : as_spent c.metered-copied.result ≡ (let a = c.args in spend_work 2 (copy_work (depends a.inst.op) a.inst) a.resources) = work_came 2 c.metered-copied.result c.args.resources c.charge_work.ensures c.metered-copied.ensures c.copy_work.ensures in came) c.in_default.not-Covered
 
 pub returns : goal.returns
 unfolding charge_instruction

@@ -9,7 +9,7 @@ pub returns-then-not-sums_match : goal.returns-then-not-sums_match
 returns-then-not-sums_match c = refused_4 c.requires (cc)
 
 pub returns-then-not-kinds_named : goal.returns-then-not-kinds_named
-returns-then-not-kinds_named c = refused_5 c.requires (ap not (sym c.sums_match.ensures) ∙ c.if-not-sums_match.false) (ap not (sym c.kinds_named.ensures) ∙ c.if-not-kinds_named.true)
+returns-then-not-kinds_named c = refused_5 c.requires (ap not (sym c.sums_match.ensures ∙ c.if-not-sums_match.false)) (ap not (sym c.kinds_named.ensures ∙ c.if-not-kinds_named.true))
 
 pub returns : goal.returns
-returns c = unrefused c.requires (ap not (sym c.sums_match.ensures) ∙ c.if-not-sums_match.false) (ap not (sym c.kinds_named.ensures) ∙ c.if-not-kinds_named.false)
+returns c = unrefused c.requires (ap not (sym c.sums_match.ensures ∙ c.if-not-sums_match.false)) (ap not (sym c.kinds_named.ensures ∙ c.if-not-kinds_named.false))

@@ -1,6 +1,5 @@
 -- `sheet_questions::whole::check_sheet` meets its contract. Assumes nothing.
 use mathlib.Core.Path.{sym, ◌∙◌}
-use borrow.Author.Tests.{not-true, not-false}
 use Rattle.sheet_questions.proofs.FirstRefusal.{refused_1, refused_2, refused_3}
 use Rattle.sheet.proofs.SizeLimits.{limited_by}
 use Rattle.sheet.proofs.SheetLength.{laid_by, short}
@@ -12,20 +11,20 @@ pub returns-then-sheet-lt40 : goal.returns-then-sheet-lt40
 returns-then-sheet-lt40 c = refused_1 _ c.if-sheet-lt40.true
 
 pub returns-then-not-within_limits : goal.returns-then-not-within_limits
-returns-then-not-within_limits c = refused_2 _ c.if-sheet-lt40.false (sym c.within_limits.ensures ∙ not-true _ c.if-not-within_limits.true)
+returns-then-not-within_limits c = refused_2 _ c.if-sheet-lt40.false (sym c.within_limits.ensures ∙ c.if-not-within_limits.true)
 
 pub overflow_add-sizes : goal.overflow_add-sizes
-overflow_add-sizes c = omega (arith, short (limited_by _ c.sizes_of-sizes.ensures (sym c.within_limits.ensures ∙ not-false _ c.if-not-within_limits.false)) (laid_by _ c.sizes_of-sizes.ensures))
+overflow_add-sizes c = omega (arith, short (limited_by _ c.sizes_of-sizes.ensures (sym c.within_limits.ensures ∙ c.if-not-within_limits.false)) (laid_by _ c.sizes_of-sizes.ensures))
 
 pub returns-then-sheet-sizes : goal.returns-then-sheet-sizes
 returns-then-sheet-sizes c =
-    refused_3 _ c.if-sheet-lt40.false (sym c.within_limits.ensures ∙ not-false _ c.if-not-within_limits.false)
+    refused_3 _ c.if-sheet-lt40.false (sym c.within_limits.ensures ∙ c.if-not-within_limits.false)
     (λ e. omega (arith, (laid_by _ c.sizes_of-sizes.ensures).ends))
 
 pub check_fields-requires : goal.check_fields-requires
 check_fields-requires c =
     record {
       are = c.sizes_of-sizes.ensures;
-      within = sym c.within_limits.ensures ∙ not-false _ c.if-not-within_limits.false;
+      within = sym c.within_limits.ensures ∙ c.if-not-within_limits.false;
       long = omega (arith, (laid_by _ c.sizes_of-sizes.ensures).ends);
     }

@@ -28,7 +28,7 @@ unfolding charge_instruction_facts
 returns-in_default c =
     charged_refused _ _ _ (counted c.requires.are).code_count_is c.loop-pc.invariant c.loop-pc-test.true
     (spent_stopped c.charge_layouts-charged.result (let came : as_spent c.charge_layouts-charged.result
-    ≡ (let sheet = c.args.sheet.now in charge_fact sheet (instruction_fact sheet c.loop-pc.pc) c.loop-pc.left) = c.charge_layouts-charged.ensures ∙ fact_charged _ _ c.instruction_fact.ensures _ in came) c.in_default.in_default-own.keys2)
+    ≡ (let sheet = c.args.sheet.now in charge_fact sheet (instruction_fact sheet c.loop-pc.pc) c.loop-pc.left) = c.charge_layouts-charged.ensures ∙ fact_charged _ _ c.instruction_fact.ensures _ in came) c.in_default.not-Covered)
 
 pub loop-pc-preserved : goal.loop-pc-preserved
 loop-pc-preserved c =

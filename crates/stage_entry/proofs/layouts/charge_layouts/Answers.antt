@@ -25,7 +25,7 @@ pub returns-in_default : goal.returns-in_default
 unfolding fact_in
 returns-in_default c =
     let a = c.args in
-    first_refused _ (charge_layout a.sheet.now (a.cell.value % 65536)) a.resources c.charge_layout-first.result c.charge_layout-first.ensures c.in_default.in_default-own.keys2
+    first_refused _ (charge_layout a.sheet.now (a.cell.value % 65536)) a.resources c.charge_layout-first.result c.charge_layout-first.ensures c.in_default.not-Covered
     ∙ two_layouts _ a.cell.value a.resources a.cell.kind c.if-cell-ne2.false
 
 pub returns : goal.returns

@@ -8,7 +8,7 @@ pub returns-in_default : goal.returns-in_default
 returns-in_default c row fact l e =
     let a = c.args in
     let wide = c.requires.1 in
-    seed_refused a.sheet.now a.slots.now a.slot _ l fact e c.charge_layouts-charged.result c.charge_layouts-charged.ensures c.in_default.in_default-own.keys2
+    seed_refused a.sheet.now a.slots.now a.slot _ l fact e c.charge_layouts-charged.result c.charge_layouts-charged.ensures c.in_default.not-Covered
     (blanked _ _ c.clear_u8.ensures c.clear_u64.ensures wide.kinds_long wide.values_long)
 
 pub returns : goal.returns

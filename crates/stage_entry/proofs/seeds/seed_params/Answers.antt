@@ -27,7 +27,7 @@ seed_param-seeded-requires c =
 
 pub returns-in_default : goal.returns-in_default
 returns-in_default c row l =
-    seeded_refused _ _ _ _ _ _ _ c.loop-i.invariant c.loop-i-test.true _ c.seed_param-seeded.ensures c.in_default.in_default-own.keys2 (counted c.requires.0.are).param_count_is row l
+    seeded_refused _ _ _ _ _ _ _ c.loop-i.invariant c.loop-i-test.true _ c.seed_param-seeded.ensures c.in_default.not-Covered (counted c.requires.0.are).param_count_is row l
     ∙ (let a = c.args in
     ap (λ (n : ℕ). leaves_of row_laid (zero_row (length a.slots.now)) (seed_params a.sheet.now a.slots.now n (param_count a.sheet.now) row a.resources)) c.wide-begin.ensures.0)
 

@@ -20,7 +20,7 @@ returns-in_default c =
     let a = c.args in
     let ends = c.tracked_slots-closed.ensures in (
       begin_stopped a.which a.sheet.now a.slots.now a.row-kinds.now a.row-values.now a.room a.resources c.requires.1 ends.closes c.requires.2.no_row_kinds
-          c.requires.2.no_row_values c.in_default.in_default-own.keys2,
+          c.requires.2.no_row_values c.in_default.not-Covered,
       ends.no_marks,
       ends.no_entries,
     )
@@ -42,7 +42,7 @@ returns-in_default-outcome c =
     let a = c.args in
     let ends = c.tracked_slots-closed.ensures in (
       begin_refused a.which a.sheet.now a.slots.now a.row-kinds.now a.row-values.now a.room a.resources c.requires.1 ends.closes c.in-Covered.is
-          c.enter_tracked-outcome.ensures c.in_default-outcome.in_default-outcome-own.keys2 c.clear_u16.ensures,
+          c.enter_tracked-outcome.ensures c.in_default-outcome.not-Covered c.clear_u16.ensures,
       ends.no_marks,
       ends.no_entries,
     )

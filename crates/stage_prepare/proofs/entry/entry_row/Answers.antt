@@ -11,7 +11,7 @@ charge_matrix-charged-requires c = let asked = c.requires in ((limited asked.0).
 pub returns-in_default : goal.returns-in_default
 returns-in_default c =
     let a = c.args in
-    enter_refused _ _ _ a.slots.now a.resources c.charge_matrix-charged.result c.requires.0 c.charge_matrix-charged.ensures c.in_default.in_default-own.keys2 c.requires.1
+    enter_refused _ _ _ a.slots.now a.resources c.charge_matrix-charged.result c.requires.0 c.charge_matrix-charged.ensures c.in_default.not-Covered c.requires.1
 
 pub returns : goal.returns
 returns c =

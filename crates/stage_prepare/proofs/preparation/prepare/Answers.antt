@@ -9,7 +9,7 @@ pub returns-in_default : goal.returns-in_default
 returns-in_default c =
     let a = c.args in (
       prepared_none a.which a.sheet.now a.slots.now a.row-kinds.now a.row-values.now a.room a.before c.clear_u16.ensures c.requires.1.no_row_kinds
-          c.requires.1.no_row_values c.in_default.in_default-own.keys2,
+          c.requires.1.no_row_values c.in_default.not-Covered,
       c.requires.1.no_marks,
       c.requires.1.no_Stack,
     )

@@ -6,10 +6,6 @@ use Rattle.text_lines.proofs.Decimals.{DigitsFound, found_start, found_above, fo
 use native.Mathlib.Omega.{arith}
 use Rattle.text_lines.proofs.words.put_decimal.Goals as goal
 
--- NO NEED
-slice-aggregate-put : tie.Need-slice-aggregate-put invariant-loop decreases-loop
-slice-aggregate-put c = refl
-
 pub shape_of-out-then-x-eq0 : goal.shape_of-out-then-x-eq0
 shape_of-out-then-x-eq0 c = c.put.auto.out
 
