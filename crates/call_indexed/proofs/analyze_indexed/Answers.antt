@@ -9,16 +9,16 @@ use Rattle.call_indexed.proofs.analyze_indexed.Goals as goal
 
 -- ---- what was lent
 abbrev constants : goal.Start → Table
-constants s = table s.args.constant-slots.now s.args.constant-present.now s.args.constant_kinds.now s.args.constant_values.now
+constants s = table s.args.constant_slots.now s.args.constant_present.now s.args.constant_kinds.now s.args.constant_values.now
 
 abbrev index : goal.Start → Table
-index s = table s.args.index-slots.now s.args.index-present.now s.args.index-kinds.now s.args.index-values.now
+index s = table s.args.index_slots.now s.args.index_present.now s.args.index_kinds.now s.args.index_values.now
 
 abbrev containers : goal.Start → Table
-containers s = table s.args.container-slots.now s.args.container-present.now s.args.container-kinds.now s.args.container-values.now
+containers s = table s.args.container_slots.now s.args.container_present.now s.args.container_kinds.now s.args.container_values.now
 
 abbrev shared : goal.Start → Scratch
-shared s = scratch s.args.marks.now s.args.stack.now s.args.row-kinds.now s.args.row-values.now s.args.work-list.now
+shared s = scratch s.args.marks.now s.args.stack.now s.args.row_kinds.now s.args.row_values.now s.args.work_list.now
 
 -- ---- the needs
 pub analyze_values-values-requires : goal.analyze_values-values-requires

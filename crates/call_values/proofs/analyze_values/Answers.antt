@@ -13,13 +13,13 @@ use Rattle.call_values.proofs.analyze_values.Goals as goal
 
 -- ---- what was lent
 abbrev constants : goal.Start → Table
-constants s = table s.args.constant-slots.now s.args.constant-present.now s.args.constant_kinds.now s.args.constant_values.now
+constants s = table s.args.constant_slots.now s.args.constant_present.now s.args.constant_kinds.now s.args.constant_values.now
 
 abbrev index : goal.Start → Table
-index s = table s.args.index-slots.now s.args.index-present.now s.args.index-kinds.now s.args.index-values.now
+index s = table s.args.index_slots.now s.args.index_present.now s.args.index_kinds.now s.args.index_values.now
 
 abbrev shared : goal.Start → Scratch
-shared s = scratch s.args.marks.now s.args.stack.now s.args.row-kinds.now s.args.row-values.now s.args.work-list.now
+shared s = scratch s.args.marks.now s.args.stack.now s.args.row_kinds.now s.args.row_values.now s.args.work_list.now
 
 -- ---- the needs
 pub charge_graph-begun-requires : goal.charge_graph-begun-requires
@@ -33,7 +33,7 @@ analyze_stage-constants-requires c =
 
 pub store_lengths-requires : goal.store_lengths-requires
 store_lengths-requires c =
-    ((measured c.requires.0, few_code c.requires.0, few_code c.requires.0), constants_stored _ c.requires.0 (constants c) _ _ _ c.analyze_stage-constants.ensures)
+    record { measured = (measured c.requires.0, few_code c.requires.0, few_code c.requires.0); constants_stored = constants_stored _ c.requires.0 (constants c) _ _ _ c.analyze_stage-constants.ensures }
 
 pub analyze_stage-staged-requires : goal.analyze_stage-staged-requires
 analyze_stage-staged-requires c =

@@ -8,10 +8,10 @@ use Rattle.export.proofs.vo_facts_analyze.Goals as goal
 -- all that was lent
 abbrev before : goal.Start → Lent
 before s =
-    lent (table s.args.constant-slots.now s.args.constant-present.now s.args.constant_kinds.now s.args.constant_values.now)
-    (table s.args.index-slots.now s.args.index-present.now s.args.index-kinds.now s.args.index-values.now)
-    (table s.args.container-slots.now s.args.container-present.now s.args.container-kinds.now s.args.container-values.now)
-    (scratch s.args.marks.now s.args.stack.now s.args.row-kinds.now s.args.row-values.now s.args.work-list.now)
+    lent (table s.args.constant_slots.now s.args.constant_present.now s.args.constant_kinds.now s.args.constant_values.now)
+    (table s.args.index_slots.now s.args.index_present.now s.args.index_kinds.now s.args.index_values.now)
+    (table s.args.container_slots.now s.args.container_present.now s.args.container_kinds.now s.args.container_values.now)
+    (scratch s.args.marks.now s.args.stack.now s.args.row_kinds.now s.args.row_values.now s.args.work_list.now)
 
 abbrev budget : goal.Start → VerifierResources
 budget s = record { bytes = s.args.bytes; work = s.args.work }

@@ -33,4 +33,4 @@ pub returns : goal.returns
 returns c =
     let n = (counted c.requires.measured.0.are).code_count_is in
     let all = stored_all _ _ _ _ _ _ _ _ c.loop-pc.invariant c.loop-pc-test.false n in
-    (all, λ constants same e pc l o. lengths_read _ constants same _ _ (omega arith) (omega arith) (all constants.rows e).0 (all constants.rows e).1 pc l o)
+    record { stored = all; read = λ constants same e pc l o. lengths_read _ constants same _ _ (omega arith) (omega arith) (all constants.rows e).0 (all constants.rows e).1 pc l o }

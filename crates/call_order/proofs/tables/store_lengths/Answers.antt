@@ -43,16 +43,10 @@ slice_bounds-length_facts-end-4 c = sym (length-take-le _ _ (values_fit (let cam
 
 pub length_facts-requires : goal.length_facts-requires
 length_facts-requires c =
-    (
-      (c.requires.measured.0, (_, stored_ended (let came : (a : Analysed)
-    × Stored c.args.sheet.now a c.args.constant (table c.args.slots.now c.args.present.now c.args.kinds.now c.args.values.now) = c.requires.constants_stored (let came : refusing c.args.before ≡ false = sym c.refuses.ensures ∙ c.if-refuses.false in came) in came).1 (let came : c.args.sizes.code_count ≡ code_count c.args.sheet.now = (counted c.requires.measured.0.are).code_count_is in came) refl)),
-      (length-take-le _ _ (present_fits (let came : (a : Analysed)
-    × Stored c.args.sheet.now a c.args.constant (table c.args.slots.now c.args.present.now c.args.kinds.now c.args.values.now) = c.requires.constants_stored (let came : refusing c.args.before ≡ false = sym c.refuses.ensures ∙ c.if-refuses.false in came) in came).1 (let came : c.args.sizes.code_count ≡ code_count c.args.sheet.now = (counted c.requires.measured.0.are).code_count_is in came) refl), c.requires.measured.1, c.requires.measured.2),
-    )
+    record { measured = (c.requires.measured.0, (_, stored_ended (let came : (a : Analysed)
+    × Stored c.args.sheet.now a c.args.constant (table c.args.slots.now c.args.present.now c.args.kinds.now c.args.values.now) = c.requires.constants_stored (let came : refusing c.args.before ≡ false = sym c.refuses.ensures ∙ c.if-refuses.false in came) in came).1 (let came : c.args.sizes.code_count ≡ code_count c.args.sheet.now = (counted c.requires.measured.0.are).code_count_is in came) refl)); present_len = (length-take-le _ _ (present_fits (let came : (a : Analysed)
+    × Stored c.args.sheet.now a c.args.constant (table c.args.slots.now c.args.present.now c.args.kinds.now c.args.values.now) = c.requires.constants_stored (let came : refusing c.args.before ≡ false = sym c.refuses.ensures ∙ c.if-refuses.false in came) in came).1 (let came : c.args.sizes.code_count ≡ code_count c.args.sheet.now = (counted c.requires.measured.0.are).code_count_is in came) refl), c.requires.measured.1, c.requires.measured.2) }
 
 pub returns : goal.returns
 returns c =
-    (
-      λ goes a st. lengthened st (let came : c.args.sizes.code_count ≡ code_count c.args.sheet.now = (counted c.requires.measured.0.are).code_count_is in came) refl c.length_facts.ensures.stored c.length_facts.ensures.read,
-      λ refused. absurd (false≢true (sym (let came : refusing c.args.before ≡ false = sym c.refuses.ensures ∙ c.if-refuses.false in came) ∙ refused)),
-    )
+    record { stored = λ goes a st. lengthened st (let came : c.args.sizes.code_count ≡ code_count c.args.sheet.now = (counted c.requires.measured.0.are).code_count_is in came) refl c.length_facts.ensures.stored c.length_facts.ensures.read; kept = λ refused. absurd (false≢true (sym (let came : refusing c.args.before ≡ false = sym c.refuses.ensures ∙ c.if-refuses.false in came) ∙ refused)) }

@@ -9,7 +9,7 @@ returns-then-reach-wrapping_sub_usize c =
     (
       omega arith,
       followed_nothing _
-          (outside_reach c.args.inst c.reach.ensures.1 _ _ c.wrapping_sub_usize.ensures (omega arith) (omega arith) c.if-reach-wrapping_sub_usize.true),
+          (outside_reach c.args.inst c.reach.ensures.1 _ _ c.wrapping_sub_usize.ensures.value (omega arith) (omega arith) c.if-reach-wrapping_sub_usize.true),
     )
 
 pub returns-then-edges-bit-eq0 : goal.returns-then-edges-bit-eq0
