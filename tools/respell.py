@@ -16,6 +16,9 @@ FOREIGN = re.compile(r"^\s*(?:pub )?use (?!Rattle\.(?!std\b))(\S+)\.\{(.*)\}", r
 # A clause says `result` of what is returned. The equations of a sheet's sizes would have the names of what they are about, and so would some
 # lemmas; what the toolchain's script had turned already stands here by its new name.
 APART = {"result": "call_result", "equal_by": "equal_by_lem", "row_named": "row_named_lem", "row_laid": "row_laid_lem"}
+# The toolchain's script took a name's end for a type.
+APART |= {"no_Stack": "no_stack", "no_Stack'": "no_stack'", "last_Line": "last_line", "writes-Line": "writes_line"}
+WORDS = ["result", "equal_by", "row_named", "row_laid"]
 SIZES = ["code", "range", "constant", "param", "layout", "slot-kind"]
 APART |= {f"{size}-count": f"{size.replace('-', '_')}_count_is" for size in SIZES}
 APART |= {f"{slots}-slots": f"{slots}_slots_is" for slots in ["local", "param", "recv"]}
@@ -79,7 +82,7 @@ def declared():
 def respelled(text, names, words):
     def turn(m):
         word = m.group(0)
-        own = not (word in APART and m.start() > 0 and text[m.start() - 1] == "." and "-" not in word)
+        own = not (word in WORDS and m.start() > 0 and text[m.start() - 1] == ".")
         return spelled(word) if word in names and own and (words or CAMEL.match(word)) else word
     return PIECE.sub(turn, text)
 

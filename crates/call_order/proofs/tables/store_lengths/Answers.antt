@@ -19,7 +19,7 @@ use Rattle.call_order.proofs.tables.store_lengths.Goals as goal
 pub returns-then-refuses : goal.returns-then-refuses
 returns-then-refuses c =
     let refused = sym c.refuses.ensures ∙ c.if-refuses.true in
-    (λ goes a st. absurd (false≢true (sym goes ∙ refused)), λ same. (refl, refl))
+    record { stored = λ goes a st. absurd (false≢true (sym goes ∙ refused)); kept = λ same. (refl, refl) }
 
 pub overflow_mul-cells : goal.overflow_mul-cells
 overflow_mul-cells c = omega (arith, stored_cells_fit _ _ (limited c.requires.measured.0).code_count_is (stored_few (let came : (a : Analysed)

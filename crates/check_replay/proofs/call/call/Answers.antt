@@ -112,7 +112,7 @@ pub returns : goal.returns
 returns c =
     let head = c.args.head.now in
     let call = c.args.call in
-    called_is head call c.args.sheet.now c.args.checksum c.analyze-answer.result (let left = c.analyze-answer.new.1.1 in
+    called_is head call c.args.sheet.now c.args.checksum c.analyze-answer.result (let left = c.analyze-answer.new.constant_slots in
     lent (table left.0 left.1.0 left.1.1.0 left.1.1.1.0)
     (table left.1.1.1.1.0 left.1.1.1.1.1.0 left.1.1.1.1.1.1.0 left.1.1.1.1.1.1.1.0)
     (table left.1.1.1.1.1.1.1.1.0 left.1.1.1.1.1.1.1.1.1.0 left.1.1.1.1.1.1.1.1.1.1.0 left.1.1.1.1.1.1.1.1.1.1.1.0)
