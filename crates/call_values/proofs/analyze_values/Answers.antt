@@ -75,9 +75,8 @@ shape_of-work_list c = c.analyze_stage-staged.auto.work_list ∙ c.analyze_stage
 
 pub returns : goal.returns
 returns c =
-    let t = c.analyze_stage-constants.auto.slots in
     values_promise _ c.requires.0 c.args.resources (table c.args.constant_slots.now c.args.constant_present.now c.args.constant_kinds.now c.args.constant_values.now) (table c.args.index_slots.now c.args.index_present.now c.args.index_kinds.now c.args.index_values.now) (scratch c.args.marks.now c.args.stack.now c.args.row_kinds.now c.args.row_values.now c.args.work_list.now) _ _ _ _ _ (let came : scratch c.clear_scratch.new.marks c.clear_scratch.new.stack c.clear_scratch.new.row_kinds
     c.clear_scratch.new.row_values c.clear.new.work_list ≡ zero_scratch (scratch c.args.marks.now c.args.stack.now c.args.row_kinds.now c.args.row_values.now c.args.work_list.now) = let a = c.args in
     scratch_zeroed a.marks.now a.stack.now a.row_kinds.now a.row_values.now a.work_list.now c.clear_scratch.ensures c.clear.ensures in came) c.charge_graph-begun.ensures c.analyze_stage-constants.ensures c.store_lengths.ensures.stored
-    c.analyze_stage-staged.ensures (record { slots = t.0; present = t.1.0; kinds = t.1.1.0; values = t.1.1.1.0 })
+    c.analyze_stage-staged.ensures (record { slots = c.analyze_stage-constants.auto.slots; present = c.analyze_stage-constants.auto.present; kinds = c.analyze_stage-constants.auto.kinds; values = c.analyze_stage-constants.auto.values })
     c.refuses-refused.ensures c.counts_unless.ensures c.clear_table_if.ensures
