@@ -3,12 +3,12 @@
 
 use check_input::read_input;
 use facts_report::list;
-use libc::STDOUT_FILENO;
+use std::io::Write;
 
-fn main() {
+fn main(rt: HostRuntime) {
     // One byte more than the longest sheet that is not too large: of a longer input the rest may be left unread.
     let mut sheet = [0u8; 65537];
-    let input = read_input(&mut sheet);
+    let input = read_input(&mut rt.stdin(), &mut sheet);
     let failed = input.failed;
     if failed {
         return;
@@ -16,5 +16,5 @@ fn main() {
     let count = input.count;
     let mut text = [0u8; 2187530];
     let length = list(&sheet[..count], &mut text);
-    io::write_all(STDOUT_FILENO, &text[..length]);
+    let _written = Write::write_all(&mut rt.stdout(), &text[..length]);
 }
