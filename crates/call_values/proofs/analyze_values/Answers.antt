@@ -1,14 +1,13 @@
 -- `analyze_values` meets its contract.
 -- Assumes nothing.
 use mathlib.Core.Path.{◌≡◌, refl, ◌∙◌}
-use Rattle.model.specs.Call.{Table, table, Scratch, scratch}
+use Rattle.model.specs.Call.{table, scratch}
 use Rattle.sheet.proofs.AcceptedSheet.{measured}
 use Rattle.stage_memory.specs.Stage.{zero_scratch}
 use Rattle.stage_memory.proofs.RecordEqualities.{scratch_zeroed}
 use Rattle.call_order.proofs.ClearedOutputs.{clean, still_clear, few_code, index_found}
 use Rattle.call_order.proofs.ConstantOutput.{constants_stored}
 use Rattle.call_order.proofs.CallOrder.{values_promise}
-use borrow.Author.Rules.{rules}
 use Rattle.call_values.proofs.analyze_values.Goals as goal
 
 -- ---- the needs

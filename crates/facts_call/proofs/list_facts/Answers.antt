@@ -1,14 +1,8 @@
 -- `facts_call::list_facts` meets its contract. Assumes nothing.
-use mathlib.Core.Path.{◌≡◌}
-use mathlib.Core.Option.{some}
 use native.Mathlib.Omega.{arith}
-use Rattle.model.specs.Charges.{fresh}
-use Rattle.model.specs.Sheet.{code_count}
-use Rattle.model.specs.Call.{Lent, table, scratch, lent, call_result, analyzed}
-use Rattle.model.specs.Listing.{listing_lent}
+use Rattle.model.specs.Call.{table, scratch, lent}
 use Rattle.sheet.proofs.SizeNames.{counted}
 use Rattle.facts_call.proofs.ListedCall.{listing_call, call_tables, call_shown}
-use borrow.Author.Rules.{rules}
 use Rattle.facts_call.proofs.list_facts.Goals as goal
 
 -- ---- needs

@@ -2,9 +2,8 @@
 -- Assumes nothing.
 use mathlib.Core.Path.{sym, ◌∙◌}
 use borrow.Author.Tests.{not-true, not-false}
-use borrow.Author.Rules.{rules}
 use lib.Seq.{length-take-le}
-use Rattle.model.specs.Call.{Table, Scratch, table, scratch}
+use Rattle.model.specs.Call.{table, scratch}
 use Rattle.sheet.proofs.SizeNames.{counted}
 use Rattle.stage.proofs.StageBegun.{asked_lent, ready_there}
 use Rattle.stage.proofs.NothingToRun.{idles}

@@ -1,11 +1,10 @@
 -- `analyze` meets its contract: questions 1 to 6, the sheet's index, then the three analyses.
 -- Assumes nothing.
-use Rattle.model.specs.Call.{Lent, lent, table, scratch}
+use Rattle.model.specs.Call.{lent, table, scratch}
 use Rattle.sheet_index.proofs.IndexFound.{few_layouts, firsts_found, classes_found}
 use Rattle.sheet_questions.proofs.AdmissionTests.{admitted_lengths, turned_away}
 use Rattle.call_order.proofs.ClearedOutputs.{few_code}
 use Rattle.call_order.proofs.CallOrder.{demanded}
-use borrow.Author.Rules.{rules}
 use Rattle.verifier.proofs.analyze.Goals as goal
 
 -- ---- the needs

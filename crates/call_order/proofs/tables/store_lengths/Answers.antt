@@ -12,7 +12,6 @@ use Rattle.sheet.proofs.SizeLimits.{limited}
 use Rattle.budget.specs.Outcome.{refusing}
 use Rattle.call_order.specs.Stored.{Stored}
 use Rattle.call_order.proofs.ConstantTables.{stored_few, slots_fit, present_fits, kinds_fit, values_fit, stored_ended, lengthened, stored_cells_fit}
-use borrow.Author.Rules.{rules}
 use Rattle.call_order.proofs.tables.store_lengths.Goals as goal
 
 -- ---- the needs

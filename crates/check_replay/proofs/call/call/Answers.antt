@@ -2,7 +2,7 @@
 -- Assumes nothing.
 use mathlib.Core.Path.{refl}
 use lib.Dec.{lit<, lit≤}
-use Rattle.model.specs.Call.{Lent, table, scratch, lent}
+use Rattle.model.specs.Call.{table, scratch, lent}
 use Rattle.check_replay.proofs.CallBuffers.{table_is, scratch_is, called_is}
 use Rattle.check_replay.proofs.call.call.Goals as goal
 

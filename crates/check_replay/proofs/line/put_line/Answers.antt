@@ -1,6 +1,5 @@
 -- `check_replay::line::put_line` meets its contract: one part behind the other.
 -- Assumes nothing.
-use borrow.Author.Rules.{rules}
 use Rattle.model.specs.Listing.{ascii, newline}
 use Rattle.text_lines.proofs.TextWritten.{then}
 use Rattle.check_replay.proofs.CallsInTurn.{line_shown}

@@ -1,6 +1,6 @@
 -- `closure::follow_instruction` meets its contract.
 -- Assumes nothing.
-use Rattle.std.proofs.Common.{arith, rules}
+use Rattle.std.proofs.Common.{arith}
 use Rattle.closure.proofs.FollowEdges.{outside_reach, followed_nothing, followed_none, followed_some}
 use Rattle.closure.proofs.follow.follow_instruction.Goals as goal
 

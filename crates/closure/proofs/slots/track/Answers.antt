@@ -1,6 +1,6 @@
 -- `closure::slots::track` meets its contract: each way out is one way of the whole closure.
 -- Assumes nothing.
-use Rattle.std.proofs.Common.{◌≡◌, ℕ, ap, ◌∙◌, arith, rules}
+use Rattle.std.proofs.Common.{◌≡◌, ℕ, ap, ◌∙◌, arith}
 use Rattle.model.specs.Closure.{stage_number}
 use Rattle.budget.specs.Outcome.{as_spent}
 use Rattle.finality.proofs.Lengths.{zeros_same}

@@ -1,7 +1,6 @@
 -- `finish` meets its contract.
 -- Assumes nothing.
 use Rattle.fixpoint.proofs.RunEnds.{cleared_where, kept_where}
-use borrow.Author.Rules.{rules}
 use Rattle.fixpoint.proofs.clearing.finish.Goals as goal
 
 pub returns-then-refuses : goal.returns-then-refuses

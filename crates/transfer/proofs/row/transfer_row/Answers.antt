@@ -2,7 +2,6 @@
 use mathlib.Core.Path.{sym, ap, ◌∙◌, subst}
 use lib.ListN.{length}
 use native.Mathlib.Omega.{arith}
-use borrow.Author.Rules.{rules}
 use Rattle.model.specs.Tables.{facts_of}
 use Rattle.sheet.proofs.AcceptedSheet.{measured}
 use Rattle.sheet.proofs.FieldBounds.{code_inside}

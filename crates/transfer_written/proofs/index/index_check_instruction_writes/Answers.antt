@@ -1,5 +1,4 @@
 -- `transfer_written::index::index_check_instruction_writes` meets its contract: SlotSet and SlotSetN by a Checked b, any other as in the other analyses. Assumes nothing.
-use borrow.Author.Rules.{rules}
 use Rattle.model.specs.Tables.{fact_in}
 use Rattle.sheet.proofs.AcceptedSheet.{measured}
 use Rattle.transfer_written.proofs.Spans.{unchecked_spans, checked_spans, checked_n_spans, as_other_spans}
