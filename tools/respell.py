@@ -11,9 +11,14 @@ import sys
 PIECE = re.compile(r"[^\s(){}.;,@\"«»\[\]|`]+")
 DECLARED = re.compile(r"^\s*(?:(?:pub|abbrev|unfoldable|data|record|ruleset)\s+)*([^\s:(){}.;,]+)(?:\s+[^:=]*)?\s:\s")
 CAMEL = re.compile(r"^[a-z][A-Za-z0-9_'₀-₉-]*[A-Z]")
+# What the library has under a name is not ours to rename.
+FOREIGN = re.compile(r"^\s*(?:pub )?use (?!Rattle\.(?!std\b))(\S+)\.\{(.*)\}", re.M)
 # A clause says `result` of what is returned. The equations of a sheet's sizes would have the names of what they are about, and so would some
 # lemmas; what the toolchain's script had turned already stands here by its new name.
 APART = {"result": "call_result", "equal_by": "equal_by_lem", "row_named": "row_named_lem", "row_laid": "row_laid_lem"}
+# The toolchain's script took a name's end for a type.
+APART |= {"no_Stack": "no_stack", "no_Stack'": "no_stack'", "last_Line": "last_line", "writes-Line": "writes_line"}
+WORDS = ["result", "equal_by", "row_named", "row_laid"]
 SIZES = ["code", "range", "constant", "param", "layout", "slot-kind"]
 APART |= {f"{size}-count": f"{size.replace('-', '_')}_count_is" for size in SIZES}
 APART |= {f"{slots}-slots": f"{slots}_slots_is" for slots in ["local", "param", "recv"]}
@@ -65,6 +70,10 @@ def declared():
                 names[m.group(1)].add(crate)
             if m and not walks and m.group(1) in APART:
                 names[m.group(1)].add(crate)
+    for path in statements():
+        for used, words in FOREIGN.findall(open(path).read()):
+            for word in PIECE.findall(words):
+                names.pop(word, None)
     DEFINITIONS.update(snake(word) for word in names if "-" not in word)
     DEFINITIONS.update(["in_range"])
     return {w: c for w, c in names.items() if spelled(w) != w}
@@ -73,7 +82,7 @@ def declared():
 def respelled(text, names, words):
     def turn(m):
         word = m.group(0)
-        own = not (word in APART and m.start() > 0 and text[m.start() - 1] == "." and "-" not in word)
+        own = not (word in WORDS and m.start() > 0 and text[m.start() - 1] == ".")
         return spelled(word) if word in names and own and (words or CAMEL.match(word)) else word
     return PIECE.sub(turn, text)
 

@@ -4,36 +4,39 @@
 #![tactic(auto)]
 
 use check_input::read_front;
-use libc::{STDIN_FILENO, STDOUT_FILENO};
 use line::put_line;
 use sheet::u32_at;
+use std::io::{Read, Write};
 
 mod call;
 mod calls;
 mod line;
 
-// A proved loop has to end, and nothing says that the input does. So the loop counts its turns down, from a number that no run uses up.
-fn main() {
-    let mut turns = u64::MAX;
-    while turns > 0 && replay_next() {
-        turns -= 1;
+// A proved loop has to end, and nothing says that the input does. So its turns are bounded, by a number that no run uses up.
+fn main(rt: HostRuntime) {
+    let mut input = rt.stdin();
+    let mut output = rt.stdout();
+    for _ in 0..u64::MAX {
+        if !replay_next(&mut input, &mut output) {
+            return;
+        }
     }
 }
 
 // Reads the head of a recorded sheet and the sheet, and writes its line. Answers whether both came and the line was written: nothing follows a gap.
-fn replay_next() -> bool {
+fn replay_next<R: Read, W: Write>(input: &mut R, output: &mut W) -> bool {
     let mut head = [0u8; 88];
-    if io::read_full(STDIN_FILENO, &mut head) < 88 {
+    if read_front(input, &mut head, 88) < 88 {
         return false;
     }
     let length = u32_at(&head, 0) as usize;
     // the longest recorded sheet has 16,442 bytes
     let mut sheet = [0u8; 20480];
-    let count = read_front(&mut sheet, length);
+    let count = read_front(input, &mut sheet, length);
     if count < length {
         return false;
     }
     let mut text = [0u8; 289];
     let end = put_line(&head, &sheet[..count], &mut text);
-    io::write_all(STDOUT_FILENO, &text[..end])
+    output.write_all(&text[..end]).is_ok()
 }

@@ -1,6 +1,6 @@
 // The successors of an instruction, at most two.
 ghost use Rattle.std.specs.Prelude.{◌≡◌};
-ghost use Rattle.model.specs.Promise.{lent_row, lent_rows};
+ghost use Rattle.model.specs.Promise.{lent_rows};
 ghost use Rattle.model.specs.Successors.{sheet_successors};
 ghost use Rattle.model.specs.Tables.{row_slices, table_slices};
 ghost use Rattle.sheet_layouts.specs.Classes.{equal_by};
@@ -27,8 +27,8 @@ fn join_next(
 ) -> bool
     requires { NextRequires successors k (table_slices present.old kinds.old values.old) (row_slices row_kinds.now row_values.now) }
     ensures { let t = lent_rows present kinds values in
-        let row = lent_row row_kinds row_values in
-        NextEnsures (equal_by which classes.now) successors k t.entry row.entry t.exit result }
+        let row = row_slices row_kinds.now row_values.now in
+        NextEnsures (equal_by which classes.now) successors k t.entry row t.exit result }
 {
     let len = successors.len as usize;
     if k < len {
@@ -82,8 +82,8 @@ pub fn visit_successors(
 ) -> InstructionSuccessors
     requires { SuccessorsRequires sheet.now sizes p (table_slices present.old kinds.old values.old) (row_slices row_kinds.now row_values.now) }
     ensures { let t = lent_rows present kinds values in
-        let row = lent_row row_kinds row_values in
-        SuccessorsEnsures (equal_by which classes.now) (sheet_successors sheet.now p) t.entry row.entry t.exit result }
+        let row = row_slices row_kinds.now row_values.now in
+        SuccessorsEnsures (equal_by which classes.now) (sheet_successors sheet.now p) t.entry row t.exit result }
 {
     let next = instruction_successors(sizes.code_count, p, instruction_at(sheet, p));
     let first = join_next(

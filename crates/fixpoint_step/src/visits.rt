@@ -1,5 +1,5 @@
 // One successor of a step: its row gets the copy or is joined with it.
-ghost use Rattle.model.specs.Promise.{lent_row, lent_rows};
+ghost use Rattle.model.specs.Promise.{lent_rows};
 ghost use Rattle.model.specs.Tables.{row_slices, table_slices};
 ghost use Rattle.sheet_layouts.specs.Classes.{equal_by};
 ghost use Rattle.fixpoint_step.specs.Visits.{JoinRequires, JoinEnsures};
@@ -21,8 +21,8 @@ pub fn join_into(
 ) -> bool
     requires { JoinRequires q (table_slices present.old kinds.old values.old) (row_slices row_kinds.now row_values.now) }
     ensures { let t = lent_rows present kinds values in
-        let row = lent_row row_kinds row_values in
-        JoinEnsures (equal_by which classes.now) q t.entry row.entry t.exit result }
+        let row = row_slices row_kinds.now row_values.now in
+        JoinEnsures (equal_by which classes.now) q t.entry row t.exit result }
 {
     let s = row_kinds.len();
     let at = q * s;

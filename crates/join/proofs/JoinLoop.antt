@@ -17,7 +17,7 @@ use Rattle.join.proofs.CellJoins.{cell_joined}
 use Rattle.join.proofs.Prefixes.{fill_get, fill_set, fill_done}
 use Rattle.join.proofs.CellChanges.{kept, same_kind, other_kind}
 use Rattle.model.proofs.Facts.{length_facts_lem, lies_kinds, lies_values}
-use Rattle.join.proofs.JoinedPlaces.{facts_of-get, or_false, joined, join_at, changed_to, joined_length, joined_get, changed_to-suc}
+use Rattle.join.proofs.JoinedPlaces.{facts_of-get, or-false, joined, join_at, changed_to, joined_length, joined_get, changed_to-suc}
 use mathlib.Core.Bool.{or-true}
 
 pub record Partly (same : ℕ → ℕ → ℕ → ℕ → Bool) (ok ov nk nv kinds values : List ℕ) (changed : Bool) (i : ℕ) : Type 0 where
@@ -136,4 +136,4 @@ module _ {same : ℕ → ℕ → ℕ → ℕ → Bool} {ok ov nk nv : List ℕ} 
             let v : value here ≡ get_or ov i 0 = kept same (get_or ok i 0) (get_or ov i 0) (fact_of (get_or nk i 0) (get_or nv i 0)) encoded_here k in
             rw (k, v, ← at_kind, ← at_value, set-get_or kinds i 0, set-get_or values i 0) at
             (step changed
-            (sym (or_false changed) ∙ ap (λ (x : Bool). changed || x) (sym (same_kind same (get_or ok i 0) (get_or ov i 0) (fact_of (get_or nk i 0) (get_or nv i 0)) encoded_here k))))
+            (sym (or-false changed) ∙ ap (λ (x : Bool). changed || x) (sym (same_kind same (get_or ok i 0) (get_or ov i 0) (fact_of (get_or nk i 0) (get_or nv i 0)) encoded_here k))))

@@ -20,9 +20,9 @@ facts_of-get f (k ∷ ks) [] i e h = absurd (omega arith)
 facts_of-get f (k ∷ ks) (v ∷ vs) zero e h = refl
 facts_of-get f (k ∷ ks) (v ∷ vs) (suc i) e h = facts_of-get f ks vs i (suc_inj e) (le_of_suc-le-suc h)
 
-pub or_false : (x : Bool) → x || false ≡ x
-or_false true = refl
-or_false false = refl
+pub or-false : (x : Bool) → x || false ≡ x
+or-false true = refl
+or-false false = refl
 
 or_assoc : (x y z : Bool) → x || (y || z) ≡ x || y || z
 or_assoc true y z = refl
@@ -67,7 +67,7 @@ module _ (same : ℕ → ℕ → ℕ → ℕ → Bool) where
   changed_to-suc (k ∷ ok) [] nk nv i a b c h = absurd (omega arith)
   changed_to-suc (k ∷ ok) (v ∷ ov) [] nv i a b c h = absurd (omega arith)
   changed_to-suc (k ∷ ok) (v ∷ ov) (l ∷ nk) [] i a b c h = absurd (omega arith)
-  changed_to-suc (k ∷ ok) (v ∷ ov) (l ∷ nk) (w ∷ nv) zero a b c h = or_false (differs (fact_of k v) (join same (fact_of k v) (fact_of l w)))
+  changed_to-suc (k ∷ ok) (v ∷ ov) (l ∷ nk) (w ∷ nv) zero a b c h = or-false (differs (fact_of k v) (join same (fact_of k v) (fact_of l w)))
   changed_to-suc (k ∷ ok) (v ∷ ov) (l ∷ nk) (w ∷ nv) (suc i) a b c h =
       ap (λ (x : Bool). differs (fact_of k v) (join same (fact_of k v) (fact_of l w)) || x)
       (changed_to-suc ok ov nk nv i (suc_inj a) (suc_inj b) (suc_inj c) (le_of_suc-le-suc h))

@@ -34,8 +34,8 @@ pub fn join_row(
     requires row_lies { let row = row_slices kinds.old values.old in RowLies (facts_in row) row }
     requires new_kinds_len { (length new_kinds.now ≡ length kinds.old) × (length new_values.now ≡ length kinds.old) }
     ensures { let row = lent_row kinds values in
-        let new = lent_row new_kinds new_values in
-        JoinedRow (equal_by which classes.now) row.entry new.entry row.exit result }
+        let new = row_slices new_kinds.now new_values.now in
+        JoinedRow (equal_by which classes.now) row.entry new row.exit result }
 {
     let mut changed = false;
     let mut i = 0;

@@ -54,11 +54,11 @@ nothing n s e = go (eqb n 0) (eqb s 0) refl refl e
 module _ (before : Outcome) (which : AnalysisKind) (sheet : List ℕ) (t : Table) (w : Scratch) (length_fact : ℕ → Fact) (z : ScratchZero sheet w)
     {r : Prepared} {slots' rk rv : List ℕ} (told : PreparedTold before which sheet t w r slots' rk rv) (idle : r.runs ≡ false)
     {present' kinds' values' marks' stack' : List ℕ} (no-present' : present' ≡ zeros t.present) (no-kinds' : kinds' ≡ zeros t.kinds) (no-values' : values' ≡ zeros t.values)
-    (no-marks' : marks' ≡ zeros w.marks) (no_Stack' : stack' ≡ zeros w.stack) where
+    (no-marks' : marks' ≡ zeros w.marks) (no_stack' : stack' ≡ zeros w.stack) where
   -- the scratch is zero
   scratch_zero_lem : rk ≡ zeros w.row_kinds → rv ≡ zeros w.row_values → scratch marks' stack' rk rv w.work_list ≡ zero_scratch w
   unfolding zero_scratch
-  scratch_zero_lem k v = scratch_path no-marks' no_Stack' k v z.no_list
+  scratch_zero_lem k v = scratch_path no-marks' no_stack' k v z.no_list
 
   -- nothing runs with n or s zero
   module _ (y : Ready before which sheet t w r slots' rk rv) where

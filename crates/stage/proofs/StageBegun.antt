@@ -147,3 +147,12 @@ module _ (before : Outcome) (which : AnalysisKind) (sheet : List ℕ) (t : Table
           let e : false ≡ true = sym (ap (λ (x : PrepareEnd). x.runs) m) ∙ runs in
           let z : ◌≡◌ {A = ℕ} 0 1 = cc in
           absurd (omega arith)
+
+-- the same, from what the calls before it ensure
+module _ (before : Outcome) (which : AnalysisKind) (sheet : List ℕ) (t : Table) (w : Scratch) where
+  pub ready_there : {lp lk lv : ℕ} → lp ≡ length t.present → lk ≡ length t.kinds → lv ≡ length t.values → (r : Prepared) {slots row_kinds row_values : List ℕ}
+      → some (leaves r.outcome (prepared r.runs r.s slots row_kinds row_values))
+      ≡ leaves_of (prepared_by (code_count sheet) t.slots w.row_kinds w.row_values) (unprepared t.slots w.row_kinds w.row_values)
+      (continue (λ _. begin which sheet (λ s. room_by (code_count sheet) s (length t.slots) lp lk lv (length w.row_kinds) (length w.row_values) (length w.work_list))) (as_spent before))
+      → r.runs ≡ true → Ready before which sheet t w r slots row_kinds row_values
+  ready_there p k v r told = ready before which sheet t w (asked_lent before which sheet t w p k v r _ _ _ told)

@@ -22,7 +22,7 @@ use Rattle.model.specs.declared.AnalysisKind.{AnalysisKind}
 use Rattle.model.specs.declared.Counts.{Counts}
 use Rattle.model.proofs.Facts.{facts_back}
 use Rattle.finality.proofs.Lengths.{zeros_length, zeros_same}
-use Rattle.budget.specs.Outcome.{refused_by, refusing, left_of, leaves, leaves_of}
+use Rattle.budget.specs.Outcome.{as_spent, refused_by, refusing, left_of, leaves, leaves_of}
 use Rattle.budget.specs.declared.Outcome.{Outcome}
 use Rattle.budget.specs.declared.Outcome.TheVariants.{Covered}
 use Rattle.budget.proofs.Outcomes.{Left, covered, stopped, left_by}
@@ -39,13 +39,15 @@ use Rattle.fixpoint.proofs.RunEnds.{RunLengths}
 use Rattle.stage_memory.proofs.RoomTests.{some_room, cells_fit}
 use Rattle.stage_memory.specs.Stage.{zero_scratch, counts_if}
 use Rattle.stage_memory.proofs.RecordEqualities.{table_path, scratch_path}
+use Rattle.stage_prepare.specs.Begin.{begin}
+use Rattle.stage_memory.specs.Room.{room_by}
 use Rattle.stage_prepare.specs.declared.Prepared.{Prepared}
-use Rattle.stage_prepare.specs.Prepare.{something}
+use Rattle.stage_prepare.specs.Prepare.{unprepared, prepared_by, prepared, something}
 use Rattle.stage_prepare.proofs.ClosureSlots.{few_below}
 use Rattle.stage_prepare.proofs.RoomAndRow.{room_parts}
 use Rattle.stage_prepare.proofs.ZeroFronts.{take_zero, front_filled, front_cleared, cleared_zero}
 use Rattle.stage_memory.specs.Staged.{ScratchZero, no_counts, staged, staged_by}
-use Rattle.stage.proofs.StageBegun.{stage_after, stage_after_lem, Ready}
+use Rattle.stage.proofs.StageBegun.{stage_after, stage_after_lem, Ready, ready_there}
 use Rattle.stage.proofs.NothingToRun.{stage_path, filled_zeros}
 
 -- ---- parts of what is lent
@@ -232,7 +234,7 @@ module _ (before : Outcome) (which : AnalysisKind) (sheet : List ℕ) {sizes : S
     }
 
     -- what it leaves in the first places is what the stage leaves in the whole
-    module _ {marks' stack' : List ℕ} (no-marks' : marks' ≡ zeros w.marks) (no_Stack' : stack' ≡ zeros w.stack) {resources : VerifierResources} (left_is : resources ≡ left_of r.outcome)
+    module _ {marks' stack' : List ℕ} (no-marks' : marks' ≡ zeros w.marks) (no_stack' : stack' ≡ zeros w.stack) {resources : VerifierResources} (left_is : resources ≡ left_of r.outcome)
         (ended : Ran) (m : RunMemory)
         (long : RunLengths m (run_memory (take n present') (take (n * r.s) kinds') (take (n * r.s) values') (take r.s rk) (take r.s rv) w.work_list))
         {counts' : Counts} {slots'' : List ℕ} (counts-are : counts' ≡ counts_if (refusing ended.outcome) r.s ended.pops) (slots-left : slots'' ≡ cond (refusing ended.outcome) (zeros slots') slots') where
@@ -248,7 +250,7 @@ module _ (before : Outcome) (which : AnalysisKind) (sheet : List ℕ) {sizes : S
           → scratch marks' stack' (m.row_kinds ++ drop r.s rk) (m.row_values ++ drop r.s rv) m.work_list ≡ zero_scratch w
       unfolding zero_scratch
       rows_emptied k v l =
-          scratch_path no-marks' no_Stack'
+          scratch_path no-marks' no_stack'
           (ap (λ (x : List ℕ). m.row_kinds ++ drop r.s x) y.row_kinds_are ∙ emptied (map kind y.b.entry) w.row_kinds r.s kinds_long fits.1 (k ∙ zeros_front r.s rk rows_fit.0))
           (ap (λ (x : List ℕ). m.row_values ++ drop r.s x) y.row_values_are ∙ emptied (map value y.b.entry) w.row_values r.s values_long fits.2 (v ∙ zeros_front r.s rv rows_fit.1)) l
 
@@ -301,3 +303,16 @@ module _ (before : Outcome) (which : AnalysisKind) (sheet : List ℕ) {sizes : S
       concluded told =
           by_end (left_by (ran_tables (zero_run lent)) (ran 0 (zero_run lent)) spent (rw (slots_front, row_is, started) at told))
           ∙ ap (leaves_of (staged_by t w) (staged no_counts (zero_table t) (zero_scratch w))) (sym (stage_after_lem before which sheet t w (length_table length_kinds length_values) ∙ rw y.came))
+
+-- what the run is lent, from what the calls before it ensure
+pub lent_there : (before : Outcome) (which : AnalysisKind) (sheet : List ℕ) {sizes : Sizes} {firsts classes length_kinds length_values : List ℕ}
+    → SheetIndex sheet sizes firsts classes length_kinds length_values → (t : Table) (w : Scratch) → ScratchZero sheet w → {n : ℕ} → n ≡ code_count sheet
+    → {lp lk lv : ℕ} → lp ≡ length t.present → lk ≡ length t.kinds → lv ≡ length t.values
+    → {present kinds values : List ℕ} → (present ≡ zeros t.present) × (kinds ≡ zeros t.kinds) × (values ≡ zeros t.values)
+    → (r : Prepared) {slots row_kinds row_values : List ℕ}
+    → some (leaves r.outcome (prepared r.runs r.s slots row_kinds row_values))
+    ≡ leaves_of (prepared_by (code_count sheet) t.slots w.row_kinds w.row_values) (unprepared t.slots w.row_kinds w.row_values)
+    (continue (λ _. begin which sheet (λ s. room_by (code_count sheet) s (length t.slots) lp lk lv (length w.row_kinds) (length w.row_values) (length w.work_list))) (as_spent before))
+    → r.runs ≡ true → RunLent sheet n r.s slots (run_memory present kinds values row_kinds row_values w.work_list)
+lent_there before which sheet i t w z all p k v cleared r told runs =
+    run_lent before which sheet i t w z all (ready_there before which sheet t w p k v r told runs) runs cleared.0 cleared.1 cleared.2

@@ -3,7 +3,7 @@ ghost use Rattle.std.specs.Prelude.{◌≡◌, ◌<◌, length};
 ghost use Rattle.model.specs.Fact.{Row};
 ghost use Rattle.model.specs.Promise.{lent_row};
 ghost use Rattle.model.specs.Sheet.{code_count, first_range};
-ghost use Rattle.model.specs.Tables.{RowLies, fact_in, facts_in};
+ghost use Rattle.model.specs.Tables.{RowLies, fact_in, facts_in, row_slices};
 ghost use Rattle.model.specs.Transfer.{checked_from, index_checked, transfer_row};
 ghost use Rattle.memory.specs.Front.{Holds};
 ghost use Rattle.sheet.specs.Measured.{Accepted};
@@ -74,9 +74,9 @@ pub fn transfer_row(
     requires accepted { Accepted sheet.now sizes × Holds (first_range sheet.now) (code_count sheet.now) firsts.now × (pc < sizes.code_count) }
     requires readable_row { ReadableRow slots.now kinds.now values.now
         × (length out_kinds.old ≡ length slots.now) × (length out_values.old ≡ length slots.now) }
-    ensures { let old = lent_row kinds values in
+    ensures { let old = row_slices kinds.now values.now in
         let out = lent_row out_kinds out_values in
-        RowLies (transfer_row which sheet.now slots.now (λ p. fact_in length_fact) pc (facts_in old.entry)) out.exit }
+        RowLies (transfer_row which sheet.now slots.now (λ p. fact_in length_fact) pc (facts_in old)) out.exit }
 {
     let inst = sheet_fields::instruction_at(sheet, pc);
     let effect = effect_of(which, sheet, sizes, slots, kinds, values, pc, inst);

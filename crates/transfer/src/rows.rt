@@ -1,7 +1,7 @@
 // Facts written into a row, slot by slot, from the row before.
 ghost use Rattle.std.specs.Prelude.{◌≡◌, ◌-◌, ◌≤◌, length, get_or};
 ghost use Rattle.model.specs.Promise.{lent_row};
-ghost use Rattle.model.specs.Tables.{facts_in};
+ghost use Rattle.model.specs.Tables.{facts_in, row_slices};
 ghost use Rattle.model.specs.Written.{in_range};
 ghost use Rattle.sheet.specs.Measured.{Measured};
 ghost use Rattle.transfer_facts.specs.Effect.{effect_cell};
@@ -29,9 +29,9 @@ fn write_range(
     requires { ReadableRow slots.now kinds.now values.now
         × (length out_kinds.old ≡ length slots.now) × (length out_values.old ≡ length slots.now)
         × (last ≡ get_or slots.now (length slots.now - 1) 0) }
-    ensures { let old = lent_row kinds values in
+    ensures { let old = row_slices kinds.now values.now in
         let out = lent_row out_kinds out_values in
-        let cell = effect_cell effect slots.now (facts_in old.entry) in
+        let cell = effect_cell effect slots.now (facts_in old) in
         Wrote slots.now (λ slot. in_range slot start count) cell out.entry out.exit }
 {
     // most ranges that a call writes lie beyond what is tracked
@@ -66,9 +66,9 @@ pub fn write_slots(
     requires measured { Measured sheet.now sizes × (ranges_end written ≤ sizes.range_count) }
     requires readable_row { ReadableRow slots.now kinds.now values.now
         × (length out_kinds.old ≡ length slots.now) × (length out_values.old ≡ length slots.now) }
-    ensures { let old = lent_row kinds values in
+    ensures { let old = row_slices kinds.now values.now in
         let out = lent_row out_kinds out_values in
-        let cell = effect_cell effect slots.now (facts_in old.entry) in
+        let cell = effect_cell effect slots.now (facts_in old) in
         Wrote slots.now (holds_slot written sheet.now) cell out.entry out.exit }
 {
     let len = slots.len();

@@ -1,7 +1,7 @@
 -- The ranges of what an instruction writes, as the code reads them, one after the other.
 -- Assumes nothing.
 use mathlib.Core.Path.{◌≡◌, refl, sym, ap, ◌∙◌}
-use mathlib.Core.Bool.{Bool, true, false, ◌||◌, or-true, or_false, or_assoc}
+use mathlib.Core.Bool.{Bool, true, false, ◌||◌, or-true, or-false, or_assoc}
 use mathlib.Core.List.{List}
 use mathlib.Core.Logic.{◌⊎◌, inl, inr}
 use Prim.Native.Nat.{ℕ, zero, suc, ◌+◌, ◌≤◌, ◌<◌}
@@ -50,7 +50,7 @@ among w sheet (suc i) slot = among w sheet i slot || in_range slot (slot_range w
 ranges_suc : (sheet : List ℕ) (slot first i : ℕ)
     → in_ranges sheet slot first (suc i) ≡ in_ranges sheet slot first i || in_range slot (range_start sheet (first + i)) (range_length sheet (first + i))
 unfolding in_ranges
-ranges_suc sheet slot first zero = let e : first + 0 ≡ first = omega arith in rw e (or_false _)
+ranges_suc sheet slot first zero = let e : first + 0 ≡ first = omega arith in rw e (or-false _)
 ranges_suc sheet slot first (suc i) =
     let e : first + suc i ≡ suc first + i = omega arith in
     rw e

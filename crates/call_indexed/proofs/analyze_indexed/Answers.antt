@@ -7,26 +7,13 @@ use Rattle.call_order.proofs.CallOrder.{values_clear, call_promise}
 use borrow.Author.Rules.{rules}
 use Rattle.call_indexed.proofs.analyze_indexed.Goals as goal
 
--- ---- what was lent
-abbrev constants : goal.Start → Table
-constants s = table s.args.constant-slots.now s.args.constant-present.now s.args.constant_kinds.now s.args.constant_values.now
-
-abbrev index : goal.Start → Table
-index s = table s.args.index-slots.now s.args.index-present.now s.args.index-kinds.now s.args.index-values.now
-
-abbrev containers : goal.Start → Table
-containers s = table s.args.container-slots.now s.args.container-present.now s.args.container-kinds.now s.args.container-values.now
-
-abbrev shared : goal.Start → Scratch
-shared s = scratch s.args.marks.now s.args.stack.now s.args.row-kinds.now s.args.row-values.now s.args.work-list.now
-
 -- ---- the needs
 pub analyze_values-values-requires : goal.analyze_values-values-requires
 analyze_values-values-requires c = c.requires
 
 pub analyze_stage-containers-requires : goal.analyze_stage-containers-requires
 analyze_stage-containers-requires c =
-    (index_found c.requires.0 c.requires.1 c.requires.2 refl refl, clean _ (shared c) (values_clear (constants c) (index c) (shared c) _ c.analyze_values-values.ensures) c.requires.3 c.requires.4)
+    (index_found c.requires.0 c.requires.1 c.requires.2 refl refl, clean _ (scratch c.args.marks.now c.args.stack.now c.args.row_kinds.now c.args.row_values.now c.args.work_list.now) (values_clear (table c.args.constant_slots.now c.args.constant_present.now c.args.constant_kinds.now c.args.constant_values.now) (table c.args.index_slots.now c.args.index_present.now c.args.index_kinds.now c.args.index_values.now) (scratch c.args.marks.now c.args.stack.now c.args.row_kinds.now c.args.row_values.now c.args.work_list.now) _ c.analyze_values-values.ensures) c.requires.3 c.requires.4)
 
 pub shape_of-constant_slots : goal.shape_of-constant_slots
 shape_of-constant_slots c = c.clear_table_if.auto.slots ∙ c.analyze_values-values.auto.constant_slots
@@ -81,7 +68,6 @@ shape_of-work_list c = c.analyze_stage-containers.auto.work_list ∙ c.analyze_v
 
 pub returns : goal.returns
 returns c =
-    let t = c.analyze_values-values.auto.constant_slots in let u = t.1.1.1.1 in
-    call_promise _ c.requires.0 c.args.resources (constants c) (index c) (containers c) (shared c) c.requires.3 c.requires.4 _ _ c.analyze_values-values.ensures c.analyze_stage-containers.ensures
-    (record { slots = t.0; present = t.1.0; kinds = t.1.1.0; values = t.1.1.1.0 }) (record { slots = u.0; present = u.1.0; kinds = u.1.1.0; values = u.1.1.1.0 })
+    call_promise _ c.requires.0 c.args.resources (table c.args.constant_slots.now c.args.constant_present.now c.args.constant_kinds.now c.args.constant_values.now) (table c.args.index_slots.now c.args.index_present.now c.args.index_kinds.now c.args.index_values.now) (table c.args.container_slots.now c.args.container_present.now c.args.container_kinds.now c.args.container_values.now) (scratch c.args.marks.now c.args.stack.now c.args.row_kinds.now c.args.row_values.now c.args.work_list.now) c.requires.3 c.requires.4 _ _ c.analyze_values-values.ensures c.analyze_stage-containers.ensures
+    (record { slots = c.analyze_values-values.auto.constant_slots; present = c.analyze_values-values.auto.constant_present; kinds = c.analyze_values-values.auto.constant_kinds; values = c.analyze_values-values.auto.constant_values }) (record { slots = c.analyze_values-values.auto.index_slots; present = c.analyze_values-values.auto.index_present; kinds = c.analyze_values-values.auto.index_kinds; values = c.analyze_values-values.auto.index_values })
     c.refuses-refused.ensures c.clear_table_if.ensures c.clear_table_if-2.ensures c.answer_of.ensures

@@ -11,38 +11,29 @@ use Rattle.call_order.proofs.CallOrder.{values_promise}
 use borrow.Author.Rules.{rules}
 use Rattle.call_values.proofs.analyze_values.Goals as goal
 
--- ---- what was lent
-abbrev constants : goal.Start → Table
-constants s = table s.args.constant-slots.now s.args.constant-present.now s.args.constant_kinds.now s.args.constant_values.now
-
-abbrev index : goal.Start → Table
-index s = table s.args.index-slots.now s.args.index-present.now s.args.index-kinds.now s.args.index-values.now
-
-abbrev shared : goal.Start → Scratch
-shared s = scratch s.args.marks.now s.args.stack.now s.args.row-kinds.now s.args.row-values.now s.args.work-list.now
-
 -- ---- the needs
 pub charge_graph-begun-requires : goal.charge_graph-begun-requires
 charge_graph-begun-requires c = measured c.requires.0
 
 pub analyze_stage-constants-requires : goal.analyze_stage-constants-requires
-analyze_stage-constants-requires c =
-    (index_found c.requires.0 c.requires.1 c.requires.2 refl refl, clean _ (shared c) (let came : scratch c.clear_scratch.new.0 c.clear_scratch.new.1.0 c.clear_scratch.new.1.1.0
-    c.clear_scratch.new.1.1.1.0 c.clear.new.0 ≡ zero_scratch (shared c) = let a = c.args in
-    scratch_zeroed a.marks.now a.stack.now a.row-kinds.now a.row-values.now a.work-list.now c.clear_scratch.ensures c.clear.ensures in came) c.requires.3 c.requires.4)
+analyze_stage-constants-requires c = (
+  index_found c.requires.0 c.requires.1 c.requires.2 refl refl,
+  clean _ (scratch c.args.marks.now c.args.stack.now c.args.row_kinds.now c.args.row_values.now c.args.work_list.now) (let came : scratch c.clear_scratch.new.marks c.clear_scratch.new.stack c.clear_scratch.new.row_kinds
+      c.clear_scratch.new.row_values c.clear.new.work_list ≡ zero_scratch (scratch c.args.marks.now c.args.stack.now c.args.row_kinds.now c.args.row_values.now c.args.work_list.now) = let a = c.args in
+      scratch_zeroed a.marks.now a.stack.now a.row_kinds.now a.row_values.now a.work_list.now c.clear_scratch.ensures c.clear.ensures in came) c.requires.3 c.requires.4,
+)
 
 pub store_lengths-requires : goal.store_lengths-requires
 store_lengths-requires c =
-    ((measured c.requires.0, few_code c.requires.0, few_code c.requires.0), constants_stored _ c.requires.0 (constants c) _ _ _ c.analyze_stage-constants.ensures)
+    record { measured = (measured c.requires.0, few_code c.requires.0, few_code c.requires.0); constants_stored = constants_stored _ c.requires.0 (table c.args.constant_slots.now c.args.constant_present.now c.args.constant_kinds.now c.args.constant_values.now) _ _ _ c.analyze_stage-constants.ensures }
 
 pub analyze_stage-staged-requires : goal.analyze_stage-staged-requires
-analyze_stage-staged-requires c =
-    (
-      index_found c.requires.0 c.requires.1 c.requires.2 c.store_lengths.auto.length_kinds c.store_lengths.auto.length_values,
-      clean _ (shared c) (still_clear (constants c) (shared c) (let came : scratch c.clear_scratch.new.0 c.clear_scratch.new.1.0 c.clear_scratch.new.1.1.0
-    c.clear_scratch.new.1.1.1.0 c.clear.new.0 ≡ zero_scratch (shared c) = let a = c.args in
-    scratch_zeroed a.marks.now a.stack.now a.row-kinds.now a.row-values.now a.work-list.now c.clear_scratch.ensures c.clear.ensures in came) _ c.analyze_stage-constants.ensures) c.requires.3 c.requires.4,
-    )
+analyze_stage-staged-requires c = (
+  index_found c.requires.0 c.requires.1 c.requires.2 c.store_lengths.auto.length_kinds c.store_lengths.auto.length_values,
+  clean _ (scratch c.args.marks.now c.args.stack.now c.args.row_kinds.now c.args.row_values.now c.args.work_list.now) (still_clear (table c.args.constant_slots.now c.args.constant_present.now c.args.constant_kinds.now c.args.constant_values.now) (scratch c.args.marks.now c.args.stack.now c.args.row_kinds.now c.args.row_values.now c.args.work_list.now) (let came : scratch c.clear_scratch.new.marks c.clear_scratch.new.stack c.clear_scratch.new.row_kinds
+      c.clear_scratch.new.row_values c.clear.new.work_list ≡ zero_scratch (scratch c.args.marks.now c.args.stack.now c.args.row_kinds.now c.args.row_values.now c.args.work_list.now) = let a = c.args in
+      scratch_zeroed a.marks.now a.stack.now a.row_kinds.now a.row_values.now a.work_list.now c.clear_scratch.ensures c.clear.ensures in came) _ c.analyze_stage-constants.ensures) c.requires.3 c.requires.4,
+)
 
 pub shape_of-constant_slots : goal.shape_of-constant_slots
 shape_of-constant_slots c = c.clear_table_if.auto.slots ∙ c.analyze_stage-constants.auto.slots
@@ -85,9 +76,8 @@ shape_of-work_list c = c.analyze_stage-staged.auto.work_list ∙ c.analyze_stage
 
 pub returns : goal.returns
 returns c =
-    let t = c.analyze_stage-constants.auto.slots in
-    values_promise _ c.requires.0 c.args.resources (constants c) (index c) (shared c) _ _ _ _ _ (let came : scratch c.clear_scratch.new.0 c.clear_scratch.new.1.0 c.clear_scratch.new.1.1.0
-    c.clear_scratch.new.1.1.1.0 c.clear.new.0 ≡ zero_scratch (shared c) = let a = c.args in
-    scratch_zeroed a.marks.now a.stack.now a.row-kinds.now a.row-values.now a.work-list.now c.clear_scratch.ensures c.clear.ensures in came) c.charge_graph-begun.ensures c.analyze_stage-constants.ensures c.store_lengths.ensures.stored
-    c.analyze_stage-staged.ensures (record { slots = t.0; present = t.1.0; kinds = t.1.1.0; values = t.1.1.1.0 })
+    values_promise _ c.requires.0 c.args.resources (table c.args.constant_slots.now c.args.constant_present.now c.args.constant_kinds.now c.args.constant_values.now) (table c.args.index_slots.now c.args.index_present.now c.args.index_kinds.now c.args.index_values.now) (scratch c.args.marks.now c.args.stack.now c.args.row_kinds.now c.args.row_values.now c.args.work_list.now) _ _ _ _ _ (let came : scratch c.clear_scratch.new.marks c.clear_scratch.new.stack c.clear_scratch.new.row_kinds
+    c.clear_scratch.new.row_values c.clear.new.work_list ≡ zero_scratch (scratch c.args.marks.now c.args.stack.now c.args.row_kinds.now c.args.row_values.now c.args.work_list.now) = let a = c.args in
+    scratch_zeroed a.marks.now a.stack.now a.row_kinds.now a.row_values.now a.work_list.now c.clear_scratch.ensures c.clear.ensures in came) c.charge_graph-begun.ensures c.analyze_stage-constants.ensures c.store_lengths.ensures.stored
+    c.analyze_stage-staged.ensures (record { slots = c.analyze_stage-constants.auto.slots; present = c.analyze_stage-constants.auto.present; kinds = c.analyze_stage-constants.auto.kinds; values = c.analyze_stage-constants.auto.values })
     c.refuses-refused.ensures c.counts_unless.ensures c.clear_table_if.ensures

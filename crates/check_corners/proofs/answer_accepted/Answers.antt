@@ -1,7 +1,6 @@
 -- `check_corners::answer_accepted` is safe: there is room for n first ranges, and they are what the leaves ask for.
 -- Assumes nothing.
-use native.Mathlib.Omega.{arith}
-use borrow.Author.Rules.{rules}
+use Rattle.std.proofs.Common.{arith}
 use Rattle.sheet.proofs.AcceptedSheet.{measured}
 use Rattle.sheet.proofs.SizeNames.{counted}
 use Rattle.sheet.proofs.SizeLimits.{limited}
@@ -9,11 +8,11 @@ use Rattle.sheet_index.proofs.OffsetTables.{first_ranges_hold}
 use Rattle.check_corners.proofs.answer_accepted.Goals as goal
 
 pub first_ranges-requires : goal.first_ranges-requires
-first_ranges-requires c =
+first_ranges-requires g c =
     let p = c.requires in
     (p, omega (arith, (limited (measured p)).code_count_is, c.no_ranges-firsts.ensures))
 
 pub answer_questions-requires : goal.answer_questions-requires
-answer_questions-requires c =
+answer_questions-requires g c =
     let p = c.requires in
     (p, first_ranges_hold _ _ c.first_ranges.ensures (omega (arith, (counted p.are).code_count_is, (limited (measured p)).code_count_is, c.no_ranges-firsts.ensures)))

@@ -5,21 +5,13 @@ use Rattle.export.proofs.Wrappers.{too_few, all_handed}
 use borrow.Author.Rules.{rules}
 use Rattle.export.proofs.vo_facts_analyze.Goals as goal
 
--- all that was lent
-abbrev before : goal.Start → Lent
-before s =
-    lent (table s.args.constant-slots.now s.args.constant-present.now s.args.constant_kinds.now s.args.constant_values.now)
-    (table s.args.index-slots.now s.args.index-present.now s.args.index-kinds.now s.args.index-values.now)
-    (table s.args.container-slots.now s.args.container-present.now s.args.container-kinds.now s.args.container-values.now)
-    (scratch s.args.marks.now s.args.stack.now s.args.row-kinds.now s.args.row-values.now s.args.work-list.now)
-
-abbrev budget : goal.Start → VerifierResources
-budget s = record { bytes = s.args.bytes; work = s.args.work }
-
 -- ---- the needs
 pub returns-then-answer-lt12 : goal.returns-then-answer-lt12
 returns-then-answer-lt12 c =
-    too_few c.args.sheet.now (budget c) (before c) c.args.answer.now c.if-answer-lt12.true
+    too_few c.args.sheet.now (record { bytes = c.args.bytes; work = c.args.work }) (lent (table c.args.constant_slots.now c.args.constant_present.now c.args.constant_kinds.now c.args.constant_values.now)
+    (table c.args.index_slots.now c.args.index_present.now c.args.index_kinds.now c.args.index_values.now)
+    (table c.args.container_slots.now c.args.container_present.now c.args.container_kinds.now c.args.container_values.now)
+    (scratch c.args.marks.now c.args.stack.now c.args.row_kinds.now c.args.row_values.now c.args.work_list.now)) c.args.answer.now c.if-answer-lt12.true
 
 pub put_answer-requires : goal.put_answer-requires
 put_answer-requires c = c.if-answer-lt12.false
@@ -80,4 +72,7 @@ shape_of-answer c = c.answer-1.given
 
 pub returns : goal.returns
 returns c =
-    all_handed c.args.sheet.now (budget c) (before c) c.args.answer.now c.if-answer-lt12.false c.analyze-ended.result _ c.analyze-ended.ensures.call c.put_answer.ensures
+    all_handed c.args.sheet.now (record { bytes = c.args.bytes; work = c.args.work }) (lent (table c.args.constant_slots.now c.args.constant_present.now c.args.constant_kinds.now c.args.constant_values.now)
+    (table c.args.index_slots.now c.args.index_present.now c.args.index_kinds.now c.args.index_values.now)
+    (table c.args.container_slots.now c.args.container_present.now c.args.container_kinds.now c.args.container_values.now)
+    (scratch c.args.marks.now c.args.stack.now c.args.row_kinds.now c.args.row_values.now c.args.work_list.now)) c.args.answer.now c.if-answer-lt12.false c.analyze-ended.result _ c.analyze-ended.ensures.call c.put_answer.ensures

@@ -19,33 +19,18 @@ analyze_indexed-answer-requires c =
     (p.0, p.1, p.2, omega (arith, p.4), omega (arith, p.4))
 
 pub call_lines-requires : goal.call_lines-requires
-call_lines-requires c =
-    (
-      call_tables _ (let came : c.args.sizes.code_count ≡ code_count c.args.sheet.now = (counted c.requires.0.are).code_count_is in came) _ (let C = c.analyze_indexed-answer.new.1.1.1.1.1 in
-    let I = C.1.1.1.1 in
-    let K = I.1.1.1.1 in
-    let w = K.1.1.1.1 in
-    lent (table C.0 C.1.0 C.1.1.0 C.1.1.1.0) (table I.0 I.1.0 I.1.1.0 I.1.1.1.0) (table K.0 K.1.0 K.1.1.0 K.1.1.1.0)
-    (scratch w.0 w.1.0 w.1.1.0 w.1.1.1.0 w.1.1.1.1.0)) (let came : some (call_result c.analyze_indexed-answer.result (let C = c.analyze_indexed-answer.new.1.1.1.1.1 in
-    let I = C.1.1.1.1 in
-    let K = I.1.1.1.1 in
-    let w = K.1.1.1.1 in
-    lent (table C.0 C.1.0 C.1.1.0 C.1.1.1.0) (table I.0 I.1.0 I.1.1.0 I.1.1.1.0) (table K.0 K.1.0 K.1.1.0 K.1.1.1.0)
-    (scratch w.0 w.1.0 w.1.1.0 w.1.1.1.0 w.1.1.1.1.0))) ≡ analyzed c.args.sheet.now fresh listing_lent = listing_call _ c.new.ensures c.analyze_indexed-answer.ensures in came) (omega (arith, slice-aggregate-call-lines c)) (omega (arith, slice-aggregate-call-lines-5 c)) (omega (arith, slice-aggregate-call-lines-9 c)),
-      c.requires.3,
-      c.requires.5,
-    )
+call_lines-requires c = (
+  call_tables _ (counted c.requires.0.are).code_count_is _ (lent (table c.analyze_indexed-answer.new.constant_slots c.analyze_indexed-answer.new.constant_present c.analyze_indexed-answer.new.constant_kinds c.analyze_indexed-answer.new.constant_values)
+      (table c.analyze_indexed-answer.new.index_slots c.analyze_indexed-answer.new.index_present c.analyze_indexed-answer.new.index_kinds c.analyze_indexed-answer.new.index_values)
+      (table c.analyze_indexed-answer.new.container_slots c.analyze_indexed-answer.new.container_present c.analyze_indexed-answer.new.container_kinds c.analyze_indexed-answer.new.container_values)
+      (scratch c.analyze_indexed-answer.new.marks c.analyze_indexed-answer.new.stack c.analyze_indexed-answer.new.row_kinds c.analyze_indexed-answer.new.row_values c.analyze_indexed-answer.new.work_list)) (listing_call _ c.new.ensures c.analyze_indexed-answer.ensures) (omega arith) (omega arith) (omega arith),
+  c.requires.3,
+  c.requires.5,
+)
 
 pub returns : goal.returns
 returns c =
-    call_shown _ (let came : c.args.sizes.code_count ≡ code_count c.args.sheet.now = (counted c.requires.0.are).code_count_is in came) _ (let C = c.analyze_indexed-answer.new.1.1.1.1.1 in
-    let I = C.1.1.1.1 in
-    let K = I.1.1.1.1 in
-    let w = K.1.1.1.1 in
-    lent (table C.0 C.1.0 C.1.1.0 C.1.1.1.0) (table I.0 I.1.0 I.1.1.0 I.1.1.1.0) (table K.0 K.1.0 K.1.1.0 K.1.1.1.0)
-    (scratch w.0 w.1.0 w.1.1.0 w.1.1.1.0 w.1.1.1.1.0)) (let came : some (call_result c.analyze_indexed-answer.result (let C = c.analyze_indexed-answer.new.1.1.1.1.1 in
-    let I = C.1.1.1.1 in
-    let K = I.1.1.1.1 in
-    let w = K.1.1.1.1 in
-    lent (table C.0 C.1.0 C.1.1.0 C.1.1.1.0) (table I.0 I.1.0 I.1.1.0 I.1.1.1.0) (table K.0 K.1.0 K.1.1.0 K.1.1.1.0)
-    (scratch w.0 w.1.0 w.1.1.0 w.1.1.1.0 w.1.1.1.1.0))) ≡ analyzed c.args.sheet.now fresh listing_lent = listing_call _ c.new.ensures c.analyze_indexed-answer.ensures in came) c.requires.2 c.call_lines.ensures
+    call_shown _ (counted c.requires.0.are).code_count_is _ (lent (table c.analyze_indexed-answer.new.constant_slots c.analyze_indexed-answer.new.constant_present c.analyze_indexed-answer.new.constant_kinds c.analyze_indexed-answer.new.constant_values)
+    (table c.analyze_indexed-answer.new.index_slots c.analyze_indexed-answer.new.index_present c.analyze_indexed-answer.new.index_kinds c.analyze_indexed-answer.new.index_values)
+    (table c.analyze_indexed-answer.new.container_slots c.analyze_indexed-answer.new.container_present c.analyze_indexed-answer.new.container_kinds c.analyze_indexed-answer.new.container_values)
+    (scratch c.analyze_indexed-answer.new.marks c.analyze_indexed-answer.new.stack c.analyze_indexed-answer.new.row_kinds c.analyze_indexed-answer.new.row_values c.analyze_indexed-answer.new.work_list)) (listing_call _ c.new.ensures c.analyze_indexed-answer.ensures) c.requires.2 c.call_lines.ensures

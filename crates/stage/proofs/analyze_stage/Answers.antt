@@ -1,15 +1,14 @@
 -- `analyze_stage` meets its contract: nothing to run, or what the run left.
 -- Assumes nothing.
 use mathlib.Core.Path.{sym, ◌∙◌}
-use borrow.Author.Rules.{rules}
 use borrow.Author.Tests.{not-true, not-false}
+use borrow.Author.Rules.{rules}
 use lib.Seq.{length-take-le}
 use Rattle.model.specs.Call.{Table, Scratch, table, scratch}
 use Rattle.sheet.proofs.SizeNames.{counted}
-use Rattle.fixpoint.specs.Memory.{run_memory}
-use Rattle.stage.proofs.StageBegun.{PreparedTold, asked_lent, Ready, ready}
+use Rattle.stage.proofs.StageBegun.{asked_lent, ready_there}
 use Rattle.stage.proofs.NothingToRun.{idles}
-use Rattle.stage.proofs.StageRun.{whole_length, RunLent, run_lent, concluded}
+use Rattle.stage.proofs.StageRun.{whole_length, lent_there, concluded}
 use Rattle.stage.proofs.analyze_stage.Goals as goal
 
 -- ---- the needs
@@ -19,175 +18,92 @@ prepare-prepared-requires c =
 
 pub returns-then-not-prepared : goal.returns-then-not-prepared
 returns-then-not-prepared c =
-    idles c.args.before c.args.which c.args.sheet.now (table c.args.slots.now c.args.present.now c.args.kinds.now c.args.values.now) (scratch c.args.marks.now c.args.stack.now c.args.row-kinds.now c.args.row-values.now c.args.work-list.now) _ c.requires.1 (let came : PreparedTold c.args.before c.args.which c.args.sheet.now (table c.args.slots.now c.args.present.now c.args.kinds.now c.args.values.now) (scratch c.args.marks.now c.args.stack.now c.args.row-kinds.now c.args.row-values.now c.args.work-list.now) c.prepare-prepared.result
-    c.prepare-prepared.new.1.1.1.1.1.0 c.prepare-prepared.new.1.1.1.1.1.1.1.1.0 c.prepare-prepared.new.1.1.1.1.1.1.1.1.1.0 = asked_lent c.args.before c.args.which c.args.sheet.now (table c.args.slots.now c.args.present.now c.args.kinds.now c.args.values.now) (scratch c.args.marks.now c.args.stack.now c.args.row-kinds.now c.args.row-values.now c.args.work-list.now) c.clear_rows.auto.present c.clear_rows.auto.kinds c.clear_rows.auto.values
-    c.prepare-prepared.result _ _ _ c.prepare-prepared.ensures.0 in came) (not-true _ c.if-not-prepared.true)
+    idles c.args.before c.args.which c.args.sheet.now (table c.args.slots.now c.args.present.now c.args.kinds.now c.args.values.now) (scratch c.args.marks.now c.args.stack.now c.args.row_kinds.now c.args.row_values.now c.args.work_list.now) _ c.requires.1 (asked_lent c.args.before c.args.which c.args.sheet.now (table c.args.slots.now c.args.present.now c.args.kinds.now c.args.values.now)
+    (scratch c.args.marks.now c.args.stack.now c.args.row_kinds.now c.args.row_values.now c.args.work_list.now) c.clear_rows.auto.present c.clear_rows.auto.kinds c.clear_rows.auto.values c.prepare-prepared.result _ _ _ c.prepare-prepared.ensures.0) (not-true _ c.if-not-prepared.true)
     c.clear_rows.ensures.0 c.clear_rows.ensures.1 c.clear_rows.ensures.2 c.prepare-prepared.ensures.1 c.prepare-prepared.ensures.2
 
 pub overflow_mul-cells : goal.overflow_mul-cells
-overflow_mul-cells c = record { fits = (let came : RunLent c.args.sheet.now c.args.sizes.code_count c.prepare-prepared.result.s c.prepare-prepared.new.1.1.1.1.1.0
-    (run_memory c.clear_rows.new.0 c.clear_rows.new.1.0 c.clear_rows.new.1.1.0
-    c.prepare-prepared.new.1.1.1.1.1.1.1.1.0 c.prepare-prepared.new.1.1.1.1.1.1.1.1.1.0 c.args.work-list.now) = run_lent c.args.before c.args.which c.args.sheet.now c.requires.0 (table c.args.slots.now c.args.present.now c.args.kinds.now c.args.values.now) (scratch c.args.marks.now c.args.stack.now c.args.row-kinds.now c.args.row-values.now c.args.work-list.now) c.requires.1 (counted c.requires.0.accepted.are).code_count_is (let came : Ready c.args.before c.args.which c.args.sheet.now (table c.args.slots.now c.args.present.now c.args.kinds.now c.args.values.now) (scratch c.args.marks.now c.args.stack.now c.args.row-kinds.now c.args.row-values.now c.args.work-list.now) c.prepare-prepared.result
-    c.prepare-prepared.new.1.1.1.1.1.0 c.prepare-prepared.new.1.1.1.1.1.1.1.1.0 c.prepare-prepared.new.1.1.1.1.1.1.1.1.1.0 = ready c.args.before c.args.which c.args.sheet.now (table c.args.slots.now c.args.present.now c.args.kinds.now c.args.values.now) (scratch c.args.marks.now c.args.stack.now c.args.row-kinds.now c.args.row-values.now c.args.work-list.now) (let came : PreparedTold c.args.before c.args.which c.args.sheet.now (table c.args.slots.now c.args.present.now c.args.kinds.now c.args.values.now) (scratch c.args.marks.now c.args.stack.now c.args.row-kinds.now c.args.row-values.now c.args.work-list.now) c.prepare-prepared.result
-    c.prepare-prepared.new.1.1.1.1.1.0 c.prepare-prepared.new.1.1.1.1.1.1.1.1.0 c.prepare-prepared.new.1.1.1.1.1.1.1.1.1.0 = asked_lent c.args.before c.args.which c.args.sheet.now (table c.args.slots.now c.args.present.now c.args.kinds.now c.args.values.now) (scratch c.args.marks.now c.args.stack.now c.args.row-kinds.now c.args.row-values.now c.args.work-list.now) c.clear_rows.auto.present c.clear_rows.auto.kinds c.clear_rows.auto.values
-    c.prepare-prepared.result _ _ _ c.prepare-prepared.ensures.0 in came) (not-false _ c.if-not-prepared.false) in came) (not-false _ c.if-not-prepared.false)
-    c.clear_rows.ensures.0 c.clear_rows.ensures.1 c.clear_rows.ensures.2 in came).cells_fit }
+overflow_mul-cells c = record {
+  fits = (lent_there c.args.before c.args.which c.args.sheet.now c.requires.0 (table c.args.slots.now c.args.present.now c.args.kinds.now c.args.values.now) _ c.requires.1 (counted c.requires.0.accepted.are).code_count_is
+      c.clear_rows.auto.present c.clear_rows.auto.kinds c.clear_rows.auto.values c.clear_rows.ensures c.prepare-prepared.result c.prepare-prepared.ensures.0 (not-false _ c.if-not-prepared.false)).cells_fit;
+}
 
 pub slice_bounds-run_to_fixpoint-end : goal.slice_bounds-run_to_fixpoint-end
-slice_bounds-run_to_fixpoint-end c = (let came : RunLent c.args.sheet.now c.args.sizes.code_count c.prepare-prepared.result.s c.prepare-prepared.new.1.1.1.1.1.0
-    (run_memory c.clear_rows.new.0 c.clear_rows.new.1.0 c.clear_rows.new.1.1.0
-    c.prepare-prepared.new.1.1.1.1.1.1.1.1.0 c.prepare-prepared.new.1.1.1.1.1.1.1.1.1.0 c.args.work-list.now) = run_lent c.args.before c.args.which c.args.sheet.now c.requires.0 (table c.args.slots.now c.args.present.now c.args.kinds.now c.args.values.now) (scratch c.args.marks.now c.args.stack.now c.args.row-kinds.now c.args.row-values.now c.args.work-list.now) c.requires.1 (counted c.requires.0.accepted.are).code_count_is (let came : Ready c.args.before c.args.which c.args.sheet.now (table c.args.slots.now c.args.present.now c.args.kinds.now c.args.values.now) (scratch c.args.marks.now c.args.stack.now c.args.row-kinds.now c.args.row-values.now c.args.work-list.now) c.prepare-prepared.result
-    c.prepare-prepared.new.1.1.1.1.1.0 c.prepare-prepared.new.1.1.1.1.1.1.1.1.0 c.prepare-prepared.new.1.1.1.1.1.1.1.1.1.0 = ready c.args.before c.args.which c.args.sheet.now (table c.args.slots.now c.args.present.now c.args.kinds.now c.args.values.now) (scratch c.args.marks.now c.args.stack.now c.args.row-kinds.now c.args.row-values.now c.args.work-list.now) (let came : PreparedTold c.args.before c.args.which c.args.sheet.now (table c.args.slots.now c.args.present.now c.args.kinds.now c.args.values.now) (scratch c.args.marks.now c.args.stack.now c.args.row-kinds.now c.args.row-values.now c.args.work-list.now) c.prepare-prepared.result
-    c.prepare-prepared.new.1.1.1.1.1.0 c.prepare-prepared.new.1.1.1.1.1.1.1.1.0 c.prepare-prepared.new.1.1.1.1.1.1.1.1.1.0 = asked_lent c.args.before c.args.which c.args.sheet.now (table c.args.slots.now c.args.present.now c.args.kinds.now c.args.values.now) (scratch c.args.marks.now c.args.stack.now c.args.row-kinds.now c.args.row-values.now c.args.work-list.now) c.clear_rows.auto.present c.clear_rows.auto.kinds c.clear_rows.auto.values
-    c.prepare-prepared.result _ _ _ c.prepare-prepared.ensures.0 in came) (not-false _ c.if-not-prepared.false) in came) (not-false _ c.if-not-prepared.false)
-    c.clear_rows.ensures.0 c.clear_rows.ensures.1 c.clear_rows.ensures.2 in came).slots_fit
+slice_bounds-run_to_fixpoint-end c = (lent_there c.args.before c.args.which c.args.sheet.now c.requires.0 (table c.args.slots.now c.args.present.now c.args.kinds.now c.args.values.now) _ c.requires.1 (counted c.requires.0.accepted.are).code_count_is
+    c.clear_rows.auto.present c.clear_rows.auto.kinds c.clear_rows.auto.values c.clear_rows.ensures c.prepare-prepared.result c.prepare-prepared.ensures.0 (not-false _ c.if-not-prepared.false)).slots_fit
 
 pub slice_bounds-run_to_fixpoint-end-2 : goal.slice_bounds-run_to_fixpoint-end-2
-slice_bounds-run_to_fixpoint-end-2 c = sym (length-take-le _ _ (let came : RunLent c.args.sheet.now c.args.sizes.code_count c.prepare-prepared.result.s c.prepare-prepared.new.1.1.1.1.1.0
-    (run_memory c.clear_rows.new.0 c.clear_rows.new.1.0 c.clear_rows.new.1.1.0
-    c.prepare-prepared.new.1.1.1.1.1.1.1.1.0 c.prepare-prepared.new.1.1.1.1.1.1.1.1.1.0 c.args.work-list.now) = run_lent c.args.before c.args.which c.args.sheet.now c.requires.0 (table c.args.slots.now c.args.present.now c.args.kinds.now c.args.values.now) (scratch c.args.marks.now c.args.stack.now c.args.row-kinds.now c.args.row-values.now c.args.work-list.now) c.requires.1 (counted c.requires.0.accepted.are).code_count_is (let came : Ready c.args.before c.args.which c.args.sheet.now (table c.args.slots.now c.args.present.now c.args.kinds.now c.args.values.now) (scratch c.args.marks.now c.args.stack.now c.args.row-kinds.now c.args.row-values.now c.args.work-list.now) c.prepare-prepared.result
-    c.prepare-prepared.new.1.1.1.1.1.0 c.prepare-prepared.new.1.1.1.1.1.1.1.1.0 c.prepare-prepared.new.1.1.1.1.1.1.1.1.1.0 = ready c.args.before c.args.which c.args.sheet.now (table c.args.slots.now c.args.present.now c.args.kinds.now c.args.values.now) (scratch c.args.marks.now c.args.stack.now c.args.row-kinds.now c.args.row-values.now c.args.work-list.now) (let came : PreparedTold c.args.before c.args.which c.args.sheet.now (table c.args.slots.now c.args.present.now c.args.kinds.now c.args.values.now) (scratch c.args.marks.now c.args.stack.now c.args.row-kinds.now c.args.row-values.now c.args.work-list.now) c.prepare-prepared.result
-    c.prepare-prepared.new.1.1.1.1.1.0 c.prepare-prepared.new.1.1.1.1.1.1.1.1.0 c.prepare-prepared.new.1.1.1.1.1.1.1.1.1.0 = asked_lent c.args.before c.args.which c.args.sheet.now (table c.args.slots.now c.args.present.now c.args.kinds.now c.args.values.now) (scratch c.args.marks.now c.args.stack.now c.args.row-kinds.now c.args.row-values.now c.args.work-list.now) c.clear_rows.auto.present c.clear_rows.auto.kinds c.clear_rows.auto.values
-    c.prepare-prepared.result _ _ _ c.prepare-prepared.ensures.0 in came) (not-false _ c.if-not-prepared.false) in came) (not-false _ c.if-not-prepared.false)
-    c.clear_rows.ensures.0 c.clear_rows.ensures.1 c.clear_rows.ensures.2 in came).slots_fit)
+slice_bounds-run_to_fixpoint-end-2 c = sym (length-take-le _ _ (lent_there c.args.before c.args.which c.args.sheet.now c.requires.0 (table c.args.slots.now c.args.present.now c.args.kinds.now c.args.values.now) _ c.requires.1 (counted c.requires.0.accepted.are).code_count_is
+    c.clear_rows.auto.present c.clear_rows.auto.kinds c.clear_rows.auto.values c.clear_rows.ensures c.prepare-prepared.result c.prepare-prepared.ensures.0 (not-false _ c.if-not-prepared.false)).slots_fit)
 
 pub slice_bounds-run_to_fixpoint-end-3 : goal.slice_bounds-run_to_fixpoint-end-3
-slice_bounds-run_to_fixpoint-end-3 c = (let came : RunLent c.args.sheet.now c.args.sizes.code_count c.prepare-prepared.result.s c.prepare-prepared.new.1.1.1.1.1.0
-    (run_memory c.clear_rows.new.0 c.clear_rows.new.1.0 c.clear_rows.new.1.1.0
-    c.prepare-prepared.new.1.1.1.1.1.1.1.1.0 c.prepare-prepared.new.1.1.1.1.1.1.1.1.1.0 c.args.work-list.now) = run_lent c.args.before c.args.which c.args.sheet.now c.requires.0 (table c.args.slots.now c.args.present.now c.args.kinds.now c.args.values.now) (scratch c.args.marks.now c.args.stack.now c.args.row-kinds.now c.args.row-values.now c.args.work-list.now) c.requires.1 (counted c.requires.0.accepted.are).code_count_is (let came : Ready c.args.before c.args.which c.args.sheet.now (table c.args.slots.now c.args.present.now c.args.kinds.now c.args.values.now) (scratch c.args.marks.now c.args.stack.now c.args.row-kinds.now c.args.row-values.now c.args.work-list.now) c.prepare-prepared.result
-    c.prepare-prepared.new.1.1.1.1.1.0 c.prepare-prepared.new.1.1.1.1.1.1.1.1.0 c.prepare-prepared.new.1.1.1.1.1.1.1.1.1.0 = ready c.args.before c.args.which c.args.sheet.now (table c.args.slots.now c.args.present.now c.args.kinds.now c.args.values.now) (scratch c.args.marks.now c.args.stack.now c.args.row-kinds.now c.args.row-values.now c.args.work-list.now) (let came : PreparedTold c.args.before c.args.which c.args.sheet.now (table c.args.slots.now c.args.present.now c.args.kinds.now c.args.values.now) (scratch c.args.marks.now c.args.stack.now c.args.row-kinds.now c.args.row-values.now c.args.work-list.now) c.prepare-prepared.result
-    c.prepare-prepared.new.1.1.1.1.1.0 c.prepare-prepared.new.1.1.1.1.1.1.1.1.0 c.prepare-prepared.new.1.1.1.1.1.1.1.1.1.0 = asked_lent c.args.before c.args.which c.args.sheet.now (table c.args.slots.now c.args.present.now c.args.kinds.now c.args.values.now) (scratch c.args.marks.now c.args.stack.now c.args.row-kinds.now c.args.row-values.now c.args.work-list.now) c.clear_rows.auto.present c.clear_rows.auto.kinds c.clear_rows.auto.values
-    c.prepare-prepared.result _ _ _ c.prepare-prepared.ensures.0 in came) (not-false _ c.if-not-prepared.false) in came) (not-false _ c.if-not-prepared.false)
-    c.clear_rows.ensures.0 c.clear_rows.ensures.1 c.clear_rows.ensures.2 in came).present_fits
+slice_bounds-run_to_fixpoint-end-3 c = (lent_there c.args.before c.args.which c.args.sheet.now c.requires.0 (table c.args.slots.now c.args.present.now c.args.kinds.now c.args.values.now) _ c.requires.1 (counted c.requires.0.accepted.are).code_count_is
+    c.clear_rows.auto.present c.clear_rows.auto.kinds c.clear_rows.auto.values c.clear_rows.ensures c.prepare-prepared.result c.prepare-prepared.ensures.0 (not-false _ c.if-not-prepared.false)).present_fits
 
 pub slice_bounds-run_to_fixpoint-end-4 : goal.slice_bounds-run_to_fixpoint-end-4
-slice_bounds-run_to_fixpoint-end-4 c = sym (length-take-le _ _ (let came : RunLent c.args.sheet.now c.args.sizes.code_count c.prepare-prepared.result.s c.prepare-prepared.new.1.1.1.1.1.0
-    (run_memory c.clear_rows.new.0 c.clear_rows.new.1.0 c.clear_rows.new.1.1.0
-    c.prepare-prepared.new.1.1.1.1.1.1.1.1.0 c.prepare-prepared.new.1.1.1.1.1.1.1.1.1.0 c.args.work-list.now) = run_lent c.args.before c.args.which c.args.sheet.now c.requires.0 (table c.args.slots.now c.args.present.now c.args.kinds.now c.args.values.now) (scratch c.args.marks.now c.args.stack.now c.args.row-kinds.now c.args.row-values.now c.args.work-list.now) c.requires.1 (counted c.requires.0.accepted.are).code_count_is (let came : Ready c.args.before c.args.which c.args.sheet.now (table c.args.slots.now c.args.present.now c.args.kinds.now c.args.values.now) (scratch c.args.marks.now c.args.stack.now c.args.row-kinds.now c.args.row-values.now c.args.work-list.now) c.prepare-prepared.result
-    c.prepare-prepared.new.1.1.1.1.1.0 c.prepare-prepared.new.1.1.1.1.1.1.1.1.0 c.prepare-prepared.new.1.1.1.1.1.1.1.1.1.0 = ready c.args.before c.args.which c.args.sheet.now (table c.args.slots.now c.args.present.now c.args.kinds.now c.args.values.now) (scratch c.args.marks.now c.args.stack.now c.args.row-kinds.now c.args.row-values.now c.args.work-list.now) (let came : PreparedTold c.args.before c.args.which c.args.sheet.now (table c.args.slots.now c.args.present.now c.args.kinds.now c.args.values.now) (scratch c.args.marks.now c.args.stack.now c.args.row-kinds.now c.args.row-values.now c.args.work-list.now) c.prepare-prepared.result
-    c.prepare-prepared.new.1.1.1.1.1.0 c.prepare-prepared.new.1.1.1.1.1.1.1.1.0 c.prepare-prepared.new.1.1.1.1.1.1.1.1.1.0 = asked_lent c.args.before c.args.which c.args.sheet.now (table c.args.slots.now c.args.present.now c.args.kinds.now c.args.values.now) (scratch c.args.marks.now c.args.stack.now c.args.row-kinds.now c.args.row-values.now c.args.work-list.now) c.clear_rows.auto.present c.clear_rows.auto.kinds c.clear_rows.auto.values
-    c.prepare-prepared.result _ _ _ c.prepare-prepared.ensures.0 in came) (not-false _ c.if-not-prepared.false) in came) (not-false _ c.if-not-prepared.false)
-    c.clear_rows.ensures.0 c.clear_rows.ensures.1 c.clear_rows.ensures.2 in came).present_fits)
+slice_bounds-run_to_fixpoint-end-4 c = sym (length-take-le _ _ (lent_there c.args.before c.args.which c.args.sheet.now c.requires.0 (table c.args.slots.now c.args.present.now c.args.kinds.now c.args.values.now) _ c.requires.1 (counted c.requires.0.accepted.are).code_count_is
+    c.clear_rows.auto.present c.clear_rows.auto.kinds c.clear_rows.auto.values c.clear_rows.ensures c.prepare-prepared.result c.prepare-prepared.ensures.0 (not-false _ c.if-not-prepared.false)).present_fits)
 
 pub slice_bounds-run_to_fixpoint-end-5 : goal.slice_bounds-run_to_fixpoint-end-5
-slice_bounds-run_to_fixpoint-end-5 c = (let came : RunLent c.args.sheet.now c.args.sizes.code_count c.prepare-prepared.result.s c.prepare-prepared.new.1.1.1.1.1.0
-    (run_memory c.clear_rows.new.0 c.clear_rows.new.1.0 c.clear_rows.new.1.1.0
-    c.prepare-prepared.new.1.1.1.1.1.1.1.1.0 c.prepare-prepared.new.1.1.1.1.1.1.1.1.1.0 c.args.work-list.now) = run_lent c.args.before c.args.which c.args.sheet.now c.requires.0 (table c.args.slots.now c.args.present.now c.args.kinds.now c.args.values.now) (scratch c.args.marks.now c.args.stack.now c.args.row-kinds.now c.args.row-values.now c.args.work-list.now) c.requires.1 (counted c.requires.0.accepted.are).code_count_is (let came : Ready c.args.before c.args.which c.args.sheet.now (table c.args.slots.now c.args.present.now c.args.kinds.now c.args.values.now) (scratch c.args.marks.now c.args.stack.now c.args.row-kinds.now c.args.row-values.now c.args.work-list.now) c.prepare-prepared.result
-    c.prepare-prepared.new.1.1.1.1.1.0 c.prepare-prepared.new.1.1.1.1.1.1.1.1.0 c.prepare-prepared.new.1.1.1.1.1.1.1.1.1.0 = ready c.args.before c.args.which c.args.sheet.now (table c.args.slots.now c.args.present.now c.args.kinds.now c.args.values.now) (scratch c.args.marks.now c.args.stack.now c.args.row-kinds.now c.args.row-values.now c.args.work-list.now) (let came : PreparedTold c.args.before c.args.which c.args.sheet.now (table c.args.slots.now c.args.present.now c.args.kinds.now c.args.values.now) (scratch c.args.marks.now c.args.stack.now c.args.row-kinds.now c.args.row-values.now c.args.work-list.now) c.prepare-prepared.result
-    c.prepare-prepared.new.1.1.1.1.1.0 c.prepare-prepared.new.1.1.1.1.1.1.1.1.0 c.prepare-prepared.new.1.1.1.1.1.1.1.1.1.0 = asked_lent c.args.before c.args.which c.args.sheet.now (table c.args.slots.now c.args.present.now c.args.kinds.now c.args.values.now) (scratch c.args.marks.now c.args.stack.now c.args.row-kinds.now c.args.row-values.now c.args.work-list.now) c.clear_rows.auto.present c.clear_rows.auto.kinds c.clear_rows.auto.values
-    c.prepare-prepared.result _ _ _ c.prepare-prepared.ensures.0 in came) (not-false _ c.if-not-prepared.false) in came) (not-false _ c.if-not-prepared.false)
-    c.clear_rows.ensures.0 c.clear_rows.ensures.1 c.clear_rows.ensures.2 in came).kinds_fit
+slice_bounds-run_to_fixpoint-end-5 c = (lent_there c.args.before c.args.which c.args.sheet.now c.requires.0 (table c.args.slots.now c.args.present.now c.args.kinds.now c.args.values.now) _ c.requires.1 (counted c.requires.0.accepted.are).code_count_is
+    c.clear_rows.auto.present c.clear_rows.auto.kinds c.clear_rows.auto.values c.clear_rows.ensures c.prepare-prepared.result c.prepare-prepared.ensures.0 (not-false _ c.if-not-prepared.false)).kinds_fit
 
 pub slice_bounds-run_to_fixpoint-end-6 : goal.slice_bounds-run_to_fixpoint-end-6
-slice_bounds-run_to_fixpoint-end-6 c = sym (length-take-le _ _ (let came : RunLent c.args.sheet.now c.args.sizes.code_count c.prepare-prepared.result.s c.prepare-prepared.new.1.1.1.1.1.0
-    (run_memory c.clear_rows.new.0 c.clear_rows.new.1.0 c.clear_rows.new.1.1.0
-    c.prepare-prepared.new.1.1.1.1.1.1.1.1.0 c.prepare-prepared.new.1.1.1.1.1.1.1.1.1.0 c.args.work-list.now) = run_lent c.args.before c.args.which c.args.sheet.now c.requires.0 (table c.args.slots.now c.args.present.now c.args.kinds.now c.args.values.now) (scratch c.args.marks.now c.args.stack.now c.args.row-kinds.now c.args.row-values.now c.args.work-list.now) c.requires.1 (counted c.requires.0.accepted.are).code_count_is (let came : Ready c.args.before c.args.which c.args.sheet.now (table c.args.slots.now c.args.present.now c.args.kinds.now c.args.values.now) (scratch c.args.marks.now c.args.stack.now c.args.row-kinds.now c.args.row-values.now c.args.work-list.now) c.prepare-prepared.result
-    c.prepare-prepared.new.1.1.1.1.1.0 c.prepare-prepared.new.1.1.1.1.1.1.1.1.0 c.prepare-prepared.new.1.1.1.1.1.1.1.1.1.0 = ready c.args.before c.args.which c.args.sheet.now (table c.args.slots.now c.args.present.now c.args.kinds.now c.args.values.now) (scratch c.args.marks.now c.args.stack.now c.args.row-kinds.now c.args.row-values.now c.args.work-list.now) (let came : PreparedTold c.args.before c.args.which c.args.sheet.now (table c.args.slots.now c.args.present.now c.args.kinds.now c.args.values.now) (scratch c.args.marks.now c.args.stack.now c.args.row-kinds.now c.args.row-values.now c.args.work-list.now) c.prepare-prepared.result
-    c.prepare-prepared.new.1.1.1.1.1.0 c.prepare-prepared.new.1.1.1.1.1.1.1.1.0 c.prepare-prepared.new.1.1.1.1.1.1.1.1.1.0 = asked_lent c.args.before c.args.which c.args.sheet.now (table c.args.slots.now c.args.present.now c.args.kinds.now c.args.values.now) (scratch c.args.marks.now c.args.stack.now c.args.row-kinds.now c.args.row-values.now c.args.work-list.now) c.clear_rows.auto.present c.clear_rows.auto.kinds c.clear_rows.auto.values
-    c.prepare-prepared.result _ _ _ c.prepare-prepared.ensures.0 in came) (not-false _ c.if-not-prepared.false) in came) (not-false _ c.if-not-prepared.false)
-    c.clear_rows.ensures.0 c.clear_rows.ensures.1 c.clear_rows.ensures.2 in came).kinds_fit)
+slice_bounds-run_to_fixpoint-end-6 c = sym (length-take-le _ _ (lent_there c.args.before c.args.which c.args.sheet.now c.requires.0 (table c.args.slots.now c.args.present.now c.args.kinds.now c.args.values.now) _ c.requires.1 (counted c.requires.0.accepted.are).code_count_is
+    c.clear_rows.auto.present c.clear_rows.auto.kinds c.clear_rows.auto.values c.clear_rows.ensures c.prepare-prepared.result c.prepare-prepared.ensures.0 (not-false _ c.if-not-prepared.false)).kinds_fit)
 
 pub slice_bounds-run_to_fixpoint-end-7 : goal.slice_bounds-run_to_fixpoint-end-7
-slice_bounds-run_to_fixpoint-end-7 c = (let came : RunLent c.args.sheet.now c.args.sizes.code_count c.prepare-prepared.result.s c.prepare-prepared.new.1.1.1.1.1.0
-    (run_memory c.clear_rows.new.0 c.clear_rows.new.1.0 c.clear_rows.new.1.1.0
-    c.prepare-prepared.new.1.1.1.1.1.1.1.1.0 c.prepare-prepared.new.1.1.1.1.1.1.1.1.1.0 c.args.work-list.now) = run_lent c.args.before c.args.which c.args.sheet.now c.requires.0 (table c.args.slots.now c.args.present.now c.args.kinds.now c.args.values.now) (scratch c.args.marks.now c.args.stack.now c.args.row-kinds.now c.args.row-values.now c.args.work-list.now) c.requires.1 (counted c.requires.0.accepted.are).code_count_is (let came : Ready c.args.before c.args.which c.args.sheet.now (table c.args.slots.now c.args.present.now c.args.kinds.now c.args.values.now) (scratch c.args.marks.now c.args.stack.now c.args.row-kinds.now c.args.row-values.now c.args.work-list.now) c.prepare-prepared.result
-    c.prepare-prepared.new.1.1.1.1.1.0 c.prepare-prepared.new.1.1.1.1.1.1.1.1.0 c.prepare-prepared.new.1.1.1.1.1.1.1.1.1.0 = ready c.args.before c.args.which c.args.sheet.now (table c.args.slots.now c.args.present.now c.args.kinds.now c.args.values.now) (scratch c.args.marks.now c.args.stack.now c.args.row-kinds.now c.args.row-values.now c.args.work-list.now) (let came : PreparedTold c.args.before c.args.which c.args.sheet.now (table c.args.slots.now c.args.present.now c.args.kinds.now c.args.values.now) (scratch c.args.marks.now c.args.stack.now c.args.row-kinds.now c.args.row-values.now c.args.work-list.now) c.prepare-prepared.result
-    c.prepare-prepared.new.1.1.1.1.1.0 c.prepare-prepared.new.1.1.1.1.1.1.1.1.0 c.prepare-prepared.new.1.1.1.1.1.1.1.1.1.0 = asked_lent c.args.before c.args.which c.args.sheet.now (table c.args.slots.now c.args.present.now c.args.kinds.now c.args.values.now) (scratch c.args.marks.now c.args.stack.now c.args.row-kinds.now c.args.row-values.now c.args.work-list.now) c.clear_rows.auto.present c.clear_rows.auto.kinds c.clear_rows.auto.values
-    c.prepare-prepared.result _ _ _ c.prepare-prepared.ensures.0 in came) (not-false _ c.if-not-prepared.false) in came) (not-false _ c.if-not-prepared.false)
-    c.clear_rows.ensures.0 c.clear_rows.ensures.1 c.clear_rows.ensures.2 in came).values_fit
+slice_bounds-run_to_fixpoint-end-7 c = (lent_there c.args.before c.args.which c.args.sheet.now c.requires.0 (table c.args.slots.now c.args.present.now c.args.kinds.now c.args.values.now) _ c.requires.1 (counted c.requires.0.accepted.are).code_count_is
+    c.clear_rows.auto.present c.clear_rows.auto.kinds c.clear_rows.auto.values c.clear_rows.ensures c.prepare-prepared.result c.prepare-prepared.ensures.0 (not-false _ c.if-not-prepared.false)).values_fit
 
 pub slice_bounds-run_to_fixpoint-end-8 : goal.slice_bounds-run_to_fixpoint-end-8
-slice_bounds-run_to_fixpoint-end-8 c = sym (length-take-le _ _ (let came : RunLent c.args.sheet.now c.args.sizes.code_count c.prepare-prepared.result.s c.prepare-prepared.new.1.1.1.1.1.0
-    (run_memory c.clear_rows.new.0 c.clear_rows.new.1.0 c.clear_rows.new.1.1.0
-    c.prepare-prepared.new.1.1.1.1.1.1.1.1.0 c.prepare-prepared.new.1.1.1.1.1.1.1.1.1.0 c.args.work-list.now) = run_lent c.args.before c.args.which c.args.sheet.now c.requires.0 (table c.args.slots.now c.args.present.now c.args.kinds.now c.args.values.now) (scratch c.args.marks.now c.args.stack.now c.args.row-kinds.now c.args.row-values.now c.args.work-list.now) c.requires.1 (counted c.requires.0.accepted.are).code_count_is (let came : Ready c.args.before c.args.which c.args.sheet.now (table c.args.slots.now c.args.present.now c.args.kinds.now c.args.values.now) (scratch c.args.marks.now c.args.stack.now c.args.row-kinds.now c.args.row-values.now c.args.work-list.now) c.prepare-prepared.result
-    c.prepare-prepared.new.1.1.1.1.1.0 c.prepare-prepared.new.1.1.1.1.1.1.1.1.0 c.prepare-prepared.new.1.1.1.1.1.1.1.1.1.0 = ready c.args.before c.args.which c.args.sheet.now (table c.args.slots.now c.args.present.now c.args.kinds.now c.args.values.now) (scratch c.args.marks.now c.args.stack.now c.args.row-kinds.now c.args.row-values.now c.args.work-list.now) (let came : PreparedTold c.args.before c.args.which c.args.sheet.now (table c.args.slots.now c.args.present.now c.args.kinds.now c.args.values.now) (scratch c.args.marks.now c.args.stack.now c.args.row-kinds.now c.args.row-values.now c.args.work-list.now) c.prepare-prepared.result
-    c.prepare-prepared.new.1.1.1.1.1.0 c.prepare-prepared.new.1.1.1.1.1.1.1.1.0 c.prepare-prepared.new.1.1.1.1.1.1.1.1.1.0 = asked_lent c.args.before c.args.which c.args.sheet.now (table c.args.slots.now c.args.present.now c.args.kinds.now c.args.values.now) (scratch c.args.marks.now c.args.stack.now c.args.row-kinds.now c.args.row-values.now c.args.work-list.now) c.clear_rows.auto.present c.clear_rows.auto.kinds c.clear_rows.auto.values
-    c.prepare-prepared.result _ _ _ c.prepare-prepared.ensures.0 in came) (not-false _ c.if-not-prepared.false) in came) (not-false _ c.if-not-prepared.false)
-    c.clear_rows.ensures.0 c.clear_rows.ensures.1 c.clear_rows.ensures.2 in came).values_fit)
+slice_bounds-run_to_fixpoint-end-8 c = sym (length-take-le _ _ (lent_there c.args.before c.args.which c.args.sheet.now c.requires.0 (table c.args.slots.now c.args.present.now c.args.kinds.now c.args.values.now) _ c.requires.1 (counted c.requires.0.accepted.are).code_count_is
+    c.clear_rows.auto.present c.clear_rows.auto.kinds c.clear_rows.auto.values c.clear_rows.ensures c.prepare-prepared.result c.prepare-prepared.ensures.0 (not-false _ c.if-not-prepared.false)).values_fit)
 
 pub slice_bounds-run_to_fixpoint-end-9 : goal.slice_bounds-run_to_fixpoint-end-9
-slice_bounds-run_to_fixpoint-end-9 c = (let came : RunLent c.args.sheet.now c.args.sizes.code_count c.prepare-prepared.result.s c.prepare-prepared.new.1.1.1.1.1.0
-    (run_memory c.clear_rows.new.0 c.clear_rows.new.1.0 c.clear_rows.new.1.1.0
-    c.prepare-prepared.new.1.1.1.1.1.1.1.1.0 c.prepare-prepared.new.1.1.1.1.1.1.1.1.1.0 c.args.work-list.now) = run_lent c.args.before c.args.which c.args.sheet.now c.requires.0 (table c.args.slots.now c.args.present.now c.args.kinds.now c.args.values.now) (scratch c.args.marks.now c.args.stack.now c.args.row-kinds.now c.args.row-values.now c.args.work-list.now) c.requires.1 (counted c.requires.0.accepted.are).code_count_is (let came : Ready c.args.before c.args.which c.args.sheet.now (table c.args.slots.now c.args.present.now c.args.kinds.now c.args.values.now) (scratch c.args.marks.now c.args.stack.now c.args.row-kinds.now c.args.row-values.now c.args.work-list.now) c.prepare-prepared.result
-    c.prepare-prepared.new.1.1.1.1.1.0 c.prepare-prepared.new.1.1.1.1.1.1.1.1.0 c.prepare-prepared.new.1.1.1.1.1.1.1.1.1.0 = ready c.args.before c.args.which c.args.sheet.now (table c.args.slots.now c.args.present.now c.args.kinds.now c.args.values.now) (scratch c.args.marks.now c.args.stack.now c.args.row-kinds.now c.args.row-values.now c.args.work-list.now) (let came : PreparedTold c.args.before c.args.which c.args.sheet.now (table c.args.slots.now c.args.present.now c.args.kinds.now c.args.values.now) (scratch c.args.marks.now c.args.stack.now c.args.row-kinds.now c.args.row-values.now c.args.work-list.now) c.prepare-prepared.result
-    c.prepare-prepared.new.1.1.1.1.1.0 c.prepare-prepared.new.1.1.1.1.1.1.1.1.0 c.prepare-prepared.new.1.1.1.1.1.1.1.1.1.0 = asked_lent c.args.before c.args.which c.args.sheet.now (table c.args.slots.now c.args.present.now c.args.kinds.now c.args.values.now) (scratch c.args.marks.now c.args.stack.now c.args.row-kinds.now c.args.row-values.now c.args.work-list.now) c.clear_rows.auto.present c.clear_rows.auto.kinds c.clear_rows.auto.values
-    c.prepare-prepared.result _ _ _ c.prepare-prepared.ensures.0 in came) (not-false _ c.if-not-prepared.false) in came) (not-false _ c.if-not-prepared.false)
-    c.clear_rows.ensures.0 c.clear_rows.ensures.1 c.clear_rows.ensures.2 in came).row_kinds_fit
+slice_bounds-run_to_fixpoint-end-9 c = (lent_there c.args.before c.args.which c.args.sheet.now c.requires.0 (table c.args.slots.now c.args.present.now c.args.kinds.now c.args.values.now) _ c.requires.1 (counted c.requires.0.accepted.are).code_count_is
+    c.clear_rows.auto.present c.clear_rows.auto.kinds c.clear_rows.auto.values c.clear_rows.ensures c.prepare-prepared.result c.prepare-prepared.ensures.0 (not-false _ c.if-not-prepared.false)).row_kinds_fit
 
 pub slice_bounds-run_to_fixpoint-end-10 : goal.slice_bounds-run_to_fixpoint-end-10
-slice_bounds-run_to_fixpoint-end-10 c = sym (length-take-le _ _ (let came : RunLent c.args.sheet.now c.args.sizes.code_count c.prepare-prepared.result.s c.prepare-prepared.new.1.1.1.1.1.0
-    (run_memory c.clear_rows.new.0 c.clear_rows.new.1.0 c.clear_rows.new.1.1.0
-    c.prepare-prepared.new.1.1.1.1.1.1.1.1.0 c.prepare-prepared.new.1.1.1.1.1.1.1.1.1.0 c.args.work-list.now) = run_lent c.args.before c.args.which c.args.sheet.now c.requires.0 (table c.args.slots.now c.args.present.now c.args.kinds.now c.args.values.now) (scratch c.args.marks.now c.args.stack.now c.args.row-kinds.now c.args.row-values.now c.args.work-list.now) c.requires.1 (counted c.requires.0.accepted.are).code_count_is (let came : Ready c.args.before c.args.which c.args.sheet.now (table c.args.slots.now c.args.present.now c.args.kinds.now c.args.values.now) (scratch c.args.marks.now c.args.stack.now c.args.row-kinds.now c.args.row-values.now c.args.work-list.now) c.prepare-prepared.result
-    c.prepare-prepared.new.1.1.1.1.1.0 c.prepare-prepared.new.1.1.1.1.1.1.1.1.0 c.prepare-prepared.new.1.1.1.1.1.1.1.1.1.0 = ready c.args.before c.args.which c.args.sheet.now (table c.args.slots.now c.args.present.now c.args.kinds.now c.args.values.now) (scratch c.args.marks.now c.args.stack.now c.args.row-kinds.now c.args.row-values.now c.args.work-list.now) (let came : PreparedTold c.args.before c.args.which c.args.sheet.now (table c.args.slots.now c.args.present.now c.args.kinds.now c.args.values.now) (scratch c.args.marks.now c.args.stack.now c.args.row-kinds.now c.args.row-values.now c.args.work-list.now) c.prepare-prepared.result
-    c.prepare-prepared.new.1.1.1.1.1.0 c.prepare-prepared.new.1.1.1.1.1.1.1.1.0 c.prepare-prepared.new.1.1.1.1.1.1.1.1.1.0 = asked_lent c.args.before c.args.which c.args.sheet.now (table c.args.slots.now c.args.present.now c.args.kinds.now c.args.values.now) (scratch c.args.marks.now c.args.stack.now c.args.row-kinds.now c.args.row-values.now c.args.work-list.now) c.clear_rows.auto.present c.clear_rows.auto.kinds c.clear_rows.auto.values
-    c.prepare-prepared.result _ _ _ c.prepare-prepared.ensures.0 in came) (not-false _ c.if-not-prepared.false) in came) (not-false _ c.if-not-prepared.false)
-    c.clear_rows.ensures.0 c.clear_rows.ensures.1 c.clear_rows.ensures.2 in came).row_kinds_fit)
+slice_bounds-run_to_fixpoint-end-10 c = sym (length-take-le _ _ (lent_there c.args.before c.args.which c.args.sheet.now c.requires.0 (table c.args.slots.now c.args.present.now c.args.kinds.now c.args.values.now) _ c.requires.1 (counted c.requires.0.accepted.are).code_count_is
+    c.clear_rows.auto.present c.clear_rows.auto.kinds c.clear_rows.auto.values c.clear_rows.ensures c.prepare-prepared.result c.prepare-prepared.ensures.0 (not-false _ c.if-not-prepared.false)).row_kinds_fit)
 
 pub slice_bounds-run_to_fixpoint-end-11 : goal.slice_bounds-run_to_fixpoint-end-11
-slice_bounds-run_to_fixpoint-end-11 c = (let came : RunLent c.args.sheet.now c.args.sizes.code_count c.prepare-prepared.result.s c.prepare-prepared.new.1.1.1.1.1.0
-    (run_memory c.clear_rows.new.0 c.clear_rows.new.1.0 c.clear_rows.new.1.1.0
-    c.prepare-prepared.new.1.1.1.1.1.1.1.1.0 c.prepare-prepared.new.1.1.1.1.1.1.1.1.1.0 c.args.work-list.now) = run_lent c.args.before c.args.which c.args.sheet.now c.requires.0 (table c.args.slots.now c.args.present.now c.args.kinds.now c.args.values.now) (scratch c.args.marks.now c.args.stack.now c.args.row-kinds.now c.args.row-values.now c.args.work-list.now) c.requires.1 (counted c.requires.0.accepted.are).code_count_is (let came : Ready c.args.before c.args.which c.args.sheet.now (table c.args.slots.now c.args.present.now c.args.kinds.now c.args.values.now) (scratch c.args.marks.now c.args.stack.now c.args.row-kinds.now c.args.row-values.now c.args.work-list.now) c.prepare-prepared.result
-    c.prepare-prepared.new.1.1.1.1.1.0 c.prepare-prepared.new.1.1.1.1.1.1.1.1.0 c.prepare-prepared.new.1.1.1.1.1.1.1.1.1.0 = ready c.args.before c.args.which c.args.sheet.now (table c.args.slots.now c.args.present.now c.args.kinds.now c.args.values.now) (scratch c.args.marks.now c.args.stack.now c.args.row-kinds.now c.args.row-values.now c.args.work-list.now) (let came : PreparedTold c.args.before c.args.which c.args.sheet.now (table c.args.slots.now c.args.present.now c.args.kinds.now c.args.values.now) (scratch c.args.marks.now c.args.stack.now c.args.row-kinds.now c.args.row-values.now c.args.work-list.now) c.prepare-prepared.result
-    c.prepare-prepared.new.1.1.1.1.1.0 c.prepare-prepared.new.1.1.1.1.1.1.1.1.0 c.prepare-prepared.new.1.1.1.1.1.1.1.1.1.0 = asked_lent c.args.before c.args.which c.args.sheet.now (table c.args.slots.now c.args.present.now c.args.kinds.now c.args.values.now) (scratch c.args.marks.now c.args.stack.now c.args.row-kinds.now c.args.row-values.now c.args.work-list.now) c.clear_rows.auto.present c.clear_rows.auto.kinds c.clear_rows.auto.values
-    c.prepare-prepared.result _ _ _ c.prepare-prepared.ensures.0 in came) (not-false _ c.if-not-prepared.false) in came) (not-false _ c.if-not-prepared.false)
-    c.clear_rows.ensures.0 c.clear_rows.ensures.1 c.clear_rows.ensures.2 in came).row_values_fit
+slice_bounds-run_to_fixpoint-end-11 c = (lent_there c.args.before c.args.which c.args.sheet.now c.requires.0 (table c.args.slots.now c.args.present.now c.args.kinds.now c.args.values.now) _ c.requires.1 (counted c.requires.0.accepted.are).code_count_is
+    c.clear_rows.auto.present c.clear_rows.auto.kinds c.clear_rows.auto.values c.clear_rows.ensures c.prepare-prepared.result c.prepare-prepared.ensures.0 (not-false _ c.if-not-prepared.false)).row_values_fit
 
 pub slice_bounds-run_to_fixpoint-end-12 : goal.slice_bounds-run_to_fixpoint-end-12
-slice_bounds-run_to_fixpoint-end-12 c = sym (length-take-le _ _ (let came : RunLent c.args.sheet.now c.args.sizes.code_count c.prepare-prepared.result.s c.prepare-prepared.new.1.1.1.1.1.0
-    (run_memory c.clear_rows.new.0 c.clear_rows.new.1.0 c.clear_rows.new.1.1.0
-    c.prepare-prepared.new.1.1.1.1.1.1.1.1.0 c.prepare-prepared.new.1.1.1.1.1.1.1.1.1.0 c.args.work-list.now) = run_lent c.args.before c.args.which c.args.sheet.now c.requires.0 (table c.args.slots.now c.args.present.now c.args.kinds.now c.args.values.now) (scratch c.args.marks.now c.args.stack.now c.args.row-kinds.now c.args.row-values.now c.args.work-list.now) c.requires.1 (counted c.requires.0.accepted.are).code_count_is (let came : Ready c.args.before c.args.which c.args.sheet.now (table c.args.slots.now c.args.present.now c.args.kinds.now c.args.values.now) (scratch c.args.marks.now c.args.stack.now c.args.row-kinds.now c.args.row-values.now c.args.work-list.now) c.prepare-prepared.result
-    c.prepare-prepared.new.1.1.1.1.1.0 c.prepare-prepared.new.1.1.1.1.1.1.1.1.0 c.prepare-prepared.new.1.1.1.1.1.1.1.1.1.0 = ready c.args.before c.args.which c.args.sheet.now (table c.args.slots.now c.args.present.now c.args.kinds.now c.args.values.now) (scratch c.args.marks.now c.args.stack.now c.args.row-kinds.now c.args.row-values.now c.args.work-list.now) (let came : PreparedTold c.args.before c.args.which c.args.sheet.now (table c.args.slots.now c.args.present.now c.args.kinds.now c.args.values.now) (scratch c.args.marks.now c.args.stack.now c.args.row-kinds.now c.args.row-values.now c.args.work-list.now) c.prepare-prepared.result
-    c.prepare-prepared.new.1.1.1.1.1.0 c.prepare-prepared.new.1.1.1.1.1.1.1.1.0 c.prepare-prepared.new.1.1.1.1.1.1.1.1.1.0 = asked_lent c.args.before c.args.which c.args.sheet.now (table c.args.slots.now c.args.present.now c.args.kinds.now c.args.values.now) (scratch c.args.marks.now c.args.stack.now c.args.row-kinds.now c.args.row-values.now c.args.work-list.now) c.clear_rows.auto.present c.clear_rows.auto.kinds c.clear_rows.auto.values
-    c.prepare-prepared.result _ _ _ c.prepare-prepared.ensures.0 in came) (not-false _ c.if-not-prepared.false) in came) (not-false _ c.if-not-prepared.false)
-    c.clear_rows.ensures.0 c.clear_rows.ensures.1 c.clear_rows.ensures.2 in came).row_values_fit)
+slice_bounds-run_to_fixpoint-end-12 c = sym (length-take-le _ _ (lent_there c.args.before c.args.which c.args.sheet.now c.requires.0 (table c.args.slots.now c.args.present.now c.args.kinds.now c.args.values.now) _ c.requires.1 (counted c.requires.0.accepted.are).code_count_is
+    c.clear_rows.auto.present c.clear_rows.auto.kinds c.clear_rows.auto.values c.clear_rows.ensures c.prepare-prepared.result c.prepare-prepared.ensures.0 (not-false _ c.if-not-prepared.false)).row_values_fit)
 
 pub run_to_fixpoint-ran-requires : goal.run_to_fixpoint-ran-requires
 run_to_fixpoint-ran-requires c =
-    ((c.requires.0, (let came : RunLent c.args.sheet.now c.args.sizes.code_count c.prepare-prepared.result.s c.prepare-prepared.new.1.1.1.1.1.0
-    (run_memory c.clear_rows.new.0 c.clear_rows.new.1.0 c.clear_rows.new.1.1.0
-    c.prepare-prepared.new.1.1.1.1.1.1.1.1.0 c.prepare-prepared.new.1.1.1.1.1.1.1.1.1.0 c.args.work-list.now) = run_lent c.args.before c.args.which c.args.sheet.now c.requires.0 (table c.args.slots.now c.args.present.now c.args.kinds.now c.args.values.now) (scratch c.args.marks.now c.args.stack.now c.args.row-kinds.now c.args.row-values.now c.args.work-list.now) c.requires.1 (counted c.requires.0.accepted.are).code_count_is (let came : Ready c.args.before c.args.which c.args.sheet.now (table c.args.slots.now c.args.present.now c.args.kinds.now c.args.values.now) (scratch c.args.marks.now c.args.stack.now c.args.row-kinds.now c.args.row-values.now c.args.work-list.now) c.prepare-prepared.result
-    c.prepare-prepared.new.1.1.1.1.1.0 c.prepare-prepared.new.1.1.1.1.1.1.1.1.0 c.prepare-prepared.new.1.1.1.1.1.1.1.1.1.0 = ready c.args.before c.args.which c.args.sheet.now (table c.args.slots.now c.args.present.now c.args.kinds.now c.args.values.now) (scratch c.args.marks.now c.args.stack.now c.args.row-kinds.now c.args.row-values.now c.args.work-list.now) (let came : PreparedTold c.args.before c.args.which c.args.sheet.now (table c.args.slots.now c.args.present.now c.args.kinds.now c.args.values.now) (scratch c.args.marks.now c.args.stack.now c.args.row-kinds.now c.args.row-values.now c.args.work-list.now) c.prepare-prepared.result
-    c.prepare-prepared.new.1.1.1.1.1.0 c.prepare-prepared.new.1.1.1.1.1.1.1.1.0 c.prepare-prepared.new.1.1.1.1.1.1.1.1.1.0 = asked_lent c.args.before c.args.which c.args.sheet.now (table c.args.slots.now c.args.present.now c.args.kinds.now c.args.values.now) (scratch c.args.marks.now c.args.stack.now c.args.row-kinds.now c.args.row-values.now c.args.work-list.now) c.clear_rows.auto.present c.clear_rows.auto.kinds c.clear_rows.auto.values
-    c.prepare-prepared.result _ _ _ c.prepare-prepared.ensures.0 in came) (not-false _ c.if-not-prepared.false) in came) (not-false _ c.if-not-prepared.false)
-    c.clear_rows.ensures.0 c.clear_rows.ensures.1 c.clear_rows.ensures.2 in came).tracked), (let came : RunLent c.args.sheet.now c.args.sizes.code_count c.prepare-prepared.result.s c.prepare-prepared.new.1.1.1.1.1.0
-    (run_memory c.clear_rows.new.0 c.clear_rows.new.1.0 c.clear_rows.new.1.1.0
-    c.prepare-prepared.new.1.1.1.1.1.1.1.1.0 c.prepare-prepared.new.1.1.1.1.1.1.1.1.1.0 c.args.work-list.now) = run_lent c.args.before c.args.which c.args.sheet.now c.requires.0 (table c.args.slots.now c.args.present.now c.args.kinds.now c.args.values.now) (scratch c.args.marks.now c.args.stack.now c.args.row-kinds.now c.args.row-values.now c.args.work-list.now) c.requires.1 (counted c.requires.0.accepted.are).code_count_is (let came : Ready c.args.before c.args.which c.args.sheet.now (table c.args.slots.now c.args.present.now c.args.kinds.now c.args.values.now) (scratch c.args.marks.now c.args.stack.now c.args.row-kinds.now c.args.row-values.now c.args.work-list.now) c.prepare-prepared.result
-    c.prepare-prepared.new.1.1.1.1.1.0 c.prepare-prepared.new.1.1.1.1.1.1.1.1.0 c.prepare-prepared.new.1.1.1.1.1.1.1.1.1.0 = ready c.args.before c.args.which c.args.sheet.now (table c.args.slots.now c.args.present.now c.args.kinds.now c.args.values.now) (scratch c.args.marks.now c.args.stack.now c.args.row-kinds.now c.args.row-values.now c.args.work-list.now) (let came : PreparedTold c.args.before c.args.which c.args.sheet.now (table c.args.slots.now c.args.present.now c.args.kinds.now c.args.values.now) (scratch c.args.marks.now c.args.stack.now c.args.row-kinds.now c.args.row-values.now c.args.work-list.now) c.prepare-prepared.result
-    c.prepare-prepared.new.1.1.1.1.1.0 c.prepare-prepared.new.1.1.1.1.1.1.1.1.0 c.prepare-prepared.new.1.1.1.1.1.1.1.1.1.0 = asked_lent c.args.before c.args.which c.args.sheet.now (table c.args.slots.now c.args.present.now c.args.kinds.now c.args.values.now) (scratch c.args.marks.now c.args.stack.now c.args.row-kinds.now c.args.row-values.now c.args.work-list.now) c.clear_rows.auto.present c.clear_rows.auto.kinds c.clear_rows.auto.values
-    c.prepare-prepared.result _ _ _ c.prepare-prepared.ensures.0 in came) (not-false _ c.if-not-prepared.false) in came) (not-false _ c.if-not-prepared.false)
-    c.clear_rows.ensures.0 c.clear_rows.ensures.1 c.clear_rows.ensures.2 in came).run)
+    record {
+      sheet_index = (
+        c.requires.0,
+        (lent_there c.args.before c.args.which c.args.sheet.now c.requires.0 (table c.args.slots.now c.args.present.now c.args.kinds.now c.args.values.now) _ c.requires.1 (counted c.requires.0.accepted.are).code_count_is
+            c.clear_rows.auto.present c.clear_rows.auto.kinds c.clear_rows.auto.values c.clear_rows.ensures c.prepare-prepared.result c.prepare-prepared.ensures.0 (not-false _ c.if-not-prepared.false)).tracked,
+      );
+      memory_ready = (lent_there c.args.before c.args.which c.args.sheet.now c.requires.0 (table c.args.slots.now c.args.present.now c.args.kinds.now c.args.values.now) _ c.requires.1 (counted c.requires.0.accepted.are).code_count_is
+          c.clear_rows.auto.present c.clear_rows.auto.kinds c.clear_rows.auto.values c.clear_rows.ensures c.prepare-prepared.result c.prepare-prepared.ensures.0 (not-false _ c.if-not-prepared.false)).run;
+    }
 
 pub shape_of-slots : goal.shape_of-slots
 shape_of-slots c = c.conclude-counts.auto.slots ∙ c.prepare-prepared.auto.slots
 
 pub shape_of-present : goal.shape_of-present
-shape_of-present c = whole_length _ _ (let came : RunLent c.args.sheet.now c.args.sizes.code_count c.prepare-prepared.result.s c.prepare-prepared.new.1.1.1.1.1.0
-    (run_memory c.clear_rows.new.0 c.clear_rows.new.1.0 c.clear_rows.new.1.1.0
-    c.prepare-prepared.new.1.1.1.1.1.1.1.1.0 c.prepare-prepared.new.1.1.1.1.1.1.1.1.1.0 c.args.work-list.now) = run_lent c.args.before c.args.which c.args.sheet.now c.requires.0 (table c.args.slots.now c.args.present.now c.args.kinds.now c.args.values.now) (scratch c.args.marks.now c.args.stack.now c.args.row-kinds.now c.args.row-values.now c.args.work-list.now) c.requires.1 (counted c.requires.0.accepted.are).code_count_is (let came : Ready c.args.before c.args.which c.args.sheet.now (table c.args.slots.now c.args.present.now c.args.kinds.now c.args.values.now) (scratch c.args.marks.now c.args.stack.now c.args.row-kinds.now c.args.row-values.now c.args.work-list.now) c.prepare-prepared.result
-    c.prepare-prepared.new.1.1.1.1.1.0 c.prepare-prepared.new.1.1.1.1.1.1.1.1.0 c.prepare-prepared.new.1.1.1.1.1.1.1.1.1.0 = ready c.args.before c.args.which c.args.sheet.now (table c.args.slots.now c.args.present.now c.args.kinds.now c.args.values.now) (scratch c.args.marks.now c.args.stack.now c.args.row-kinds.now c.args.row-values.now c.args.work-list.now) (let came : PreparedTold c.args.before c.args.which c.args.sheet.now (table c.args.slots.now c.args.present.now c.args.kinds.now c.args.values.now) (scratch c.args.marks.now c.args.stack.now c.args.row-kinds.now c.args.row-values.now c.args.work-list.now) c.prepare-prepared.result
-    c.prepare-prepared.new.1.1.1.1.1.0 c.prepare-prepared.new.1.1.1.1.1.1.1.1.0 c.prepare-prepared.new.1.1.1.1.1.1.1.1.1.0 = asked_lent c.args.before c.args.which c.args.sheet.now (table c.args.slots.now c.args.present.now c.args.kinds.now c.args.values.now) (scratch c.args.marks.now c.args.stack.now c.args.row-kinds.now c.args.row-values.now c.args.work-list.now) c.clear_rows.auto.present c.clear_rows.auto.kinds c.clear_rows.auto.values
-    c.prepare-prepared.result _ _ _ c.prepare-prepared.ensures.0 in came) (not-false _ c.if-not-prepared.false) in came) (not-false _ c.if-not-prepared.false)
-    c.clear_rows.ensures.0 c.clear_rows.ensures.1 c.clear_rows.ensures.2 in came).present_fits c.run_to_fixpoint-ran.last.1.1.1.1.1.1.1.1.1.0 c.run_to_fixpoint-ran.auto.present
+shape_of-present c = whole_length _ _ (lent_there c.args.before c.args.which c.args.sheet.now c.requires.0 (table c.args.slots.now c.args.present.now c.args.kinds.now c.args.values.now) _ c.requires.1 (counted c.requires.0.accepted.are).code_count_is
+    c.clear_rows.auto.present c.clear_rows.auto.kinds c.clear_rows.auto.values c.clear_rows.ensures c.prepare-prepared.result c.prepare-prepared.ensures.0 (not-false _ c.if-not-prepared.false)).present_fits _ c.run_to_fixpoint-ran.auto.present
     ∙ c.clear_rows.auto.present
 
 pub shape_of-kinds : goal.shape_of-kinds
-shape_of-kinds c = whole_length _ _ (let came : RunLent c.args.sheet.now c.args.sizes.code_count c.prepare-prepared.result.s c.prepare-prepared.new.1.1.1.1.1.0
-    (run_memory c.clear_rows.new.0 c.clear_rows.new.1.0 c.clear_rows.new.1.1.0
-    c.prepare-prepared.new.1.1.1.1.1.1.1.1.0 c.prepare-prepared.new.1.1.1.1.1.1.1.1.1.0 c.args.work-list.now) = run_lent c.args.before c.args.which c.args.sheet.now c.requires.0 (table c.args.slots.now c.args.present.now c.args.kinds.now c.args.values.now) (scratch c.args.marks.now c.args.stack.now c.args.row-kinds.now c.args.row-values.now c.args.work-list.now) c.requires.1 (counted c.requires.0.accepted.are).code_count_is (let came : Ready c.args.before c.args.which c.args.sheet.now (table c.args.slots.now c.args.present.now c.args.kinds.now c.args.values.now) (scratch c.args.marks.now c.args.stack.now c.args.row-kinds.now c.args.row-values.now c.args.work-list.now) c.prepare-prepared.result
-    c.prepare-prepared.new.1.1.1.1.1.0 c.prepare-prepared.new.1.1.1.1.1.1.1.1.0 c.prepare-prepared.new.1.1.1.1.1.1.1.1.1.0 = ready c.args.before c.args.which c.args.sheet.now (table c.args.slots.now c.args.present.now c.args.kinds.now c.args.values.now) (scratch c.args.marks.now c.args.stack.now c.args.row-kinds.now c.args.row-values.now c.args.work-list.now) (let came : PreparedTold c.args.before c.args.which c.args.sheet.now (table c.args.slots.now c.args.present.now c.args.kinds.now c.args.values.now) (scratch c.args.marks.now c.args.stack.now c.args.row-kinds.now c.args.row-values.now c.args.work-list.now) c.prepare-prepared.result
-    c.prepare-prepared.new.1.1.1.1.1.0 c.prepare-prepared.new.1.1.1.1.1.1.1.1.0 c.prepare-prepared.new.1.1.1.1.1.1.1.1.1.0 = asked_lent c.args.before c.args.which c.args.sheet.now (table c.args.slots.now c.args.present.now c.args.kinds.now c.args.values.now) (scratch c.args.marks.now c.args.stack.now c.args.row-kinds.now c.args.row-values.now c.args.work-list.now) c.clear_rows.auto.present c.clear_rows.auto.kinds c.clear_rows.auto.values
-    c.prepare-prepared.result _ _ _ c.prepare-prepared.ensures.0 in came) (not-false _ c.if-not-prepared.false) in came) (not-false _ c.if-not-prepared.false)
-    c.clear_rows.ensures.0 c.clear_rows.ensures.1 c.clear_rows.ensures.2 in came).kinds_fit c.run_to_fixpoint-ran.last.1.1.1.1.1.1.1.1.1.1.0 c.run_to_fixpoint-ran.auto.kinds
+shape_of-kinds c = whole_length _ _ (lent_there c.args.before c.args.which c.args.sheet.now c.requires.0 (table c.args.slots.now c.args.present.now c.args.kinds.now c.args.values.now) _ c.requires.1 (counted c.requires.0.accepted.are).code_count_is
+    c.clear_rows.auto.present c.clear_rows.auto.kinds c.clear_rows.auto.values c.clear_rows.ensures c.prepare-prepared.result c.prepare-prepared.ensures.0 (not-false _ c.if-not-prepared.false)).kinds_fit _ c.run_to_fixpoint-ran.auto.kinds
     ∙ c.clear_rows.auto.kinds
 
 pub shape_of-values : goal.shape_of-values
-shape_of-values c = whole_length _ _ (let came : RunLent c.args.sheet.now c.args.sizes.code_count c.prepare-prepared.result.s c.prepare-prepared.new.1.1.1.1.1.0
-    (run_memory c.clear_rows.new.0 c.clear_rows.new.1.0 c.clear_rows.new.1.1.0
-    c.prepare-prepared.new.1.1.1.1.1.1.1.1.0 c.prepare-prepared.new.1.1.1.1.1.1.1.1.1.0 c.args.work-list.now) = run_lent c.args.before c.args.which c.args.sheet.now c.requires.0 (table c.args.slots.now c.args.present.now c.args.kinds.now c.args.values.now) (scratch c.args.marks.now c.args.stack.now c.args.row-kinds.now c.args.row-values.now c.args.work-list.now) c.requires.1 (counted c.requires.0.accepted.are).code_count_is (let came : Ready c.args.before c.args.which c.args.sheet.now (table c.args.slots.now c.args.present.now c.args.kinds.now c.args.values.now) (scratch c.args.marks.now c.args.stack.now c.args.row-kinds.now c.args.row-values.now c.args.work-list.now) c.prepare-prepared.result
-    c.prepare-prepared.new.1.1.1.1.1.0 c.prepare-prepared.new.1.1.1.1.1.1.1.1.0 c.prepare-prepared.new.1.1.1.1.1.1.1.1.1.0 = ready c.args.before c.args.which c.args.sheet.now (table c.args.slots.now c.args.present.now c.args.kinds.now c.args.values.now) (scratch c.args.marks.now c.args.stack.now c.args.row-kinds.now c.args.row-values.now c.args.work-list.now) (let came : PreparedTold c.args.before c.args.which c.args.sheet.now (table c.args.slots.now c.args.present.now c.args.kinds.now c.args.values.now) (scratch c.args.marks.now c.args.stack.now c.args.row-kinds.now c.args.row-values.now c.args.work-list.now) c.prepare-prepared.result
-    c.prepare-prepared.new.1.1.1.1.1.0 c.prepare-prepared.new.1.1.1.1.1.1.1.1.0 c.prepare-prepared.new.1.1.1.1.1.1.1.1.1.0 = asked_lent c.args.before c.args.which c.args.sheet.now (table c.args.slots.now c.args.present.now c.args.kinds.now c.args.values.now) (scratch c.args.marks.now c.args.stack.now c.args.row-kinds.now c.args.row-values.now c.args.work-list.now) c.clear_rows.auto.present c.clear_rows.auto.kinds c.clear_rows.auto.values
-    c.prepare-prepared.result _ _ _ c.prepare-prepared.ensures.0 in came) (not-false _ c.if-not-prepared.false) in came) (not-false _ c.if-not-prepared.false)
-    c.clear_rows.ensures.0 c.clear_rows.ensures.1 c.clear_rows.ensures.2 in came).values_fit c.run_to_fixpoint-ran.last.1.1.1.1.1.1.1.1.1.1.1.0 c.run_to_fixpoint-ran.auto.values
+shape_of-values c = whole_length _ _ (lent_there c.args.before c.args.which c.args.sheet.now c.requires.0 (table c.args.slots.now c.args.present.now c.args.kinds.now c.args.values.now) _ c.requires.1 (counted c.requires.0.accepted.are).code_count_is
+    c.clear_rows.auto.present c.clear_rows.auto.kinds c.clear_rows.auto.values c.clear_rows.ensures c.prepare-prepared.result c.prepare-prepared.ensures.0 (not-false _ c.if-not-prepared.false)).values_fit _ c.run_to_fixpoint-ran.auto.values
     ∙ c.clear_rows.auto.values
 
 pub shape_of-marks : goal.shape_of-marks
@@ -197,31 +113,18 @@ pub shape_of-stack : goal.shape_of-stack
 shape_of-stack c = c.prepare-prepared.auto.stack
 
 pub shape_of-row_kinds : goal.shape_of-row_kinds
-shape_of-row_kinds c = whole_length _ _ (let came : RunLent c.args.sheet.now c.args.sizes.code_count c.prepare-prepared.result.s c.prepare-prepared.new.1.1.1.1.1.0
-    (run_memory c.clear_rows.new.0 c.clear_rows.new.1.0 c.clear_rows.new.1.1.0
-    c.prepare-prepared.new.1.1.1.1.1.1.1.1.0 c.prepare-prepared.new.1.1.1.1.1.1.1.1.1.0 c.args.work-list.now) = run_lent c.args.before c.args.which c.args.sheet.now c.requires.0 (table c.args.slots.now c.args.present.now c.args.kinds.now c.args.values.now) (scratch c.args.marks.now c.args.stack.now c.args.row-kinds.now c.args.row-values.now c.args.work-list.now) c.requires.1 (counted c.requires.0.accepted.are).code_count_is (let came : Ready c.args.before c.args.which c.args.sheet.now (table c.args.slots.now c.args.present.now c.args.kinds.now c.args.values.now) (scratch c.args.marks.now c.args.stack.now c.args.row-kinds.now c.args.row-values.now c.args.work-list.now) c.prepare-prepared.result
-    c.prepare-prepared.new.1.1.1.1.1.0 c.prepare-prepared.new.1.1.1.1.1.1.1.1.0 c.prepare-prepared.new.1.1.1.1.1.1.1.1.1.0 = ready c.args.before c.args.which c.args.sheet.now (table c.args.slots.now c.args.present.now c.args.kinds.now c.args.values.now) (scratch c.args.marks.now c.args.stack.now c.args.row-kinds.now c.args.row-values.now c.args.work-list.now) (let came : PreparedTold c.args.before c.args.which c.args.sheet.now (table c.args.slots.now c.args.present.now c.args.kinds.now c.args.values.now) (scratch c.args.marks.now c.args.stack.now c.args.row-kinds.now c.args.row-values.now c.args.work-list.now) c.prepare-prepared.result
-    c.prepare-prepared.new.1.1.1.1.1.0 c.prepare-prepared.new.1.1.1.1.1.1.1.1.0 c.prepare-prepared.new.1.1.1.1.1.1.1.1.1.0 = asked_lent c.args.before c.args.which c.args.sheet.now (table c.args.slots.now c.args.present.now c.args.kinds.now c.args.values.now) (scratch c.args.marks.now c.args.stack.now c.args.row-kinds.now c.args.row-values.now c.args.work-list.now) c.clear_rows.auto.present c.clear_rows.auto.kinds c.clear_rows.auto.values
-    c.prepare-prepared.result _ _ _ c.prepare-prepared.ensures.0 in came) (not-false _ c.if-not-prepared.false) in came) (not-false _ c.if-not-prepared.false)
-    c.clear_rows.ensures.0 c.clear_rows.ensures.1 c.clear_rows.ensures.2 in came).row_kinds_fit c.run_to_fixpoint-ran.last.1.1.1.1.1.1.1.1.1.1.1.1.0 c.run_to_fixpoint-ran.auto.row_kinds
+shape_of-row_kinds c = whole_length _ _ (lent_there c.args.before c.args.which c.args.sheet.now c.requires.0 (table c.args.slots.now c.args.present.now c.args.kinds.now c.args.values.now) _ c.requires.1 (counted c.requires.0.accepted.are).code_count_is
+    c.clear_rows.auto.present c.clear_rows.auto.kinds c.clear_rows.auto.values c.clear_rows.ensures c.prepare-prepared.result c.prepare-prepared.ensures.0 (not-false _ c.if-not-prepared.false)).row_kinds_fit _ c.run_to_fixpoint-ran.auto.row_kinds
     ∙ c.prepare-prepared.auto.row_kinds
 
 pub shape_of-row_values : goal.shape_of-row_values
-shape_of-row_values c = whole_length _ _ (let came : RunLent c.args.sheet.now c.args.sizes.code_count c.prepare-prepared.result.s c.prepare-prepared.new.1.1.1.1.1.0
-    (run_memory c.clear_rows.new.0 c.clear_rows.new.1.0 c.clear_rows.new.1.1.0
-    c.prepare-prepared.new.1.1.1.1.1.1.1.1.0 c.prepare-prepared.new.1.1.1.1.1.1.1.1.1.0 c.args.work-list.now) = run_lent c.args.before c.args.which c.args.sheet.now c.requires.0 (table c.args.slots.now c.args.present.now c.args.kinds.now c.args.values.now) (scratch c.args.marks.now c.args.stack.now c.args.row-kinds.now c.args.row-values.now c.args.work-list.now) c.requires.1 (counted c.requires.0.accepted.are).code_count_is (let came : Ready c.args.before c.args.which c.args.sheet.now (table c.args.slots.now c.args.present.now c.args.kinds.now c.args.values.now) (scratch c.args.marks.now c.args.stack.now c.args.row-kinds.now c.args.row-values.now c.args.work-list.now) c.prepare-prepared.result
-    c.prepare-prepared.new.1.1.1.1.1.0 c.prepare-prepared.new.1.1.1.1.1.1.1.1.0 c.prepare-prepared.new.1.1.1.1.1.1.1.1.1.0 = ready c.args.before c.args.which c.args.sheet.now (table c.args.slots.now c.args.present.now c.args.kinds.now c.args.values.now) (scratch c.args.marks.now c.args.stack.now c.args.row-kinds.now c.args.row-values.now c.args.work-list.now) (let came : PreparedTold c.args.before c.args.which c.args.sheet.now (table c.args.slots.now c.args.present.now c.args.kinds.now c.args.values.now) (scratch c.args.marks.now c.args.stack.now c.args.row-kinds.now c.args.row-values.now c.args.work-list.now) c.prepare-prepared.result
-    c.prepare-prepared.new.1.1.1.1.1.0 c.prepare-prepared.new.1.1.1.1.1.1.1.1.0 c.prepare-prepared.new.1.1.1.1.1.1.1.1.1.0 = asked_lent c.args.before c.args.which c.args.sheet.now (table c.args.slots.now c.args.present.now c.args.kinds.now c.args.values.now) (scratch c.args.marks.now c.args.stack.now c.args.row-kinds.now c.args.row-values.now c.args.work-list.now) c.clear_rows.auto.present c.clear_rows.auto.kinds c.clear_rows.auto.values
-    c.prepare-prepared.result _ _ _ c.prepare-prepared.ensures.0 in came) (not-false _ c.if-not-prepared.false) in came) (not-false _ c.if-not-prepared.false)
-    c.clear_rows.ensures.0 c.clear_rows.ensures.1 c.clear_rows.ensures.2 in came).row_values_fit c.run_to_fixpoint-ran.last.1.1.1.1.1.1.1.1.1.1.1.1.1.0 c.run_to_fixpoint-ran.auto.row_values
+shape_of-row_values c = whole_length _ _ (lent_there c.args.before c.args.which c.args.sheet.now c.requires.0 (table c.args.slots.now c.args.present.now c.args.kinds.now c.args.values.now) _ c.requires.1 (counted c.requires.0.accepted.are).code_count_is
+    c.clear_rows.auto.present c.clear_rows.auto.kinds c.clear_rows.auto.values c.clear_rows.ensures c.prepare-prepared.result c.prepare-prepared.ensures.0 (not-false _ c.if-not-prepared.false)).row_values_fit _ c.run_to_fixpoint-ran.auto.row_values
     ∙ c.prepare-prepared.auto.row_values
 
 pub returns : goal.returns
 returns c =
-    concluded c.args.before c.args.which c.args.sheet.now c.requires.0 (table c.args.slots.now c.args.present.now c.args.kinds.now c.args.values.now) (scratch c.args.marks.now c.args.stack.now c.args.row-kinds.now c.args.row-values.now c.args.work-list.now) c.requires.1 (counted c.requires.0.accepted.are).code_count_is (let came : Ready c.args.before c.args.which c.args.sheet.now (table c.args.slots.now c.args.present.now c.args.kinds.now c.args.values.now) (scratch c.args.marks.now c.args.stack.now c.args.row-kinds.now c.args.row-values.now c.args.work-list.now) c.prepare-prepared.result
-    c.prepare-prepared.new.1.1.1.1.1.0 c.prepare-prepared.new.1.1.1.1.1.1.1.1.0 c.prepare-prepared.new.1.1.1.1.1.1.1.1.1.0 = ready c.args.before c.args.which c.args.sheet.now (table c.args.slots.now c.args.present.now c.args.kinds.now c.args.values.now) (scratch c.args.marks.now c.args.stack.now c.args.row-kinds.now c.args.row-values.now c.args.work-list.now) (let came : PreparedTold c.args.before c.args.which c.args.sheet.now (table c.args.slots.now c.args.present.now c.args.kinds.now c.args.values.now) (scratch c.args.marks.now c.args.stack.now c.args.row-kinds.now c.args.row-values.now c.args.work-list.now) c.prepare-prepared.result
-    c.prepare-prepared.new.1.1.1.1.1.0 c.prepare-prepared.new.1.1.1.1.1.1.1.1.0 c.prepare-prepared.new.1.1.1.1.1.1.1.1.1.0 = asked_lent c.args.before c.args.which c.args.sheet.now (table c.args.slots.now c.args.present.now c.args.kinds.now c.args.values.now) (scratch c.args.marks.now c.args.stack.now c.args.row-kinds.now c.args.row-values.now c.args.work-list.now) c.clear_rows.auto.present c.clear_rows.auto.kinds c.clear_rows.auto.values
-    c.prepare-prepared.result _ _ _ c.prepare-prepared.ensures.0 in came) (not-false _ c.if-not-prepared.false) in came) (not-false _ c.if-not-prepared.false)
+    concluded c.args.before c.args.which c.args.sheet.now c.requires.0 (table c.args.slots.now c.args.present.now c.args.kinds.now c.args.values.now) (scratch c.args.marks.now c.args.stack.now c.args.row_kinds.now c.args.row_values.now c.args.work_list.now) c.requires.1 (counted c.requires.0.accepted.are).code_count_is (ready_there c.args.before c.args.which c.args.sheet.now (table c.args.slots.now c.args.present.now c.args.kinds.now c.args.values.now) _ c.clear_rows.auto.present c.clear_rows.auto.kinds c.clear_rows.auto.values c.prepare-prepared.result c.prepare-prepared.ensures.0 (not-false _ c.if-not-prepared.false)) (not-false _ c.if-not-prepared.false)
     c.clear_rows.ensures.0 c.clear_rows.ensures.1 c.clear_rows.ensures.2 c.prepare-prepared.ensures.1 c.prepare-prepared.ensures.2 c.left_of.ensures c.run_to_fixpoint-ran.result _
     (record {
       present = c.run_to_fixpoint-ran.auto.present;

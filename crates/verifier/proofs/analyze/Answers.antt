@@ -8,14 +8,6 @@ use Rattle.call_order.proofs.CallOrder.{demanded}
 use borrow.Author.Rules.{rules}
 use Rattle.verifier.proofs.analyze.Goals as goal
 
--- all that was lent
-abbrev before : goal.Start → Lent
-before s =
-    lent (table s.args.constant-slots.now s.args.constant-present.now s.args.constant_kinds.now s.args.constant_values.now)
-    (table s.args.index-slots.now s.args.index-present.now s.args.index-kinds.now s.args.index-values.now)
-    (table s.args.container-slots.now s.args.container-present.now s.args.container-kinds.now s.args.container-values.now)
-    (scratch s.args.marks.now s.args.stack.now s.args.row-kinds.now s.args.row-values.now s.args.work-list.now)
-
 -- ---- the needs
 pub index_sheet-requires : goal.index_sheet-requires
 index_sheet-requires c =
@@ -29,8 +21,20 @@ analyze_indexed-requires c =
 
 pub returns-in-Refused : goal.returns-in-Refused
 returns-in-Refused c =
-    let call = turned_away _ (before c) c.admit-admission.ensures c.args.resources c.in-Refused.is in
-    (call, demanded _ c.args.resources (before c) _ (before c) call)
+    let call = turned_away _ (lent (table c.args.constant_slots.now c.args.constant_present.now c.args.constant_kinds.now c.args.constant_values.now)
+    (table c.args.index_slots.now c.args.index_present.now c.args.index_kinds.now c.args.index_values.now)
+    (table c.args.container_slots.now c.args.container_present.now c.args.container_kinds.now c.args.container_values.now)
+    (scratch c.args.marks.now c.args.stack.now c.args.row_kinds.now c.args.row_values.now c.args.work_list.now)) c.admit-admission.ensures c.args.resources c.in-Refused.is in
+    record {
+      call = call;
+      demand = demanded _ c.args.resources (lent (table c.args.constant_slots.now c.args.constant_present.now c.args.constant_kinds.now c.args.constant_values.now)
+          (table c.args.index_slots.now c.args.index_present.now c.args.index_kinds.now c.args.index_values.now)
+          (table c.args.container_slots.now c.args.container_present.now c.args.container_kinds.now c.args.container_values.now)
+          (scratch c.args.marks.now c.args.stack.now c.args.row_kinds.now c.args.row_values.now c.args.work_list.now)) _ (lent (table c.args.constant_slots.now c.args.constant_present.now c.args.constant_kinds.now c.args.constant_values.now)
+          (table c.args.index_slots.now c.args.index_present.now c.args.index_kinds.now c.args.index_values.now)
+          (table c.args.container_slots.now c.args.container_present.now c.args.container_kinds.now c.args.container_values.now)
+          (scratch c.args.marks.now c.args.stack.now c.args.row_kinds.now c.args.row_values.now c.args.work_list.now)) call;
+    }
 
 pub shape_of-constant_slots : goal.shape_of-constant_slots
 shape_of-constant_slots c = c.analyze_indexed.auto.constant_slots
@@ -85,4 +89,10 @@ shape_of-work_list c = c.analyze_indexed.auto.work_list
 
 pub returns-in-Admitted : goal.returns-in-Admitted
 returns-in-Admitted c =
-    (c.analyze_indexed.ensures, demanded _ c.args.resources (before c) _ _ c.analyze_indexed.ensures)
+    record {
+      call = c.analyze_indexed.ensures;
+      demand = demanded _ c.args.resources (lent (table c.args.constant_slots.now c.args.constant_present.now c.args.constant_kinds.now c.args.constant_values.now)
+          (table c.args.index_slots.now c.args.index_present.now c.args.index_kinds.now c.args.index_values.now)
+          (table c.args.container_slots.now c.args.container_present.now c.args.container_kinds.now c.args.container_values.now)
+          (scratch c.args.marks.now c.args.stack.now c.args.row_kinds.now c.args.row_values.now c.args.work_list.now)) _ _ c.analyze_indexed.ensures;
+    }

@@ -28,11 +28,10 @@ pub loop-pc-smaller : goal.loop-pc-smaller
 loop-pc-smaller c = omega (arith, c.loop-pc-test.true)
 
 pub loop-pc-preserved : goal.loop-pc-preserved
-loop-pc-preserved c =
-    (
-      omega (arith, c.loop-pc-test.true),
-      seeds_more _ _ _ c.loop-pc.invariant.1 c.instruction_at.ensures c.seed_fields.ensures c.mark_slots-top.ensures,
-    )
+loop-pc-preserved c = (
+  omega (arith, c.loop-pc-test.true),
+  seeds_more _ _ _ c.loop-pc.invariant.1 c.instruction_at.ensures c.seed_fields.ensures c.mark_slots-top.ensures,
+)
 
 pub shape_of-marks : goal.shape_of-marks
 shape_of-marks c = goes_wide c.loop-pc.invariant.1 c.requires.1

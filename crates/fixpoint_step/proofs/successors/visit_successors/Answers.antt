@@ -17,8 +17,7 @@ join_next-first-requires c = first_next c.requires _ (let came : c.instruction_s
 
 pub join_next-second-requires : goal.join_next-second-requires
 join_next-second-requires c =
-    let kept = c.join_next-first.auto.present in
-    second_next c.requires _ (let came : c.instruction_successors-next.result ≡ as_record (sheet_successors c.args.sheet.now c.args.p) = next_is _ _ _ c.requires.accepted c.instruction_at.ensures c.instruction_successors-next.ensures in came) _ _ _ c.join_next-first.ensures kept.0 kept.1.0 kept.1.1.0
+    second_next c.requires _ (let came : c.instruction_successors-next.result ≡ as_record (sheet_successors c.args.sheet.now c.args.p) = next_is _ _ _ c.requires.accepted c.instruction_at.ensures c.instruction_successors-next.ensures in came) _ _ _ c.join_next-first.ensures c.join_next-first.auto.present c.join_next-first.auto.kinds c.join_next-first.auto.values
 
 pub returns : goal.returns
 returns c =

@@ -34,7 +34,7 @@ pub slice_bounds-join_row-end-2 : goal.slice_bounds-join_row-end-2
 slice_bounds-join_row-end-2 c = omega (arith, visiting_end c.requires)
 
 pub join_row-requires : goal.join_row-requires
-join_row-requires c = (visiting_row c.requires c.if-present-q-eq0.false, visiting_lengths c.requires)
+join_row-requires c = record { row_lies = visiting_row c.requires c.if-present-q-eq0.false; new_kinds_len = visiting_lengths c.requires }
 
 pub returns : goal.returns
 returns c = visit_present _ _ _ _ _ _ c.if-present-q-eq0.false c.join_row.ensures

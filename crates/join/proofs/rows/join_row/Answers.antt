@@ -1,6 +1,5 @@
 -- `join::rows::join_row` meets its contract. The loop's invariant: the first i places are joined, and the others are as they were.
 -- Assumes nothing.
-use mathlib.Core.Logic.{⊎_elim}
 use Prim.Native.Nat.{◌-◌}
 use native.Mathlib.Omega.{arith}
 use borrow.Author.Rules.{rules}
@@ -8,6 +7,7 @@ use lib.ListN.{length}
 use Rattle.sheet_layouts.specs.Classes.{equal_by}
 use Rattle.join.proofs.JoinLoop.{Partly, carried, partly_start, partly_changed, partly_kept, partly_end}
 use Rattle.join.proofs.rows.join_row.Goals as goal
+use Rattle.join.proofs.rows.join_row.Goals.{then-kind-was, else-kind-was}
 
 pub loop-i-init : goal.loop-i-init
 loop-i-init c = partly_start c.requires.row_lies c.requires.new_kinds_len.0 c.requires.new_kinds_len.1
@@ -15,10 +15,12 @@ loop-i-init c = partly_start c.requires.row_lies c.requires.new_kinds_len.0 c.re
 pub loop-i-preserved : goal.loop-i-preserved
 loop-i-preserved c =
     let joined = c.merge_fact_of-joined in
-    ⊎_elim
-    (λ w. carried w.1 w.2 w.3 (partly_changed c.loop-i.invariant c.loop-i-test.true joined.result joined.ensures w.0.taken))
-    (λ w. carried w.1 w.2 w.3 (partly_kept c.loop-i.invariant c.loop-i-test.true joined.result joined.ensures w.0.left))
-    c.if-kind-was.branch
+    elim c.if-kind-was.branch [
+      | then-kind-was w ↦
+          carried w.kinds-is w.values-is w.changed-is (partly_changed c.loop-i.invariant c.loop-i-test.true joined.result joined.ensures w.if-kind-was.true)
+      | else-kind-was w ↦
+          carried w.kinds-is w.values-is w.changed-is (partly_kept c.loop-i.invariant c.loop-i-test.true joined.result joined.ensures w.if-kind-was.false)
+    ]
 
 pub returns : goal.returns
 returns c = partly_end c.loop-i.invariant c.loop-i-test.false

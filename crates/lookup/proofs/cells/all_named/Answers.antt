@@ -22,13 +22,13 @@ pub returns-then-not-named : goal.returns-then-not-named
 returns-then-not-named c =
     let a = c.args in
     rows_refused a.s a.present.now a.kinds.now (placed a.at) (length a.present.now) c.loop-pc.pc c.loop-pc-test.true
-    (sym (not-true _ c.if-not-named.true) ∙ c.named.ensures)
+    (sym (c.if-not-named.true) ∙ c.named.ensures)
 
 pub loop-pc-preserved : goal.loop-pc-preserved
 loop-pc-preserved c =
     let a = c.args in
     let l = c.loop-pc in
-    (omega arith, rows_more a.s a.present.now a.kinds.now (placed a.at) l.pc l.invariant.1 (sym (not-false _ c.if-not-named.false) ∙ c.named.ensures))
+    (omega arith, rows_more a.s a.present.now a.kinds.now (placed a.at) l.pc l.invariant.1 (sym (c.if-not-named.false) ∙ c.named.ensures))
 
 pub returns : goal.returns
 returns c =

@@ -13,32 +13,27 @@ returns-then-present_at-ne1 c =
 pub overflow_mul-i : goal.overflow_mul-i
 overflow_mul-i c =
     let a = c.args in
-    let at = c.at-1.given in
-    omega (arith, cell_inside a.s a.present.now _ a.pc at.0.0 _ a.at at.1 c.requires.inside c.present_at.ensures (omega arith))
+    omega (arith, cell_inside a.s a.present.now _ a.pc c.in-At.j _ a.at c.in-At.is c.requires.inside c.present_at.ensures (omega arith))
 
 pub overflow_add-i : goal.overflow_add-i
 overflow_add-i c =
     let a = c.args in
-    let at = c.at-1.given in
-    omega (arith, cell_inside a.s a.present.now _ a.pc at.0.0 _ a.at at.1 c.requires.inside c.present_at.ensures (omega arith))
+    omega (arith, cell_inside a.s a.present.now _ a.pc c.in-At.j _ a.at c.in-At.is c.requires.inside c.present_at.ensures (omega arith))
 
 pub bounds-kinds-i : goal.bounds-kinds-i
 bounds-kinds-i c =
     let a = c.args in
-    let at = c.at-1.given in
-    cell_inside a.s a.present.now _ a.pc at.0.0 _ a.at at.1 c.requires.inside c.present_at.ensures (omega arith)
+    cell_inside a.s a.present.now _ a.pc c.in-At.j _ a.at c.in-At.is c.requires.inside c.present_at.ensures (omega arith)
 
 pub offset_bounds-values-i : goal.offset_bounds-values-i
 offset_bounds-values-i c =
     let a = c.args in
-    let at = c.at-1.given in
-    omega (arith, cell_inside a.s a.present.now _ a.pc at.0.0 _ a.at at.1 c.requires.inside c.present_at.ensures (omega arith))
+    omega (arith, cell_inside a.s a.present.now _ a.pc c.in-At.j _ a.at c.in-At.is c.requires.inside c.present_at.ensures (omega arith))
 
 pub bounds-values-i : goal.bounds-values-i
 bounds-values-i c =
     let a = c.args in
-    let at = c.at-1.given in
-    omega (arith, cell_inside a.s a.present.now _ a.pc at.0.0 _ a.at at.1 c.requires.inside c.present_at.ensures (omega arith))
+    omega (arith, cell_inside a.s a.present.now _ a.pc c.in-At.j _ a.at c.in-At.is c.requires.inside c.present_at.ensures (omega arith))
 
 pub returns-in-Untracked : goal.returns-in-Untracked
 returns-in-Untracked c =
@@ -48,5 +43,4 @@ returns-in-Untracked c =
 pub returns-in-At : goal.returns-in-At
 returns-in-At c =
     let a = c.args in
-    let at = c.at-1.given in
-    the_cell a.s a.present.now a.kinds.now a.values.now a.pc _ c.present_at.ensures a.at at.0.0 at.1 c.if-present_at-ne1.false
+    the_cell a.s a.present.now a.kinds.now a.values.now a.pc _ c.present_at.ensures a.at c.in-At.j c.in-At.is c.if-present_at-ne1.false

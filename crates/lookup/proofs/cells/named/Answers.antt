@@ -7,26 +7,22 @@ use Rattle.lookup.proofs.cells.named.Goals as goal
 pub overflow_mul-i : goal.overflow_mul-i
 overflow_mul-i c =
     let a = c.args in
-    let at = c.at-1.given in
-    omega (arith, cell_inside a.s a.present.now _ a.pc at.0.0 _ a.at at.1 c.requires c.present_at-byte.ensures (omega arith))
+    omega (arith, cell_inside a.s a.present.now _ a.pc c.in-At.j _ a.at c.in-At.is c.requires c.present_at-byte.ensures (omega arith))
 
 pub overflow_add-i : goal.overflow_add-i
 overflow_add-i c =
     let a = c.args in
-    let at = c.at-1.given in
-    omega (arith, cell_inside a.s a.present.now _ a.pc at.0.0 _ a.at at.1 c.requires c.present_at-byte.ensures (omega arith))
+    omega (arith, cell_inside a.s a.present.now _ a.pc c.in-At.j _ a.at c.in-At.is c.requires c.present_at-byte.ensures (omega arith))
 
 pub bounds-kinds-i : goal.bounds-kinds-i
 bounds-kinds-i c =
     let a = c.args in
-    let at = c.at-1.given in
-    cell_inside a.s a.present.now _ a.pc at.0.0 _ a.at at.1 c.requires c.present_at-byte.ensures (omega arith)
+    cell_inside a.s a.present.now _ a.pc c.in-At.j _ a.at c.in-At.is c.requires c.present_at-byte.ensures (omega arith)
 
 pub returns-then-byte-eq1 : goal.returns-then-byte-eq1
 returns-then-byte-eq1 c =
     let a = c.args in
-    let at = c.at-1.given in
-    present_row_lem a.last a.s a.present.now a.kinds.now a.pc _ c.present_at-byte.ensures a.at at.0.0 at.1 c.if-byte-eq1.true
+    present_row_lem a.last a.s a.present.now a.kinds.now a.pc _ c.present_at-byte.ensures a.at c.in-At.j c.in-At.is c.if-byte-eq1.true
 
 pub returns-in-Untracked : goal.returns-in-Untracked
 returns-in-Untracked c =
@@ -36,5 +32,4 @@ returns-in-Untracked c =
 pub returns-else-byte-eq1 : goal.returns-else-byte-eq1
 returns-else-byte-eq1 c =
     let a = c.args in
-    let at = c.at-1.given in
-    other_row a.last a.s a.present.now a.kinds.now a.pc _ c.present_at-byte.ensures a.at at.0.0 at.1 c.if-byte-eq1.false
+    other_row a.last a.s a.present.now a.kinds.now a.pc _ c.present_at-byte.ensures a.at c.in-At.j c.in-At.is c.if-byte-eq1.false

@@ -8,8 +8,7 @@ use Rattle.lookup.proofs.shown.fixed_at.Goals as goal
 pub shown-seen-requires : goal.shown-seen-requires
 shown-seen-requires c =
     let a = c.args in
-    let at = c.at-1.given in
-    let i = inside_at _ _ _ at.0.0 a.at at.1 c.requires.inside in
+    let i = inside_at _ _ _ c.in-At.j a.at c.in-At.is c.requires.inside in
     (i.0, i.1, c.requires.values_len)
 
 pub returns-in-Untracked : goal.returns-in-Untracked
@@ -21,22 +20,19 @@ pub returns-in-One : goal.returns-in-One
 unfolding fixed_fact
 returns-in-One c =
     let a = c.args in
-    let at = c.at-1.given in
     let seen = c.shown-seen in
-    fixed_tracked a.s a.present.now a.kinds.now a.values.now a.at at.0.0 seen.result _ at.1 seen.ensures (rw c.in-One.is)
+    fixed_tracked a.s a.present.now a.kinds.now a.values.now a.at c.in-At.j seen.result _ c.in-At.is seen.ensures (rw c.in-One.is)
 
 pub returns-in-Nothing : goal.returns-in-Nothing
 unfolding fixed_fact
 returns-in-Nothing c =
     let a = c.args in
-    let at = c.at-1.given in
     let seen = c.shown-seen in
-    fixed_tracked a.s a.present.now a.kinds.now a.values.now a.at at.0.0 seen.result _ at.1 seen.ensures (rw c.in-Nothing.is)
+    fixed_tracked a.s a.present.now a.kinds.now a.values.now a.at c.in-At.j seen.result _ c.in-At.is seen.ensures (rw c.in-Nothing.is)
 
 pub returns-in-Mixed : goal.returns-in-Mixed
 unfolding fixed_fact
 returns-in-Mixed c =
     let a = c.args in
-    let at = c.at-1.given in
     let seen = c.shown-seen in
-    fixed_tracked a.s a.present.now a.kinds.now a.values.now a.at at.0.0 seen.result _ at.1 seen.ensures (rw c.in-Mixed.is)
+    fixed_tracked a.s a.present.now a.kinds.now a.values.now a.at c.in-At.j seen.result _ c.in-At.is seen.ensures (rw c.in-Mixed.is)

@@ -11,14 +11,12 @@ returns-then-kind-lt2 c =
 pub returns-then-kind-k : goal.returns-then-kind-k
 returns-then-kind-k c =
     let a = c.args in
-    let one = c.seen-1.given in
-    shows_other_kind a.kind a.value a.seen c.if-kind-lt2.false one.0.0 one.0.1.0 one.1 c.if-kind-k.true
+    shows_other_kind a.kind a.value a.seen c.if-kind-lt2.false c.in-One.k c.in-One.v c.in-One.is c.if-kind-k.true
 
 pub returns-then-value-v : goal.returns-then-value-v
 returns-then-value-v c =
     let a = c.args in
-    let one = c.seen-1.given in
-    other_value a.kind a.value a.seen c.if-kind-lt2.false one.0.0 one.0.1.0 one.1 c.if-kind-k.false c.if-value-v.true
+    other_value a.kind a.value a.seen c.if-kind-lt2.false c.in-One.k c.in-One.v c.in-One.is c.if-kind-k.false c.if-value-v.true
 
 pub returns-in-Nothing : goal.returns-in-Nothing
 returns-in-Nothing c =
@@ -28,8 +26,7 @@ returns-in-Nothing c =
 pub returns-else-value-v : goal.returns-else-value-v
 returns-else-value-v c =
     let a = c.args in
-    let one = c.seen-1.given in
-    same_shown a.kind a.value a.seen c.if-kind-lt2.false one.0.0 one.0.1.0 one.1 c.if-kind-k.false c.if-value-v.false
+    same_shown a.kind a.value a.seen c.if-kind-lt2.false c.in-One.k c.in-One.v c.in-One.is c.if-kind-k.false c.if-value-v.false
 
 pub returns-in-Mixed : goal.returns-in-Mixed
 returns-in-Mixed c =

@@ -20,73 +20,73 @@ room_for-requires c = let asked = c.requires in ((limited (measured asked.0)).co
 pub returns-then-not-room_for : goal.returns-then-not-room_for
 returns-then-not-room_for c =
     let a = c.args in
-    refused_room a.which a.sheet.now _ a.s (counted c.requires.0.are).code_count_is a.slots.now a.row-kinds.now a.row-values.now a.room a.resources c.requires.3
-    c.requires.4 (sym c.room_for.ensures ∙ not-true _ c.if-not-room_for.true)
+    refused_room a.which a.sheet.now _ a.s (counted c.requires.0.are).code_count_is a.slots.now a.row_kinds.now a.row_values.now a.room a.resources c.requires.3
+    c.requires.4 (sym c.room_for.ensures ∙ c.if-not-room_for.true)
 
 pub returns-then-n-eq0 : goal.returns-then-n-eq0
 returns-then-n-eq0 c =
     let a = c.args in
-    ended_at_once a.which a.sheet.now _ a.s (counted c.requires.0.are).code_count_is a.slots.now a.row-kinds.now a.row-values.now a.room a.resources c.requires.3
+    ended_at_once a.which a.sheet.now _ a.s (counted c.requires.0.are).code_count_is a.slots.now a.row_kinds.now a.row_values.now a.room a.resources c.requires.3
     c.requires.4 (let came : (let a = c.args in
-    room_by a.sizes.code_count a.s (length a.slots.now) a.room.present a.room.kinds a.room.values (length a.row-kinds.now) (length a.row-values.now)
+    room_by a.sizes.code_count a.s (length a.slots.now) a.room.present a.room.kinds a.room.values (length a.row_kinds.now) (length a.row_values.now)
     a.room.work_list)
-    ≡ true = sym c.room_for.ensures ∙ not-false _ c.if-not-room_for.false in came) (inl c.if-n-eq0.true)
+    ≡ true = sym c.room_for.ensures ∙ c.if-not-room_for.false in came) (inl c.if-n-eq0.true)
 
 pub returns-then-s-eq0 : goal.returns-then-s-eq0
 returns-then-s-eq0 c =
     let a = c.args in
-    ended_at_once a.which a.sheet.now _ a.s (counted c.requires.0.are).code_count_is a.slots.now a.row-kinds.now a.row-values.now a.room a.resources c.requires.3
+    ended_at_once a.which a.sheet.now _ a.s (counted c.requires.0.are).code_count_is a.slots.now a.row_kinds.now a.row_values.now a.room a.resources c.requires.3
     c.requires.4 (let came : (let a = c.args in
-    room_by a.sizes.code_count a.s (length a.slots.now) a.room.present a.room.kinds a.room.values (length a.row-kinds.now) (length a.row-values.now)
+    room_by a.sizes.code_count a.s (length a.slots.now) a.room.present a.room.kinds a.room.values (length a.row_kinds.now) (length a.row_values.now)
     a.room.work_list)
-    ≡ true = sym c.room_for.ensures ∙ not-false _ c.if-not-room_for.false in came) (inr c.if-s-eq0.true)
+    ≡ true = sym c.room_for.ensures ∙ c.if-not-room_for.false in came) (inr c.if-s-eq0.true)
 
 pub slice_bounds-entry_row-end : goal.slice_bounds-entry_row-end
 slice_bounds-entry_row-end c = sym (length-take-le _ c.args.slots.now (room_parts _ _ _ _ _ _ _ _ _ (let came : (let a = c.args in
-    room_by a.sizes.code_count a.s (length a.slots.now) a.room.present a.room.kinds a.room.values (length a.row-kinds.now) (length a.row-values.now)
+    room_by a.sizes.code_count a.s (length a.slots.now) a.room.present a.room.kinds a.room.values (length a.row_kinds.now) (length a.row_values.now)
     a.room.work_list)
-    ≡ true = sym c.room_for.ensures ∙ not-false _ c.if-not-room_for.false in came)).0)
+    ≡ true = sym c.room_for.ensures ∙ c.if-not-room_for.false in came)).0)
 
 pub slice_bounds-entry_row-end-2 : goal.slice_bounds-entry_row-end-2
 slice_bounds-entry_row-end-2 c = (room_parts _ _ _ _ _ _ _ _ _ (let came : (let a = c.args in
-    room_by a.sizes.code_count a.s (length a.slots.now) a.room.present a.room.kinds a.room.values (length a.row-kinds.now) (length a.row-values.now)
+    room_by a.sizes.code_count a.s (length a.slots.now) a.room.present a.room.kinds a.room.values (length a.row_kinds.now) (length a.row_values.now)
     a.room.work_list)
-    ≡ true = sym c.room_for.ensures ∙ not-false _ c.if-not-room_for.false in came)).1
+    ≡ true = sym c.room_for.ensures ∙ c.if-not-room_for.false in came)).1
 
 pub slice_bounds-entry_row-end-3 : goal.slice_bounds-entry_row-end-3
 slice_bounds-entry_row-end-3 c =
-    sym (length-take-le _ c.args.row-kinds.now (room_parts _ _ _ _ _ _ _ _ _ (let came : (let a = c.args in
-    room_by a.sizes.code_count a.s (length a.slots.now) a.room.present a.room.kinds a.room.values (length a.row-kinds.now) (length a.row-values.now)
+    sym (length-take-le _ c.args.row_kinds.now (room_parts _ _ _ _ _ _ _ _ _ (let came : (let a = c.args in
+    room_by a.sizes.code_count a.s (length a.slots.now) a.room.present a.room.kinds a.room.values (length a.row_kinds.now) (length a.row_values.now)
     a.room.work_list)
-    ≡ true = sym c.room_for.ensures ∙ not-false _ c.if-not-room_for.false in came)).1)
+    ≡ true = sym c.room_for.ensures ∙ c.if-not-room_for.false in came)).1)
 
 pub slice_bounds-entry_row-end-4 : goal.slice_bounds-entry_row-end-4
 slice_bounds-entry_row-end-4 c = (room_parts _ _ _ _ _ _ _ _ _ (let came : (let a = c.args in
-    room_by a.sizes.code_count a.s (length a.slots.now) a.room.present a.room.kinds a.room.values (length a.row-kinds.now) (length a.row-values.now)
+    room_by a.sizes.code_count a.s (length a.slots.now) a.room.present a.room.kinds a.room.values (length a.row_kinds.now) (length a.row_values.now)
     a.room.work_list)
-    ≡ true = sym c.room_for.ensures ∙ not-false _ c.if-not-room_for.false in came)).2
+    ≡ true = sym c.room_for.ensures ∙ c.if-not-room_for.false in came)).2
 
 pub slice_bounds-entry_row-end-5 : goal.slice_bounds-entry_row-end-5
 slice_bounds-entry_row-end-5 c =
-    sym (length-take-le _ c.args.row-values.now (room_parts _ _ _ _ _ _ _ _ _ (let came : (let a = c.args in
-    room_by a.sizes.code_count a.s (length a.slots.now) a.room.present a.room.kinds a.room.values (length a.row-kinds.now) (length a.row-values.now)
+    sym (length-take-le _ c.args.row_values.now (room_parts _ _ _ _ _ _ _ _ _ (let came : (let a = c.args in
+    room_by a.sizes.code_count a.s (length a.slots.now) a.room.present a.room.kinds a.room.values (length a.row_kinds.now) (length a.row_values.now)
     a.room.work_list)
-    ≡ true = sym c.room_for.ensures ∙ not-false _ c.if-not-room_for.false in came)).2)
+    ≡ true = sym c.room_for.ensures ∙ c.if-not-room_for.false in came)).2)
 
 pub entry_row-requires : goal.entry_row-requires
 entry_row-requires c =
     let a = c.args in
-    entry_asks a.which a.sheet.now _ a.s (counted c.requires.0.are).code_count_is a.slots.now a.row-kinds.now a.row-values.now a.room a.resources c.requires.3
+    entry_asks a.which a.sheet.now _ a.s (counted c.requires.0.are).code_count_is a.slots.now a.row_kinds.now a.row_values.now a.room a.resources c.requires.3
     c.requires.4 (let came : (let a = c.args in
-    room_by a.sizes.code_count a.s (length a.slots.now) a.room.present a.room.kinds a.room.values (length a.row-kinds.now) (length a.row-values.now)
+    room_by a.sizes.code_count a.s (length a.slots.now) a.room.present a.room.kinds a.room.values (length a.row_kinds.now) (length a.row_values.now)
     a.room.work_list)
-    ≡ true = sym c.room_for.ensures ∙ not-false _ c.if-not-room_for.false in came) refl c.requires.0 c.requires.1 c.requires.2 c.if-n-eq0.false c.if-s-eq0.false
+    ≡ true = sym c.room_for.ensures ∙ c.if-not-room_for.false in came) refl c.requires.0 c.requires.1 c.requires.2 c.if-n-eq0.false c.if-s-eq0.false
 
 pub returns : goal.returns
 returns c =
     let a = c.args in
-    entered_row a.which a.sheet.now _ a.s (counted c.requires.0.are).code_count_is a.slots.now a.row-kinds.now a.row-values.now a.room a.resources c.requires.3
+    entered_row a.which a.sheet.now _ a.s (counted c.requires.0.are).code_count_is a.slots.now a.row_kinds.now a.row_values.now a.room a.resources c.requires.3
     c.requires.4 (let came : (let a = c.args in
-    room_by a.sizes.code_count a.s (length a.slots.now) a.room.present a.room.kinds a.room.values (length a.row-kinds.now) (length a.row-values.now)
+    room_by a.sizes.code_count a.s (length a.slots.now) a.room.present a.room.kinds a.room.values (length a.row_kinds.now) (length a.row_values.now)
     a.room.work_list)
-    ≡ true = sym c.room_for.ensures ∙ not-false _ c.if-not-room_for.false in came) _ _ c.entry_row.ensures (same_length c) (same-length-2 c)
+    ≡ true = sym c.room_for.ensures ∙ c.if-not-room_for.false in came) _ _ c.entry_row.ensures (search rules) (search rules)

@@ -11,14 +11,6 @@ use Rattle.text_facts.specs.Text.{fact_text_by}
 use Rattle.text_listing.proofs.RowLines.{Walked, row_fits, walked_none, walked_more}
 use Rattle.text_listing.proofs.rows.rows_lines.Goals as goal
 
--- NO NEED
-part-row-lines-end : tie.Need-slice-bounds-row-lines-end invariant-loop decreases-loop
-part-row-lines-end c = omega (arith, row_fits (start c).args.n c.before.before.before.loop.pc (start c).args.s c.before.before.loop-test.true)
-
--- NO NEED
-part-row-lines-end-2 : tie.Need-slice-bounds-row-lines-end-2 invariant-loop decreases-loop
-part-row-lines-end-2 c = omega (arith, row_fits (start c.before).args.n c.before.before.before.before.loop.pc (start c.before).args.s c.before.before.before.loop-test.true)
-
 part-long : (s at : ℕ) (slots table : List ℕ) → s ≤ length slots → at + s ≤ length table → length (take (at + s - at) (drop at table)) ≡ length (take s slots)
 part-long s at slots table h k = simp (length-take, length-drop) (omega arith)
 

@@ -14,8 +14,8 @@ returns-then-len-eq0 c =
 
 pub loop-i-init : goal.loop-i-init
 loop-i-init c =
-    ranging_start c.args.written c.args.sheet.now c.args.slots.now _ c.args.out-kinds.now
-    c.args.out-values.now c.requires.readable_row.1 c.requires.readable_row.2
+    ranging_start c.args.written c.args.sheet.now c.args.slots.now _ c.args.out_kinds.now
+    c.args.out_values.now c.requires.readable_row.1 c.requires.readable_row.2
 
 pub range_of-range-requires : goal.range_of-range-requires
 range_of-range-requires c =
@@ -33,7 +33,7 @@ loop-i-smaller c = omega (arith, c.loop-i-test.true)
 
 pub loop-i-preserved : goal.loop-i-preserved
 loop-i-preserved c =
-    ranging_more c.args.written c.args.sheet.now c.args.slots.now _ c.args.out-kinds.now c.args.out-values.now
+    ranging_more c.args.written c.args.sheet.now c.args.slots.now _ c.args.out_kinds.now c.args.out_values.now
     c.loop-i.invariant (omega (arith, c.loop-i-test.true, c.range_count-n.ensures)) c.range_of-range.ensures c.write_range.ensures
 
 pub shape_of-out_kinds : goal.shape_of-out_kinds
@@ -44,5 +44,5 @@ shape_of-out_values c = omega (arith, c.loop-i.invariant.is.values_long, c.requi
 
 pub returns : goal.returns
 returns c =
-    ranging_all c.args.written c.args.sheet.now c.args.slots.now _ c.args.out-kinds.now
-    c.args.out-values.now c.loop-i.invariant (omega (arith, c.loop-i-test.false, c.range_count-n.ensures))
+    ranging_all c.args.written c.args.sheet.now c.args.slots.now _ c.args.out_kinds.now
+    c.args.out_values.now c.loop-i.invariant (omega (arith, c.loop-i-test.false, c.range_count-n.ensures))

@@ -10,9 +10,9 @@ pub returns-then-op-eq-SLOT_SET : goal.returns-then-op-eq-SLOT_SET
 returns-then-op-eq-SLOT_SET c =
     let row = facts_of c.args.kinds.now c.args.values.now in
     ⊎_elim
-    (λ w. set_elements c.args.slots.now row c.wide.ensures.0 c.fact_for_tracked_source.ensures w.taken)
-    (λ w. setn_elements c.args.slots.now row c.wide.ensures.0 c.fact_for_tracked_source.ensures (eqb-true _ 8 w.1.taken))
-    c.then-op-eq-SLOT_SET.branch
+    (λ w. set_elements c.args.slots.now row c.wide.ensures.0 c.fact_for_tracked_source.ensures w)
+    (λ w. setn_elements c.args.slots.now row c.wide.ensures.0 c.fact_for_tracked_source.ensures w.1)
+    c.then-op-eq-SLOT_SET.either
 
 pub returns : goal.returns
-returns c = no_elements_fact c.if-op-eq-SLOT_SET.false (eqb-false _ 8 c.if-op-eq-SLOT_SET_N.false) _ c.unknown_cell.ensures
+returns c = no_elements_fact c.if-op-eq-SLOT_SET.false c.if-op-eq-SLOT_SET_N.false _ c.unknown_cell.ensures

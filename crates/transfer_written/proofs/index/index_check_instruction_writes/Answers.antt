@@ -1,10 +1,10 @@
 -- `transfer_written::index::index_check_instruction_writes` meets its contract: SlotSet and SlotSetN by a Checked b, any other as in the other analyses. Assumes nothing.
-use mathlib.Core.Logic.{⊎_elim}
 use borrow.Author.Rules.{rules}
 use Rattle.model.specs.Tables.{fact_in}
 use Rattle.sheet.proofs.AcceptedSheet.{measured}
 use Rattle.transfer_written.proofs.Spans.{unchecked_spans, checked_spans, checked_n_spans, as_other_spans}
 use Rattle.transfer_written.proofs.index.index_check_instruction_writes.Goals as goal
+use Rattle.transfer_written.proofs.index.index_check_instruction_writes.Goals.{then-before-gt1+else-op-eq-SLOT_SET+else-op-eq-SLOT_SET_N, else-before-gt1}
 
 pub returns-then-op-eq-SLOT_SET : goal.returns-then-op-eq-SLOT_SET
 unfolding fact_in
@@ -23,7 +23,9 @@ returns-then-op-eq-SLOT_SET_N c =
 pub returns : goal.returns
 unfolding fact_in
 returns c =
-    ⊎_elim
-    (λ w. as_other_spans c.args.sheet.now c.args.pc c.args.inst c.requires.inst_value _ w.1.left w.2.left c.instruction_writes.ensures)
-    (λ w. unchecked_spans c.args.sheet.now c.args.pc c.args.inst c.requires.inst_value c.args.before.kind c.args.before.value w.left c.instruction_writes.ensures)
-    c.if-before-gt1.branch
+    elim c.if-before-gt1.branch [
+      | then-before-gt1+else-op-eq-SLOT_SET+else-op-eq-SLOT_SET_N w ↦
+          as_other_spans c.args.sheet.now c.args.pc c.args.inst c.requires.inst_value _ w.if-op-eq-SLOT_SET.false w.if-op-eq-SLOT_SET_N.false c.instruction_writes.ensures
+      | else-before-gt1 w ↦
+          unchecked_spans c.args.sheet.now c.args.pc c.args.inst c.requires.inst_value c.args.before.kind c.args.before.value w.if-before-gt1.false c.instruction_writes.ensures
+    ]

@@ -8,7 +8,7 @@ use borrow.Author.Rules.{rules}
 use Rattle.transfer_written.proofs.ranges.span.Goals as goal
 
 pub overflow_mul-result : goal.overflow_mul-result
-overflow_mul-result c = record { fits = omega (arith, mul-le-mul_right {m = c.args.len} {n = 65536} c.args.elem-slots (omega arith)) }
+overflow_mul-result c = record { fits = omega (arith, mul-le-mul_right {m = c.args.len} {n = 65536} c.args.elem_slots (omega arith)) }
 
 pub returns-then-len-lt65536 : goal.returns-then-len-lt65536
 returns-then-len-lt65536 c = let few : min c.args.len 65536 ≡ c.args.len = omega arith in rw few
