@@ -5,7 +5,7 @@ ghost use Rattle.check_corner_text.specs.Lines.{refused_corner_line, accepted_li
 
 use model::{FactCell, InstructionSuccessors};
 use sheet::Sizes;
-use text_lines::{put, put_numbered, put_numbered_line};
+use text_lines::{put, put_numbered};
 
 // The number of the question that refuses a sheet.
 pub fn refused_corner_line(question: u8, out: &mut [u8]) -> usize
@@ -13,7 +13,8 @@ pub fn refused_corner_line(question: u8, out: &mut [u8]) -> usize
     ensures { Added 31 (refused_corner_line question) 0 out.old result out.new }
 {
     let numbers = [question as u64];
-    put_numbered_line(b": refused", &numbers, 0, out)
+    let a = put_numbered(b": refused", &numbers, 0, out);
+    put(b"\n", a, out)
 }
 
 // The ten sizes of a sheet that is accepted.
@@ -33,7 +34,8 @@ pub fn accepted_line(sizes: Sizes, out: &mut [u8]) -> usize
         sizes.recv_slots as u64,
         sizes.is_closure as u64,
     ];
-    put_numbered_line(b": accepted", &numbers, 0, out)
+    let a = put_numbered(b": accepted", &numbers, 0, out);
+    put(b"\n", a, out)
 }
 
 // The successors of the instruction at pc, in order, and how the record is filled behind them.
@@ -45,7 +47,8 @@ pub fn successors_line(pc: usize, successors: InstructionSuccessors, out: &mut [
     let place = [pc as u64];
     let numbers = [successors.len as u64, pcs[0] as u64, pcs[1] as u64];
     let a = put_numbered(b"successors", &place, 0, out);
-    put_numbered_line(b":", &numbers, a, out)
+    let b = put_numbered(b":", &numbers, a, out);
+    put(b"\n", b, out)
 }
 
 // The answer at the end of a line.

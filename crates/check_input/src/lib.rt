@@ -1,7 +1,7 @@
-// Bytes and little-endian numbers from standard input. What comes, how much of it, and whether a read fails, no contract can say: that of libc's `read`
-// tells only how many bytes it may have moved. So the contracts here determine what lies behind the bytes that came, what is made of an answer of
-// `read` (`input_from`) and of several (`so_far`), and that a read fails only where there was room for more. That the count, the failure and the bytes are
-// those of the calls of `read` is to be read in the bodies of `read_to`, `read_input` and `read_front`.
+// Bytes and little-endian numbers from a reader: standard input, in the programs. What comes, how much of it, and whether a read fails, no contract can
+// say: that of std's `read` tells of standard input only how many bytes it may have moved. So the contracts here determine what lies behind the bytes that
+// came, what is made of an answer of `read` (`answer_of`, `input_from`) and of several (`so_far`), and that a read fails only where there was room for
+// more. That the count, the failure and the bytes are those of the calls of `read` is to be read in the bodies of `read_to`, `read_input` and `read_front`.
 #![tactic(auto)]
 
 ghost use Rattle.std.specs.Prelude.{◌≡◌, true, ◌+◌, ◌<◌, ◌≤◌, min, length, take, drop, pos, negsuc, ◌^◌, IfOk, MatchResult};
@@ -25,8 +25,19 @@ fn least(a: usize, b: usize) -> usize
     if a < b { a } else { b }
 }
 
-// What `read` answered: how many bytes came, 0 at the end of the input; below 0 it failed. A call that a signal interrupts before it moves a byte
+// The number that stands for an answer of `read`: how many bytes came, and -1 where it failed. A call that a signal interrupts before it moves a byte
 // counts as one that failed.
+fn answer_of(answer: Result<usize>) -> isize
+    requires { IfOk answer (λ n. n < 2 ^ 63) }
+    ensures { MatchResult answer (λ n. result ≡ pos n) (λ _. result ≡ negsuc 0) }
+{
+    match answer {
+        Ok(n) => n as isize,
+        Err(_) => -1,
+    }
+}
+
+// What such a number tells: how many bytes came, 0 at the end of the input; below 0 the read failed.
 #[tactic(auto, unfolding(crate::specs::Answered::answered_of))]
 fn input_from(got: isize, most: usize) -> Input
     ensures { (result ≡ answered_of got most) × (result.count ≤ most) }
@@ -40,17 +51,6 @@ fn input_from(got: isize, most: usize) -> Input
     Input {
         count: least(got as usize, most),
         failed: false,
-    }
-}
-
-// The number that stands for an answer of std's `read`: the count, and -1 where it failed.
-fn answer_of(answer: Result<usize>) -> isize
-    requires { IfOk answer (λ n. n < 2 ^ 63) }
-    ensures { MatchResult answer (λ n. result ≡ pos n) (λ _. result ≡ negsuc 0) }
-{
-    match answer {
-        Ok(n) => n as isize,
-        Err(_) => -1,
     }
 }
 
@@ -80,7 +80,7 @@ fn read_to<R: Read>(reader: &mut R, buffer: &mut [u8], to: usize, chunk: &mut [u
     input
 }
 
-// Reads standard input until the buffer is full, the input ends or a read fails. Behind the bytes that came the buffer stays as it was.
+// Reads until the buffer is full, the input ends or a read fails. Behind the bytes that came the buffer stays as it was.
 pub fn read_input<R: Read>(reader: &mut R, buffer: &mut [u8]) -> Input
     ensures { IsPrefixLen result.count buffer.new
         × (drop result.count buffer.new ≡ drop result.count buffer.old)

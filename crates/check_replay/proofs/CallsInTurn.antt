@@ -1,21 +1,21 @@
 -- One call after the other.
 -- Assumes nothing.
 use mathlib.Core.Path.{◌≡◌, sym, ap, ap₂, ◌∙◌}
-use mathlib.Core.List.{List, [], ◌∷◌, ◌++◌, append-nil}
+use mathlib.Core.List.{List, [], ◌∷◌, ◌++◌, append-nil, append_assoc}
 use mathlib.Core.Option.{some}
 use Prim.Native.Nat.{ℕ, suc, ◌+◌}
 use native.Mathlib.Numerals.{add-one}
 use native.Mathlib.Omega.{arith}
 use Rattle.model.specs.Call.{answer_numbered}
 use Rattle.model.specs.Interface.{twelve}
-use Rattle.model.specs.Listing.{ascii}
+use Rattle.model.specs.Listing.{ascii, newline}
 use Rattle.model.specs.declared.Answer.{Answer}
 use Rattle.check_replay_lent.specs.Checksum.{checksum_start, checksum_number}
 use Rattle.check_replay.specs.Calls.{called, called_in, with_first, called_again, replayed}
 use Rattle.check_replay.specs.Line.{called_line, line_of, replay_line}
 use Rattle.check_replay_lent.specs.declared.Checksum.{Checksum}
 use Rattle.check_replay.specs.declared.call.Called.{Called}
-use Rattle.text_lines.specs.Text.{Added, ShowsText, numbered, numbered_line}
+use Rattle.text_lines.specs.Text.{Added, ShowsText, numbered}
 use Rattle.text_lines.proofs.TextWritten.{reword, shows}
 
 module _ (head sheet : List ℕ) where
@@ -31,10 +31,10 @@ module _ (head sheet : List ℕ) where
   -- the text that is written is the sheet's line
   pub line_shown : (all : Called) {numbers old new : List ℕ} {sum most next : ℕ} → some all ≡ replayed head sheet 18
       → numbers ≡ twelve (answer_numbered all.answer) ++ [] → sum ≡ checksum_number all.checksum
-      → Added most (numbered (ascii "answer") numbers ++ numbered_line (ascii " checksum") (sum ∷ [])) 0 old next new
+      → Added most (numbered (ascii "answer") numbers ++ (numbered (ascii " checksum") (sum ∷ []) ++ newline)) 0 old next new
       → ShowsText (replay_line head sheet) old next new
   unfolding replay_line line_of called_line
-  line_shown all {most} e n c w =
-      let line : List ℕ → ℕ → List ℕ = λ xs x. numbered (ascii "answer") xs ++ numbered_line (ascii " checksum") (x ∷ []) in
-      let s = shows (reword {k = most} (omega arith) (ap₂ line (n ∙ append-nil _) c) w) in
+  line_shown all {numbers = numbers} {sum = sum} {most = most} e n c w =
+      let line : List ℕ → ℕ → List ℕ = λ xs x. numbered (ascii "answer") xs ++ numbered (ascii " checksum") (x ∷ []) ++ newline in
+      let s = shows (reword {k = most} (omega arith) (sym (append_assoc (numbered (ascii "answer") numbers) (numbered (ascii " checksum") (sum ∷ [])) newline) ∙ ap₂ line (n ∙ append-nil _) c) w) in
       record { within = s.within; front = ap line_of (sym e) ∙ s.front; rest = s.rest }

@@ -4,15 +4,15 @@ use Rattle.std.specs.Prelude.{List, [], ◌∷◌, ◌++◌, ℕ}
 use Rattle.std.proofs.Math.Option.{Option, none, some}
 use Rattle.model.specs.Call.{answer_numbered}
 use Rattle.model.specs.Interface.{twelve}
-use Rattle.model.specs.Listing.{ascii}
-use Rattle.text_lines.specs.Text.{numbered, numbered_line}
+use Rattle.model.specs.Listing.{ascii, newline}
+use Rattle.text_lines.specs.Text.{numbered}
 use Rattle.check_replay_lent.specs.Checksum.{checksum_number}
 use Rattle.check_replay.specs.Calls.{replayed}
 use Rattle.check_replay.specs.declared.call.Called.{Called}
 
 -- the twelve numbers of the first call's answer, and the checksum over all calls
 unfoldable pub called_line : Called → List ℕ
-called_line c = numbered (ascii "answer") (twelve (answer_numbered c.answer)) ++ numbered_line (ascii " checksum") (checksum_number c.checksum ∷ [])
+called_line c = numbered (ascii "answer") (twelve (answer_numbered c.answer)) ++ numbered (ascii " checksum") (checksum_number c.checksum ∷ []) ++ newline
 
 -- the same, where there is one
 unfoldable pub line_of : Option Called → Option (List ℕ)

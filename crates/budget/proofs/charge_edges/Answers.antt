@@ -3,7 +3,6 @@
 use mathlib.Core.Path.{sym}
 use Prim.Native.Nat.{◌/◌, ◌%◌}
 use native.Mathlib.Omega.{arith}
-use borrow.Author.Rules.{rules}
 use Rattle.budget.specs.Outcome.{as_spent}
 use Rattle.budget.proofs.EqualCharges.{edges_covered, edges_refused}
 use Rattle.budget.proofs.charge_edges.Goals as goal

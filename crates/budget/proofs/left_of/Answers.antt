@@ -1,7 +1,6 @@
 -- `left_of` meets its contract.
 -- Assumes nothing.
 use mathlib.Core.Path.{sym, ap}
-use borrow.Author.Rules.{rules}
 use Rattle.budget.specs.Outcome.{left_of}
 use Rattle.budget.proofs.left_of.Goals as goal
 

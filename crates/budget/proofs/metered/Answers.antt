@@ -1,7 +1,6 @@
 -- `budget::metered` meets its contract: the two cases are the definition's.
 -- Assumes nothing.
 use mathlib.Core.Path.{sym, ap}
-use borrow.Author.Rules.{rules}
 use Rattle.model.specs.Charges.{in_stage}
 use Rattle.budget.specs.Outcome.{as_spent}
 use Rattle.budget.proofs.metered.Goals as goal

@@ -1,6 +1,5 @@
 -- `refuses` meets its contract.
 -- Assumes nothing.
-use borrow.Author.Rules.{rules}
 use Rattle.budget.specs.Outcome.{refusing}
 use Rattle.budget.proofs.refuses.Goals as goal
 

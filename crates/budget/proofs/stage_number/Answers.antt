@@ -1,7 +1,6 @@
 -- `stage_number` meets its contract.
 -- Assumes nothing.
 use Rattle.model.specs.Closure.{stage_number}
-use borrow.Author.Rules.{rules}
 use Rattle.budget.proofs.stage_number.Goals as goal
 
 pub returns-in-Constant : goal.returns-in-Constant

@@ -1,10 +1,9 @@
 -- `analyze_indexed` meets its contract: the three analyses one after the other.
 -- Assumes nothing.
 use mathlib.Core.Path.{refl, ◌∙◌}
-use Rattle.model.specs.Call.{Table, table, Scratch, scratch}
+use Rattle.model.specs.Call.{table, scratch}
 use Rattle.call_order.proofs.ClearedOutputs.{clean, index_found}
 use Rattle.call_order.proofs.CallOrder.{values_clear, call_promise}
-use borrow.Author.Rules.{rules}
 use Rattle.call_indexed.proofs.analyze_indexed.Goals as goal
 
 -- ---- the needs

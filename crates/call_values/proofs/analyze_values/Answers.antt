@@ -1,14 +1,13 @@
 -- `analyze_values` meets its contract.
 -- Assumes nothing.
 use mathlib.Core.Path.{◌≡◌, refl, ◌∙◌}
-use Rattle.model.specs.Call.{Table, table, Scratch, scratch}
+use Rattle.model.specs.Call.{table, scratch}
 use Rattle.sheet.proofs.AcceptedSheet.{measured}
 use Rattle.stage_memory.specs.Stage.{zero_scratch}
 use Rattle.stage_memory.proofs.RecordEqualities.{scratch_zeroed}
 use Rattle.call_order.proofs.ClearedOutputs.{clean, still_clear, few_code, index_found}
 use Rattle.call_order.proofs.ConstantOutput.{constants_stored}
 use Rattle.call_order.proofs.CallOrder.{values_promise}
-use borrow.Author.Rules.{rules}
 use Rattle.call_values.proofs.analyze_values.Goals as goal
 
 -- ---- the needs
@@ -16,23 +15,24 @@ pub charge_graph-begun-requires : goal.charge_graph-begun-requires
 charge_graph-begun-requires c = measured c.requires.0
 
 pub analyze_stage-constants-requires : goal.analyze_stage-constants-requires
-analyze_stage-constants-requires c =
-    (index_found c.requires.0 c.requires.1 c.requires.2 refl refl, clean _ (scratch c.args.marks.now c.args.stack.now c.args.row_kinds.now c.args.row_values.now c.args.work_list.now) (let came : scratch c.clear_scratch.new.marks c.clear_scratch.new.stack c.clear_scratch.new.row_kinds
-    c.clear_scratch.new.row_values c.clear.new.work_list ≡ zero_scratch (scratch c.args.marks.now c.args.stack.now c.args.row_kinds.now c.args.row_values.now c.args.work_list.now) = let a = c.args in
-    scratch_zeroed a.marks.now a.stack.now a.row_kinds.now a.row_values.now a.work_list.now c.clear_scratch.ensures c.clear.ensures in came) c.requires.3 c.requires.4)
+analyze_stage-constants-requires c = (
+  index_found c.requires.0 c.requires.1 c.requires.2 refl refl,
+  clean _ (scratch c.args.marks.now c.args.stack.now c.args.row_kinds.now c.args.row_values.now c.args.work_list.now) (let came : scratch c.clear_scratch.new.marks c.clear_scratch.new.stack c.clear_scratch.new.row_kinds
+      c.clear_scratch.new.row_values c.clear.new.work_list ≡ zero_scratch (scratch c.args.marks.now c.args.stack.now c.args.row_kinds.now c.args.row_values.now c.args.work_list.now) = let a = c.args in
+      scratch_zeroed a.marks.now a.stack.now a.row_kinds.now a.row_values.now a.work_list.now c.clear_scratch.ensures c.clear.ensures in came) c.requires.3 c.requires.4,
+)
 
 pub store_lengths-requires : goal.store_lengths-requires
 store_lengths-requires c =
     record { measured = (measured c.requires.0, few_code c.requires.0, few_code c.requires.0); constants_stored = constants_stored _ c.requires.0 (table c.args.constant_slots.now c.args.constant_present.now c.args.constant_kinds.now c.args.constant_values.now) _ _ _ c.analyze_stage-constants.ensures }
 
 pub analyze_stage-staged-requires : goal.analyze_stage-staged-requires
-analyze_stage-staged-requires c =
-    (
-      index_found c.requires.0 c.requires.1 c.requires.2 c.store_lengths.auto.length_kinds c.store_lengths.auto.length_values,
-      clean _ (scratch c.args.marks.now c.args.stack.now c.args.row_kinds.now c.args.row_values.now c.args.work_list.now) (still_clear (table c.args.constant_slots.now c.args.constant_present.now c.args.constant_kinds.now c.args.constant_values.now) (scratch c.args.marks.now c.args.stack.now c.args.row_kinds.now c.args.row_values.now c.args.work_list.now) (let came : scratch c.clear_scratch.new.marks c.clear_scratch.new.stack c.clear_scratch.new.row_kinds
-    c.clear_scratch.new.row_values c.clear.new.work_list ≡ zero_scratch (scratch c.args.marks.now c.args.stack.now c.args.row_kinds.now c.args.row_values.now c.args.work_list.now) = let a = c.args in
-    scratch_zeroed a.marks.now a.stack.now a.row_kinds.now a.row_values.now a.work_list.now c.clear_scratch.ensures c.clear.ensures in came) _ c.analyze_stage-constants.ensures) c.requires.3 c.requires.4,
-    )
+analyze_stage-staged-requires c = (
+  index_found c.requires.0 c.requires.1 c.requires.2 c.store_lengths.auto.length_kinds c.store_lengths.auto.length_values,
+  clean _ (scratch c.args.marks.now c.args.stack.now c.args.row_kinds.now c.args.row_values.now c.args.work_list.now) (still_clear (table c.args.constant_slots.now c.args.constant_present.now c.args.constant_kinds.now c.args.constant_values.now) (scratch c.args.marks.now c.args.stack.now c.args.row_kinds.now c.args.row_values.now c.args.work_list.now) (let came : scratch c.clear_scratch.new.marks c.clear_scratch.new.stack c.clear_scratch.new.row_kinds
+      c.clear_scratch.new.row_values c.clear.new.work_list ≡ zero_scratch (scratch c.args.marks.now c.args.stack.now c.args.row_kinds.now c.args.row_values.now c.args.work_list.now) = let a = c.args in
+      scratch_zeroed a.marks.now a.stack.now a.row_kinds.now a.row_values.now a.work_list.now c.clear_scratch.ensures c.clear.ensures in came) _ c.analyze_stage-constants.ensures) c.requires.3 c.requires.4,
+)
 
 pub shape_of-constant_slots : goal.shape_of-constant_slots
 shape_of-constant_slots c = c.clear_table_if.auto.slots ∙ c.analyze_stage-constants.auto.slots

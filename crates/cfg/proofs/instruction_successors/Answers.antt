@@ -2,7 +2,6 @@
 -- Assumes nothing.
 use mathlib.Core.Path.{refl}
 use mathlib.Core.List.{[]}
-use borrow.Author.Rules.{rules}
 use mir.Syntax.{w16, w32}
 use Rattle.model.specs.Successors.{push_fallthrough, as_record}
 use Rattle.cfg.proofs.FlowCases.{second_fits, falls, leaves_none, jumps, branches, loops}

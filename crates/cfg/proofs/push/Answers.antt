@@ -1,6 +1,5 @@
 -- `cfg::push` meets its contract: the first target, an equal second one, another second one.
 -- Assumes nothing.
-use borrow.Author.Rules.{rules}
 use Rattle.cfg.proofs.TargetTests.{push_first, push_equal, push_second}
 use Rattle.cfg.proofs.push.Goals as goal
 

@@ -1,8 +1,6 @@
 -- `vo_facts_analyze` meets its contract: too short a memory for the answer, or the call. Assumes nothing.
-use Rattle.model.specs.Call.{Lent, lent, table, scratch}
-use Rattle.model.specs.declared.VerifierResources.{VerifierResources}
+use Rattle.model.specs.Call.{lent, table, scratch}
 use Rattle.export.proofs.Wrappers.{too_few, all_handed}
-use borrow.Author.Rules.{rules}
 use Rattle.export.proofs.vo_facts_analyze.Goals as goal
 
 -- ---- the needs

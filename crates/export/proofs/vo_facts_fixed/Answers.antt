@@ -1,6 +1,5 @@
 -- `vo_facts_fixed` meets its contract. Assumes nothing.
 use Rattle.export.proofs.Wrappers.{told}
-use borrow.Author.Rules.{rules}
 use Rattle.export.proofs.vo_facts_fixed.Goals as goal
 
 pub returns : goal.returns

@@ -1,6 +1,5 @@
 -- `vo_facts_index_check` meets its contract. Assumes nothing.
 use Rattle.export.proofs.Wrappers.{told}
-use borrow.Author.Rules.{rules}
 use Rattle.export.proofs.vo_facts_index_check.Goals as goal
 
 pub returns : goal.returns

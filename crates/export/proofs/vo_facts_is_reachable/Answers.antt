@@ -3,7 +3,6 @@ use mathlib.Core.Path.{ap, ◌∙◌}
 use Rattle.model.specs.Lookup.{WithNumbers}
 use Rattle.model.specs.Interface.{reached_number}
 use Rattle.model.specs.declared.Reachability.{Reachability}
-use borrow.Author.Rules.{rules}
 use Rattle.export.proofs.vo_facts_is_reachable.Goals as goal
 
 pub returns : goal.returns

@@ -8,7 +8,6 @@ use Rattle.model.specs.Listing.{asked}
 use Rattle.sheet_questions.proofs.FirstRefusal.{accepted}
 use Rattle.text_lines.proofs.TextWritten.{shows}
 use Rattle.facts_report.proofs.ListingQuestions.{shown_as, listing_long, listing_asked, asked_refused, check_refused}
-use borrow.Author.Rules.{rules}
 use Rattle.facts_report.proofs.list.Goals as goal
 
 pub returns-then-sheet-gt-MOST_BYTES : goal.returns-then-sheet-gt-MOST_BYTES

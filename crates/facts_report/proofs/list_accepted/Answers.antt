@@ -7,7 +7,6 @@ use Rattle.sheet.proofs.SizeNames.{counted}
 use Rattle.sheet_index.proofs.IndexFound.{few_layouts, firsts_found, classes_found}
 use Rattle.text_lines.proofs.TextWritten.{shows}
 use Rattle.facts_report.proofs.ListingQuestions.{shown_as, many_instructions, many_locals, asked_call}
-use borrow.Author.Rules.{rules}
 use Rattle.facts_report.proofs.list_accepted.Goals as goal
 
 pub returns-then-sizes-gt-MOST_INSTRUCTIONS : goal.returns-then-sizes-gt-MOST_INSTRUCTIONS

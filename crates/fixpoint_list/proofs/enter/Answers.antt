@@ -1,7 +1,6 @@
 -- `enter` meets its contract.
 -- Assumes nothing.
 use native.Mathlib.Omega.{arith}
-use borrow.Author.Rules.{rules}
 use Rattle.fixpoint_list.proofs.enter.Goals as goal
 
 -- src/lib.rt:15:26

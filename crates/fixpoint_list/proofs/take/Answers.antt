@@ -2,7 +2,6 @@
 -- Assumes nothing.
 use native.Mathlib.Nat.{lt_of_lt_of_le}
 use native.Mathlib.Omega.{arith}
-use borrow.Author.Rules.{rules}
 use Rattle.fixpoint_list.proofs.take.Goals as goal
 
 -- src/lib.rt:27:17

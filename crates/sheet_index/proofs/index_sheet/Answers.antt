@@ -5,7 +5,6 @@ use Rattle.sheet.proofs.AcceptedSheet.{measured}
 use Rattle.sheet.proofs.SizeNames.{counted}
 use Rattle.sheet.proofs.SizeLimits.{limited}
 use Rattle.sheet_index.proofs.OffsetTables.{layout_starts_hold}
-use borrow.Author.Rules.{rules}
 use Rattle.sheet_index.proofs.index_sheet.Goals as goal
 
 pub layout_starts-requires : goal.layout_starts-requires

@@ -1,6 +1,5 @@
 -- `sheet_layouts::class_of` meets its contract: a law for each way out.
 -- Assumes nothing.
-use borrow.Author.Rules.{rules}
 use Rattle.sheet_layouts.proofs.Classes.{class_at, class_none, class_last}
 use Rattle.sheet_layouts.proofs.class_of.Goals as goal
 

@@ -1,10 +1,7 @@
 -- `sheet_layouts::fill` meets its contract, by the law of loops that store an element a turn. Assumes nothing.
 use Prim.Native.Nat.{◌-◌}
 use lib.ListN.{length}
-use mathlib.Core.Path.{refl}
-use Rattle.memory.proofs.StoreLoops.{Turned, turned_none, turn}
-use Rattle.sheet_layouts.proofs.Classes.{classes_filled}
-use native.Mathlib.Omega.{arith}
+use Rattle.memory.proofs.StoreLoops.{Turned}
 use Rattle.sheet_layouts.proofs.fill.Given as goal
 
 abbrev pub invariant-loop-i : goal.invariant-loop-i

@@ -1,10 +1,7 @@
 -- `sheet_layouts::layout_classes` meets its contract. The loop's invariant: the first i places have their classes, and the others that of y.
 -- Assumes nothing.
-use Prim.Native.Nat.{◌-◌, ◌≤◌, ◌<◌}
-use lib.ListN.{length}
 use native.Mathlib.Omega.{arith}
-use Rattle.model.specs.Listing.{lowest}
-use Rattle.memory.proofs.StoreLoops.{Turned, turned_none, turn}
+use Rattle.memory.proofs.StoreLoops.{turned_none, turn}
 use Rattle.sheet_layouts.proofs.LowestSearch.{past_count}
 use Rattle.sheet_layouts.proofs.Classes.{all_classes, class_fits}
 use Rattle.sheet_layouts.proofs.layout_classes.Goals as goal

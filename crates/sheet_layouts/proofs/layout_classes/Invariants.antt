@@ -2,11 +2,8 @@
 -- Assumes nothing.
 use Prim.Native.Nat.{◌-◌, ◌≤◌, ◌<◌}
 use lib.ListN.{length}
-use native.Mathlib.Omega.{arith}
 use Rattle.model.specs.Listing.{lowest}
-use Rattle.memory.proofs.StoreLoops.{Turned, turned_none, turn}
-use Rattle.sheet_layouts.proofs.LowestSearch.{past_count}
-use Rattle.sheet_layouts.proofs.Classes.{all_classes, class_fits}
+use Rattle.memory.proofs.StoreLoops.{Turned}
 use Rattle.sheet_layouts.proofs.layout_classes.Given as goal
 
 abbrev pub invariant-loop-i : goal.invariant-loop-i

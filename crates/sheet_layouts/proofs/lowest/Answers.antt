@@ -1,7 +1,6 @@
 -- `sheet_layouts::lowest` meets its contract. Assumes nothing.
 use mathlib.Core.Path.{◌∙◌}
 use Rattle.sheet_layouts.proofs.LowestSearch.{past_count}
-use borrow.Author.Rules.{rules}
 use Rattle.sheet_layouts.proofs.lowest.Goals as goal
 
 pub returns : goal.returns

@@ -1,10 +1,9 @@
 -- `sheet_layouts::lowest_of` meets its contract. Assumes nothing.
 use mathlib.Core.Path.{◌≡◌, refl, sym, ◌∙◌}
-use Prim.Native.Nat.{◌-◌, ◌≤◌}
 use borrow.Author.Count.{below_none, below_more}
 use Rattle.sheet.proofs.AcceptedSheet.{measured}
 use Rattle.sheet_layouts.proofs.Layouts.{other_length}
-use Rattle.sheet_layouts.proofs.LowestSearch.{None, Agree, found, absent, starts_long, first_inside, second_inside, kinds_differ, kinds_agree}
+use Rattle.sheet_layouts.proofs.LowestSearch.{found, absent, starts_long, first_inside, second_inside, kinds_differ, kinds_agree}
 use native.Mathlib.Omega.{arith}
 use Rattle.sheet_layouts.proofs.lowest_of.Goals as goal
 

@@ -1,11 +1,7 @@
 -- `sheet_layouts::lowest_of` meets its contract. Assumes nothing.
-use mathlib.Core.Path.{◌≡◌, refl, sym, ◌∙◌}
+use mathlib.Core.Path.{◌≡◌}
 use Prim.Native.Nat.{◌-◌, ◌≤◌}
-use borrow.Author.Count.{below_none, below_more}
-use Rattle.sheet.proofs.AcceptedSheet.{measured}
-use Rattle.sheet_layouts.proofs.Layouts.{other_length}
-use Rattle.sheet_layouts.proofs.LowestSearch.{None, Agree, found, absent, starts_long, first_inside, second_inside, kinds_differ, kinds_agree}
-use native.Mathlib.Omega.{arith}
+use Rattle.sheet_layouts.proofs.LowestSearch.{None, Agree}
 use Rattle.sheet_layouts.proofs.lowest_of.Given as goal
 
 abbrev pub invariant-loop-k : goal.invariant-loop-k

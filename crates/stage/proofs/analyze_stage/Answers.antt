@@ -2,9 +2,8 @@
 -- Assumes nothing.
 use mathlib.Core.Path.{sym, ◌∙◌}
 use borrow.Author.Tests.{not-true, not-false}
-use borrow.Author.Rules.{rules}
 use lib.Seq.{length-take-le}
-use Rattle.model.specs.Call.{Table, Scratch, table, scratch}
+use Rattle.model.specs.Call.{table, scratch}
 use Rattle.sheet.proofs.SizeNames.{counted}
 use Rattle.stage.proofs.StageBegun.{asked_lent, ready_there}
 use Rattle.stage.proofs.NothingToRun.{idles}
@@ -23,8 +22,10 @@ returns-then-not-prepared c =
     c.clear_rows.ensures.0 c.clear_rows.ensures.1 c.clear_rows.ensures.2 c.prepare-prepared.ensures.1 c.prepare-prepared.ensures.2
 
 pub overflow_mul-cells : goal.overflow_mul-cells
-overflow_mul-cells c = record { fits = (lent_there c.args.before c.args.which c.args.sheet.now c.requires.0 (table c.args.slots.now c.args.present.now c.args.kinds.now c.args.values.now) _ c.requires.1 (counted c.requires.0.accepted.are).code_count_is
-    c.clear_rows.auto.present c.clear_rows.auto.kinds c.clear_rows.auto.values c.clear_rows.ensures c.prepare-prepared.result c.prepare-prepared.ensures.0 (not-false _ c.if-not-prepared.false)).cells_fit }
+overflow_mul-cells c = record {
+  fits = (lent_there c.args.before c.args.which c.args.sheet.now c.requires.0 (table c.args.slots.now c.args.present.now c.args.kinds.now c.args.values.now) _ c.requires.1 (counted c.requires.0.accepted.are).code_count_is
+      c.clear_rows.auto.present c.clear_rows.auto.kinds c.clear_rows.auto.values c.clear_rows.ensures c.prepare-prepared.result c.prepare-prepared.ensures.0 (not-false _ c.if-not-prepared.false)).cells_fit;
+}
 
 pub slice_bounds-run_to_fixpoint-end : goal.slice_bounds-run_to_fixpoint-end
 slice_bounds-run_to_fixpoint-end c = (lent_there c.args.before c.args.which c.args.sheet.now c.requires.0 (table c.args.slots.now c.args.present.now c.args.kinds.now c.args.values.now) _ c.requires.1 (counted c.requires.0.accepted.are).code_count_is
@@ -76,9 +77,15 @@ slice_bounds-run_to_fixpoint-end-12 c = sym (length-take-le _ _ (lent_there c.ar
 
 pub run_to_fixpoint-ran-requires : goal.run_to_fixpoint-ran-requires
 run_to_fixpoint-ran-requires c =
-    record { sheet_index = (c.requires.0, (lent_there c.args.before c.args.which c.args.sheet.now c.requires.0 (table c.args.slots.now c.args.present.now c.args.kinds.now c.args.values.now) _ c.requires.1 (counted c.requires.0.accepted.are).code_count_is
-    c.clear_rows.auto.present c.clear_rows.auto.kinds c.clear_rows.auto.values c.clear_rows.ensures c.prepare-prepared.result c.prepare-prepared.ensures.0 (not-false _ c.if-not-prepared.false)).tracked); memory_ready = (lent_there c.args.before c.args.which c.args.sheet.now c.requires.0 (table c.args.slots.now c.args.present.now c.args.kinds.now c.args.values.now) _ c.requires.1 (counted c.requires.0.accepted.are).code_count_is
-    c.clear_rows.auto.present c.clear_rows.auto.kinds c.clear_rows.auto.values c.clear_rows.ensures c.prepare-prepared.result c.prepare-prepared.ensures.0 (not-false _ c.if-not-prepared.false)).run }
+    record {
+      sheet_index = (
+        c.requires.0,
+        (lent_there c.args.before c.args.which c.args.sheet.now c.requires.0 (table c.args.slots.now c.args.present.now c.args.kinds.now c.args.values.now) _ c.requires.1 (counted c.requires.0.accepted.are).code_count_is
+            c.clear_rows.auto.present c.clear_rows.auto.kinds c.clear_rows.auto.values c.clear_rows.ensures c.prepare-prepared.result c.prepare-prepared.ensures.0 (not-false _ c.if-not-prepared.false)).tracked,
+      );
+      memory_ready = (lent_there c.args.before c.args.which c.args.sheet.now c.requires.0 (table c.args.slots.now c.args.present.now c.args.kinds.now c.args.values.now) _ c.requires.1 (counted c.requires.0.accepted.are).code_count_is
+          c.clear_rows.auto.present c.clear_rows.auto.kinds c.clear_rows.auto.values c.clear_rows.ensures c.prepare-prepared.result c.prepare-prepared.ensures.0 (not-false _ c.if-not-prepared.false)).run;
+    }
 
 pub shape_of-slots : goal.shape_of-slots
 shape_of-slots c = c.conclude-counts.auto.slots ∙ c.prepare-prepared.auto.slots

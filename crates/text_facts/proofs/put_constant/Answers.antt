@@ -2,7 +2,6 @@
 use Rattle.model.specs.Listing.{ascii}
 use Rattle.text_lines.proofs.TextWritten.{reword, then}
 use Rattle.text_facts.proofs.FactTexts.{constant_from_zero, constant_least, constant_below_zero}
-use borrow.Author.Rules.{rules}
 use native.Mathlib.Omega.{arith}
 use Rattle.text_facts.proofs.put_constant.Goals as goal
 

@@ -2,7 +2,6 @@
 use Rattle.model.specs.Listing.{ascii, decimal, space}
 use Rattle.text_lines.proofs.TextWritten.{reword, then, then_two}
 use Rattle.text_facts.proofs.FactTexts.{map_text, iter_text, queue_text}
-use borrow.Author.Rules.{rules}
 use native.Mathlib.Omega.{arith}
 use Rattle.text_facts.proofs.put_container.Goals as goal
 

@@ -3,7 +3,6 @@ use mathlib.Core.List.{[]}
 use Rattle.model.specs.Listing.{ascii}
 use Rattle.text_lines.proofs.TextWritten.{reword}
 use Rattle.text_facts.proofs.FactTexts.{unknown_text, conflict_text, constant_text_lem, checked_text, container_text_lem}
-use borrow.Author.Rules.{rules}
 use native.Mathlib.Omega.{arith}
 use Rattle.text_facts.proofs.put_fact.Goals as goal
 

@@ -1,11 +1,10 @@
 -- `analyze` meets its contract: questions 1 to 6, the sheet's index, then the three analyses.
 -- Assumes nothing.
-use Rattle.model.specs.Call.{Lent, lent, table, scratch}
+use Rattle.model.specs.Call.{lent, table, scratch}
 use Rattle.sheet_index.proofs.IndexFound.{few_layouts, firsts_found, classes_found}
 use Rattle.sheet_questions.proofs.AdmissionTests.{admitted_lengths, turned_away}
 use Rattle.call_order.proofs.ClearedOutputs.{few_code}
 use Rattle.call_order.proofs.CallOrder.{demanded}
-use borrow.Author.Rules.{rules}
 use Rattle.verifier.proofs.analyze.Goals as goal
 
 -- ---- the needs
@@ -25,13 +24,16 @@ returns-in-Refused c =
     (table c.args.index_slots.now c.args.index_present.now c.args.index_kinds.now c.args.index_values.now)
     (table c.args.container_slots.now c.args.container_present.now c.args.container_kinds.now c.args.container_values.now)
     (scratch c.args.marks.now c.args.stack.now c.args.row_kinds.now c.args.row_values.now c.args.work_list.now)) c.admit-admission.ensures c.args.resources c.in-Refused.is in
-    record { call = call; demand = demanded _ c.args.resources (lent (table c.args.constant_slots.now c.args.constant_present.now c.args.constant_kinds.now c.args.constant_values.now)
-    (table c.args.index_slots.now c.args.index_present.now c.args.index_kinds.now c.args.index_values.now)
-    (table c.args.container_slots.now c.args.container_present.now c.args.container_kinds.now c.args.container_values.now)
-    (scratch c.args.marks.now c.args.stack.now c.args.row_kinds.now c.args.row_values.now c.args.work_list.now)) _ (lent (table c.args.constant_slots.now c.args.constant_present.now c.args.constant_kinds.now c.args.constant_values.now)
-    (table c.args.index_slots.now c.args.index_present.now c.args.index_kinds.now c.args.index_values.now)
-    (table c.args.container_slots.now c.args.container_present.now c.args.container_kinds.now c.args.container_values.now)
-    (scratch c.args.marks.now c.args.stack.now c.args.row_kinds.now c.args.row_values.now c.args.work_list.now)) call }
+    record {
+      call = call;
+      demand = demanded _ c.args.resources (lent (table c.args.constant_slots.now c.args.constant_present.now c.args.constant_kinds.now c.args.constant_values.now)
+          (table c.args.index_slots.now c.args.index_present.now c.args.index_kinds.now c.args.index_values.now)
+          (table c.args.container_slots.now c.args.container_present.now c.args.container_kinds.now c.args.container_values.now)
+          (scratch c.args.marks.now c.args.stack.now c.args.row_kinds.now c.args.row_values.now c.args.work_list.now)) _ (lent (table c.args.constant_slots.now c.args.constant_present.now c.args.constant_kinds.now c.args.constant_values.now)
+          (table c.args.index_slots.now c.args.index_present.now c.args.index_kinds.now c.args.index_values.now)
+          (table c.args.container_slots.now c.args.container_present.now c.args.container_kinds.now c.args.container_values.now)
+          (scratch c.args.marks.now c.args.stack.now c.args.row_kinds.now c.args.row_values.now c.args.work_list.now)) call;
+    }
 
 pub shape_of-constant_slots : goal.shape_of-constant_slots
 shape_of-constant_slots c = c.analyze_indexed.auto.constant_slots
@@ -86,7 +88,10 @@ shape_of-work_list c = c.analyze_indexed.auto.work_list
 
 pub returns-in-Admitted : goal.returns-in-Admitted
 returns-in-Admitted c =
-    record { call = c.analyze_indexed.ensures; demand = demanded _ c.args.resources (lent (table c.args.constant_slots.now c.args.constant_present.now c.args.constant_kinds.now c.args.constant_values.now)
-    (table c.args.index_slots.now c.args.index_present.now c.args.index_kinds.now c.args.index_values.now)
-    (table c.args.container_slots.now c.args.container_present.now c.args.container_kinds.now c.args.container_values.now)
-    (scratch c.args.marks.now c.args.stack.now c.args.row_kinds.now c.args.row_values.now c.args.work_list.now)) _ _ c.analyze_indexed.ensures }
+    record {
+      call = c.analyze_indexed.ensures;
+      demand = demanded _ c.args.resources (lent (table c.args.constant_slots.now c.args.constant_present.now c.args.constant_kinds.now c.args.constant_values.now)
+          (table c.args.index_slots.now c.args.index_present.now c.args.index_kinds.now c.args.index_values.now)
+          (table c.args.container_slots.now c.args.container_present.now c.args.container_kinds.now c.args.container_values.now)
+          (scratch c.args.marks.now c.args.stack.now c.args.row_kinds.now c.args.row_values.now c.args.work_list.now)) _ _ c.analyze_indexed.ensures;
+    }

@@ -8,7 +8,6 @@ use Rattle.model.specs.Analyses.{row_fact}
 use Rattle.model.specs.declared.Instruction.{Instruction}
 use Rattle.sheet.proofs.FieldBounds.{code_inside}
 use Rattle.call_order.proofs.LengthTables.{checked_of, check_fact, other_fact}
-use borrow.Author.Rules.{rules}
 use Rattle.call_order.proofs.facts.length_fact.Goals as goal
 
 pub instruction_at-inst-requires : goal.instruction_at-inst-requires

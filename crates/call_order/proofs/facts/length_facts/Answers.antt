@@ -1,8 +1,7 @@
 -- `call_order::length_facts` meets its contract, by the law of its loop. Assumes nothing.
-use Prim.Native.Nat.{◌-◌}
 use native.Mathlib.Omega.{arith}
 use Rattle.sheet.proofs.SizeNames.{counted}
-use Rattle.call_order.proofs.LengthTables.{small_fact, StoredUpto, stored_none, stored_more, stored_all, lengths_read}
+use Rattle.call_order.proofs.LengthTables.{small_fact, stored_none, stored_more, stored_all, lengths_read}
 use Rattle.fact_row.proofs.Facts.{value_of}
 use Rattle.call_order.proofs.facts.length_facts.Goals as goal
 

@@ -3,7 +3,6 @@ use mathlib.Core.Path.{sym, ap, ◌∙◌}
 use native.Mathlib.Omega.{arith}
 use Rattle.fact_row.specs.Place.{placed}
 use Rattle.call_order.proofs.EndedTables.{table_inside, absent_fact, untracked_fact, tracked_fact_lem}
-use borrow.Author.Rules.{rules}
 use Rattle.call_order.proofs.facts.row_fact.Goals as goal
 
 pub returns-then-present-pc-eq0 : goal.returns-then-present-pc-eq0

@@ -1,6 +1,5 @@
 -- `answer_of` meets its contract.
 -- Assumes nothing.
-use borrow.Author.Rules.{rules}
 use Rattle.call_order.specs.Answer.{answer_of}
 use Rattle.call_order.proofs.order.answer_of.Goals as goal
 

@@ -12,7 +12,6 @@ use Rattle.sheet.proofs.SizeLimits.{limited}
 use Rattle.budget.specs.Outcome.{refusing}
 use Rattle.call_order.specs.Stored.{Stored}
 use Rattle.call_order.proofs.ConstantTables.{stored_few, slots_fit, present_fits, kinds_fit, values_fit, stored_ended, lengthened, stored_cells_fit}
-use borrow.Author.Rules.{rules}
 use Rattle.call_order.proofs.tables.store_lengths.Goals as goal
 
 -- ---- the needs
@@ -22,8 +21,11 @@ returns-then-refuses c =
     record { stored = λ goes a st. absurd (false≢true (sym goes ∙ refused)); kept = λ same. (refl, refl) }
 
 pub overflow_mul-cells : goal.overflow_mul-cells
-overflow_mul-cells c = omega (arith, stored_cells_fit _ _ (limited c.requires.measured.0).code_count_is (stored_few (let came : (a : Analysed)
-    × Stored c.args.sheet.now a c.args.constant (table c.args.slots.now c.args.present.now c.args.kinds.now c.args.values.now) = c.requires.constants_stored (let came : refusing c.args.before ≡ false = sym c.refuses.ensures ∙ c.if-refuses.false in came) in came).1 (let came : c.args.sizes.code_count ≡ code_count c.args.sheet.now = (counted c.requires.measured.0.are).code_count_is in came) refl))
+overflow_mul-cells c = omega (
+  arith,
+  stored_cells_fit _ _ (limited c.requires.measured.0).code_count_is (stored_few (let came : (a : Analysed)
+      × Stored c.args.sheet.now a c.args.constant (table c.args.slots.now c.args.present.now c.args.kinds.now c.args.values.now) = c.requires.constants_stored (let came : refusing c.args.before ≡ false = sym c.refuses.ensures ∙ c.if-refuses.false in came) in came).1 (let came : c.args.sizes.code_count ≡ code_count c.args.sheet.now = (counted c.requires.measured.0.are).code_count_is in came) refl),
+)
 
 pub slice_bounds-length_facts-end : goal.slice_bounds-length_facts-end
 slice_bounds-length_facts-end c = sym (length-take-le _ _ (slots_fit (let came : (a : Analysed)
@@ -43,9 +45,22 @@ slice_bounds-length_facts-end-4 c = sym (length-take-le _ _ (values_fit (let cam
 
 pub length_facts-requires : goal.length_facts-requires
 length_facts-requires c =
-    record { measured = (c.requires.measured.0, (_, stored_ended (let came : (a : Analysed)
-    × Stored c.args.sheet.now a c.args.constant (table c.args.slots.now c.args.present.now c.args.kinds.now c.args.values.now) = c.requires.constants_stored (let came : refusing c.args.before ≡ false = sym c.refuses.ensures ∙ c.if-refuses.false in came) in came).1 (let came : c.args.sizes.code_count ≡ code_count c.args.sheet.now = (counted c.requires.measured.0.are).code_count_is in came) refl)); present_len = (length-take-le _ _ (present_fits (let came : (a : Analysed)
-    × Stored c.args.sheet.now a c.args.constant (table c.args.slots.now c.args.present.now c.args.kinds.now c.args.values.now) = c.requires.constants_stored (let came : refusing c.args.before ≡ false = sym c.refuses.ensures ∙ c.if-refuses.false in came) in came).1 (let came : c.args.sizes.code_count ≡ code_count c.args.sheet.now = (counted c.requires.measured.0.are).code_count_is in came) refl), c.requires.measured.1, c.requires.measured.2) }
+    record {
+      measured = (
+        c.requires.measured.0,
+        (
+          _,
+          stored_ended (let came : (a : Analysed)
+              × Stored c.args.sheet.now a c.args.constant (table c.args.slots.now c.args.present.now c.args.kinds.now c.args.values.now) = c.requires.constants_stored (let came : refusing c.args.before ≡ false = sym c.refuses.ensures ∙ c.if-refuses.false in came) in came).1 (let came : c.args.sizes.code_count ≡ code_count c.args.sheet.now = (counted c.requires.measured.0.are).code_count_is in came) refl,
+        ),
+      );
+      present_len = (
+        length-take-le _ _ (present_fits (let came : (a : Analysed)
+            × Stored c.args.sheet.now a c.args.constant (table c.args.slots.now c.args.present.now c.args.kinds.now c.args.values.now) = c.requires.constants_stored (let came : refusing c.args.before ≡ false = sym c.refuses.ensures ∙ c.if-refuses.false in came) in came).1 (let came : c.args.sizes.code_count ≡ code_count c.args.sheet.now = (counted c.requires.measured.0.are).code_count_is in came) refl),
+        c.requires.measured.1,
+        c.requires.measured.2,
+      );
+    }
 
 pub returns : goal.returns
 returns c =

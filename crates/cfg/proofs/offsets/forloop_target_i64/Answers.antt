@@ -2,7 +2,6 @@
 -- Assumes nothing.
 use Prim.Native.Nat.{◌+◌}
 use native.Mathlib.Omega.{arith}
-use borrow.Author.Rules.{rules}
 use mir.Syntax.{w16}
 use Rattle.cfg.proofs.SignedOffsets.{wide_fits, sum_fits, sum_is}
 use Rattle.cfg.proofs.offsets.forloop_target_i64.Goals as goal

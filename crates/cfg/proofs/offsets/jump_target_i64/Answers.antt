@@ -1,7 +1,6 @@
 -- `cfg::offsets::jump_target_i64` meets its contract: the sum of a small number and an offset of 32 bits does not wrap at 64.
 -- Assumes nothing.
 use native.Mathlib.Omega.{arith}
-use borrow.Author.Rules.{rules}
 use mir.Syntax.{w32}
 use Rattle.cfg.proofs.SignedOffsets.{wide_fits, sum_fits, sum_is}
 use Rattle.cfg.proofs.offsets.jump_target_i64.Goals as goal

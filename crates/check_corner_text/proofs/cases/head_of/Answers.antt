@@ -1,7 +1,6 @@
 -- `check_corner_text::head_of` meets its contract: each field at its place.
 -- Assumes nothing.
 use Rattle.check_corner_text.specs.Heads.{head_of}
-use borrow.Author.Rules.{rules}
 use Rattle.check_corner_text.proofs.cases.head_of.Goals as goal
 
 pub returns : goal.returns

@@ -5,7 +5,6 @@ use native.Mathlib.Omega.{arith}
 use Rattle.model.specs.Listing.{ascii}
 use Rattle.text_lines.proofs.TextWritten.{reword}
 use Rattle.check_corner_text.specs.Lines.{yes_or_no}
-use borrow.Author.Rules.{rules}
 use Rattle.check_corner_text.proofs.lines.put_yes_or_no.Goals as goal
 
 pub returns-then-answer : goal.returns-then-answer

@@ -1,12 +1,10 @@
 -- `check_corner_text::successors_line` meets its contract: one part behind the other.
 -- Assumes nothing.
-use Rattle.model.specs.Listing.{ascii}
+use Rattle.model.specs.Listing.{ascii, newline}
 use Rattle.text_lines.proofs.TextWritten.{then}
 use Rattle.check_corner_text.specs.Lines.{successors_line}
-use borrow.Author.Rules.{rules}
 use Rattle.check_corner_text.proofs.lines.successors_line.Goals as goal
 
 pub returns : goal.returns
-unfolding ascii successors_line
-returns c =
-    then c.put_numbered-a.ensures c.put_numbered_line.ensures
+unfolding ascii newline successors_line
+returns c = then (then c.put_numbered-a.ensures c.put_numbered-b.ensures) c.put.ensures

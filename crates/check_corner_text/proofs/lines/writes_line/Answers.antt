@@ -3,7 +3,6 @@
 use Rattle.model.specs.Listing.{ascii}
 use Rattle.text_lines.proofs.TextWritten.{then}
 use Rattle.check_corner_text.specs.Lines.{writes_line}
-use borrow.Author.Rules.{rules}
 use Rattle.check_corner_text.proofs.lines.writes_line.Goals as goal
 
 pub returns : goal.returns

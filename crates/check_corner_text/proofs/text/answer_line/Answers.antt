@@ -5,7 +5,6 @@ use Rattle.sheet.proofs.SizeNames.{counted}
 use Rattle.sheet.proofs.FieldBounds.{code_inside}
 use Rattle.sheet.proofs.SizeLimits.{limited}
 use Rattle.check_corner_text.proofs.AnswerLines.{successors_answered, writes_answered, index_answered, not_answered}
-use borrow.Author.Rules.{rules}
 use Rattle.check_corner_text.proofs.text.answer_line.Goals as goal
 
 pub instruction_at-inst-requires : goal.instruction_at-inst-requires

@@ -2,7 +2,7 @@
 -- Assumes nothing.
 use mathlib.Core.Path.{refl}
 use lib.Dec.{lit<, lit≤}
-use Rattle.model.specs.Call.{Lent, table, scratch, lent}
+use Rattle.model.specs.Call.{table, scratch, lent}
 use Rattle.check_replay.proofs.CallBuffers.{table_is, scratch_is, called_is}
 use Rattle.check_replay.proofs.call.call.Goals as goal
 
@@ -112,12 +112,10 @@ pub returns : goal.returns
 returns c =
     let head = c.args.head.now in
     let call = c.args.call in
-    called_is head call c.args.sheet.now c.args.checksum c.analyze-answer.result (let left = c.analyze-answer.new.constant_slots in
-    lent (table left.0 left.1.0 left.1.1.0 left.1.1.1.0)
-    (table left.1.1.1.1.0 left.1.1.1.1.1.0 left.1.1.1.1.1.1.0 left.1.1.1.1.1.1.1.0)
-    (table left.1.1.1.1.1.1.1.1.0 left.1.1.1.1.1.1.1.1.1.0 left.1.1.1.1.1.1.1.1.1.1.0 left.1.1.1.1.1.1.1.1.1.1.1.0)
-    (scratch left.1.1.1.1.1.1.1.1.1.1.1.1.0 left.1.1.1.1.1.1.1.1.1.1.1.1.1.0 left.1.1.1.1.1.1.1.1.1.1.1.1.1.1.0
-    left.1.1.1.1.1.1.1.1.1.1.1.1.1.1.1.0 left.1.1.1.1.1.1.1.1.1.1.1.1.1.1.1.1.0)) c.budget_of.result _ _ _ _
+    called_is head call c.args.sheet.now c.args.checksum c.analyze-answer.result (lent (table c.analyze-answer.new.constant_slots c.analyze-answer.new.constant_present c.analyze-answer.new.constant_kinds c.analyze-answer.new.constant_values)
+    (table c.analyze-answer.new.index_slots c.analyze-answer.new.index_present c.analyze-answer.new.index_kinds c.analyze-answer.new.index_values)
+    (table c.analyze-answer.new.container_slots c.analyze-answer.new.container_present c.analyze-answer.new.container_kinds c.analyze-answer.new.container_values)
+    (scratch c.analyze-answer.new.marks c.analyze-answer.new.stack c.analyze-answer.new.row_kinds c.analyze-answer.new.row_values c.analyze-answer.new.work_list)) c.budget_of.result _ _ _ _
     (table_is head call 0 c.front_u16-constant_slots.ensures c.front_u8-constant_present.ensures c.front_u8-constant_kinds.ensures c.front_u64-constant_values.ensures)
     (table_is head call 4 c.front_u16-index_slots.ensures c.front_u8-index_present.ensures c.front_u8-index_kinds.ensures c.front_u64-index_values.ensures)
     (table_is head call 8 c.front_u16-container_slots.ensures c.front_u8-container_present.ensures

@@ -1,10 +1,7 @@
 -- `check_replay::calls::replay` meets its contract: one call after the other. The measure is the number of calls left.
 -- Assumes nothing.
 use mathlib.Core.Path.{◌≡◌}
-use mathlib.Core.Option.{some}
-use Prim.Native.Nat.{◌-◌, ◌≤◌}
 use native.Mathlib.Omega.{arith}
-use Rattle.check_replay.specs.Calls.{called, replayed}
 use Rattle.check_replay.proofs.CallsInTurn.{first, again}
 use Rattle.check_replay.proofs.calls.replay.Goals as goal
 

@@ -3,9 +3,7 @@
 use mathlib.Core.Path.{◌≡◌}
 use mathlib.Core.Option.{some}
 use Prim.Native.Nat.{◌-◌, ◌≤◌}
-use native.Mathlib.Omega.{arith}
 use Rattle.check_replay.specs.Calls.{called, replayed}
-use Rattle.check_replay.proofs.CallsInTurn.{first, again}
 use Rattle.check_replay.proofs.calls.replay.Given as goal
 
 abbrev pub invariant-loop-i : goal.invariant-loop-i

@@ -1,13 +1,12 @@
 -- `check_replay::line::put_line` meets its contract: one part behind the other.
 -- Assumes nothing.
-use borrow.Author.Rules.{rules}
-use Rattle.model.specs.Listing.{ascii}
+use Rattle.model.specs.Listing.{ascii, newline}
 use Rattle.text_lines.proofs.TextWritten.{then}
 use Rattle.check_replay.proofs.CallsInTurn.{line_shown}
 use Rattle.check_replay.proofs.line.put_line.Goals as goal
 
 pub returns : goal.returns
-unfolding ascii
+unfolding ascii newline
 returns c =
     line_shown _ _ c.replay-called.result c.replay-called.ensures c.put_answer.ensures.0 c.u64_of.ensures
     (then c.put_numbered-a.ensures c.put_numbered_line.ensures)

@@ -1,6 +1,5 @@
 -- `check_replay_lent::budget::budget_of` meets its contract.
 -- Assumes nothing.
-use borrow.Author.Rules.{rules}
 use Rattle.check_replay_lent.proofs.budget.budget_of.Goals as goal
 
 pub returns : goal.returns

@@ -1,11 +1,8 @@
 -- `check_replay_lent::buffers::with_u16` meets its contract, by the law of loops that put a list into a checksum.
 -- Assumes nothing.
 use mathlib.Core.Path.{refl}
-use Prim.Native.Nat.{◌-◌, zero-le}
-use native.Mathlib.Omega.{arith}
-use lib.ListN.{length}
-use Rattle.check_replay_lent.specs.Checksum.{with_numbers}
-use Rattle.check_replay_lent.proofs.ChecksumLoop.{ChecksumSoFar, checksum_turn, whole}
+use Prim.Native.Nat.{zero-le}
+use Rattle.check_replay_lent.proofs.ChecksumLoop.{checksum_turn, whole}
 use Rattle.check_replay_lent.proofs.buffers.with_u16.Goals as goal
 
 pub loop-i-init : goal.loop-i-init

@@ -1,11 +1,9 @@
 -- `check_replay_lent::buffers::with_u64` meets its contract, by the law of loops that put a list into a checksum.
 -- Assumes nothing.
-use mathlib.Core.Path.{refl}
-use Prim.Native.Nat.{◌-◌, zero-le}
-use native.Mathlib.Omega.{arith}
+use Prim.Native.Nat.{◌-◌}
 use lib.ListN.{length}
 use Rattle.check_replay_lent.specs.Checksum.{with_numbers}
-use Rattle.check_replay_lent.proofs.ChecksumLoop.{ChecksumSoFar, checksum_turn, whole}
+use Rattle.check_replay_lent.proofs.ChecksumLoop.{ChecksumSoFar}
 use Rattle.check_replay_lent.proofs.buffers.with_u64.Given as goal
 
 abbrev pub invariant-loop-i : goal.invariant-loop-i

@@ -1,11 +1,10 @@
 -- `check_replay_lent::front::front_u16` meets its contract, by the law of loops that fill a room's front. The measure is what is left to fill.
 -- Assumes nothing.
 use mathlib.Core.Path.{sym, refl}
-use Prim.Native.Nat.{◌-◌, ◌≤◌, zero-le}
+use Prim.Native.Nat.{zero-le}
 use native.Mathlib.Omega.{arith}
 use lib.Seq.{length-take-le}
-use Rattle.memory.proofs.StoreLoops.{Turned, turned_none, turn}
-use Rattle.check_replay_lent.specs.Lent.{pattern_at}
+use Rattle.memory.proofs.StoreLoops.{turned_none, turn}
 use Rattle.check_replay_lent.proofs.PatternLoop.{pattern_filled}
 use Rattle.check_replay_lent.proofs.front.front_u16.Goals as goal
 

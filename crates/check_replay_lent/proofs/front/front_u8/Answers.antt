@@ -1,12 +1,11 @@
 -- `check_replay_lent::front::front_u8` meets its contract, by the law of loops that fill a room's front. The measure is what is left to fill.
 -- Assumes nothing.
 use mathlib.Core.Path.{sym}
-use Prim.Native.Nat.{◌-◌, ◌≤◌, zero-le}
+use Prim.Native.Nat.{zero-le}
 use native.Mathlib.Nat.{mul-one}
 use native.Mathlib.Omega.{arith}
 use lib.Seq.{length-take-le}
-use Rattle.memory.proofs.StoreLoops.{Turned, turned_none, turn}
-use Rattle.check_replay_lent.specs.Lent.{pattern_at}
+use Rattle.memory.proofs.StoreLoops.{turned_none, turn}
 use Rattle.check_replay_lent.proofs.PatternLoop.{pattern_filled}
 use Rattle.check_replay_lent.proofs.front.front_u8.Goals as goal
 

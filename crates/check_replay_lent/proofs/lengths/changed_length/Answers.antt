@@ -1,6 +1,5 @@
 -- `check_replay_lent::lengths::changed_length` meets its contract, call by call.
 -- Assumes nothing.
-use borrow.Author.Rules.{rules}
 use borrow.Author.Tests.{eq-eqb, ne_eqb}
 use native.Mathlib.Omega.{arith}
 use Rattle.check_replay_lent.specs.Lengths.{changed}

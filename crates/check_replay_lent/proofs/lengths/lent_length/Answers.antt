@@ -1,7 +1,6 @@
 -- `check_replay_lent::lengths::lent_length` meets its contract.
 -- Assumes nothing.
 use mathlib.Core.Path.{ap, ◌∙◌}
-use borrow.Author.Rules.{rules}
 use native.Mathlib.Omega.{arith}
 use Rattle.check_replay_lent.specs.Lengths.{changed, lent_length}
 use Rattle.check_replay_lent.proofs.lengths.lent_length.Goals as goal

@@ -2,7 +2,6 @@
 -- Assumes nothing.
 use mathlib.Core.Path.{ap, ◌∙◌}
 use mathlib.Core.List.{append-nil}
-use borrow.Author.Rules.{rules}
 use Rattle.check_replay_lent.specs.Checksum.{with_buffer}
 use Rattle.check_replay_lent.proofs.sums.with_answer.Goals as goal
 

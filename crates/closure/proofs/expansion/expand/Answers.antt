@@ -1,6 +1,6 @@
 -- `closure::expand` meets its contract: the chains are those of the graph.
 -- Assumes nothing.
-use Rattle.std.proofs.Common.{refl, arith, rules}
+use Rattle.std.proofs.Common.{refl, arith}
 use Rattle.sheet.proofs.SizeNames.{counted}
 use Rattle.sheet.proofs.SizeLimits.{limited}
 use Rattle.closure_edges.proofs.ChainEdges.{graph_chained}

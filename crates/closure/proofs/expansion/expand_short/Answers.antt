@@ -1,6 +1,6 @@
 -- `closure::expand_short` meets its contract: no instruction is in a chain.
 -- Assumes nothing.
-use Rattle.std.proofs.Common.{refl, arith, rules}
+use Rattle.std.proofs.Common.{refl, arith}
 use Rattle.finality.proofs.Memory.{zeros_read}
 use Rattle.sheet.proofs.SizeNames.{counted}
 use Rattle.closure_edges.proofs.ChainEdges.{unlinked}

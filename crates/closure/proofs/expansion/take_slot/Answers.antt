@@ -1,6 +1,6 @@
 -- `closure::take_slot` meets its contract: the top is read and cleared, and its edges are followed.
 -- Assumes nothing.
-use Rattle.std.proofs.Common.{◌∙◌, lt_of_lt_of_le, arith, length-set, rules}
+use Rattle.std.proofs.Common.{◌∙◌, lt_of_lt_of_le, arith, length-set}
 use Rattle.sheet.proofs.SizeNames.{counted}
 use Rattle.closure_marks.proofs.Marks.{goes_long}
 use Rattle.closure.proofs.ExpandLoop.{standing_below, slot_below, popped_lain, takes}

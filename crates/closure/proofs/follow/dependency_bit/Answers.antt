@@ -1,7 +1,6 @@
 -- `closure::dependency_bit` meets its contract.
 -- Assumes nothing.
 use Rattle.model.specs.Dependencies.{dependency_bit}
-use Rattle.std.proofs.Common.{rules}
 use Rattle.closure.proofs.follow.dependency_bit.Goals as goal
 
 pub returns-in-Constant : goal.returns-in-Constant

@@ -1,6 +1,6 @@
 -- `closure::edges_to` meets its contract: slot d is outside the rows, or at one place of them.
 -- Assumes nothing.
-use Rattle.std.proofs.Common.{◌-◌, refl, inl, inr, arith, rules}
+use Rattle.std.proofs.Common.{◌-◌, refl, inl, inr, arith}
 use Rattle.closure_edges.proofs.EdgeRows.{edge_rows_are}
 use Rattle.closure.proofs.FollowEdges.{met_none, met_some}
 use Rattle.closure_marks.proofs.Marks.{none_held}

@@ -1,13 +1,10 @@
 -- `closure::follow_code` meets its contract: the edges of the instructions passed were counted and followed.
 -- Assumes nothing.
-use Rattle.std.proofs.Common.{◌-◌, ◌*◌, ◌≤◌, arith}
-use Rattle.model.specs.Count.{collect}
+use Rattle.std.proofs.Common.{arith}
 use Rattle.sheet.proofs.SizeNames.{counted}
 use Rattle.sheet.proofs.SizeLimits.{limited}
 use Rattle.sheet.proofs.FieldBounds.{code_inside}
-use Rattle.closure_edges.specs.Chain.{edges_at}
 use Rattle.closure_marks.proofs.Marks.{lain_on, goes_wide, goes_long}
-use Rattle.closure.specs.Sources.{Follows}
 use Rattle.closure.proofs.FollowEdges.{follows_none, follows_more, follows_below}
 use Rattle.closure.proofs.follow.follow_code.Goals as goal
 

@@ -1,23 +1,21 @@
 -- `closure::follow_instruction` meets its contract.
 -- Assumes nothing.
-use Rattle.std.proofs.Common.{arith, rules}
+use Rattle.std.proofs.Common.{arith}
 use Rattle.closure.proofs.FollowEdges.{outside_reach, followed_nothing, followed_none, followed_some}
 use Rattle.closure.proofs.follow.follow_instruction.Goals as goal
 
 pub returns-then-reach-wrapping_sub_usize : goal.returns-then-reach-wrapping_sub_usize
-returns-then-reach-wrapping_sub_usize c =
-    (
-      omega arith,
-      followed_nothing _
-          (outside_reach c.args.inst c.reach.ensures.1 _ _ c.wrapping_sub_usize.ensures.value (omega arith) (omega arith) c.if-reach-wrapping_sub_usize.true),
-    )
+returns-then-reach-wrapping_sub_usize c = (
+  omega arith,
+  followed_nothing _
+      (outside_reach c.args.inst c.reach.ensures.1 _ _ c.wrapping_sub_usize.ensures.value (omega arith) (omega arith) c.if-reach-wrapping_sub_usize.true),
+)
 
 pub returns-then-edges-bit-eq0 : goal.returns-then-edges-bit-eq0
-returns-then-edges-bit-eq0 c =
-    (
-      omega arith,
-      followed_none _ _ c.edges_to-edges.result c.edges_to-edges.ensures.0 c.edges_to-edges.ensures.1 c.args.from c.if-edges-bit-eq0.true,
-    )
+returns-then-edges-bit-eq0 c = (
+  omega arith,
+  followed_none _ _ c.edges_to-edges.result c.edges_to-edges.ensures.0 c.edges_to-edges.ensures.1 c.args.from c.if-edges-bit-eq0.true,
+)
 
 pub returns : goal.returns
 returns c = (

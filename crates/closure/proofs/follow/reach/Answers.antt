@@ -1,6 +1,6 @@
 -- `closure::reach` meets its contract.
 -- Assumes nothing.
-use Rattle.std.proofs.Common.{arith, rules}
+use Rattle.std.proofs.Common.{arith}
 use Rattle.closure.proofs.FollowEdges.{copy_n_reach, other_reach}
 use Rattle.closure.proofs.follow.reach.Goals as goal
 

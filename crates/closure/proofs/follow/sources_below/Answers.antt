@@ -1,6 +1,6 @@
 -- `closure::sources_below` meets its contract: each way out is one case of the two tests.
 -- Assumes nothing.
-use Rattle.std.proofs.Common.{rules, le-ltb, lt-ltb}
+use Rattle.std.proofs.Common.{le-ltb, lt-ltb}
 use Rattle.closure.specs.Sources.{only_if}
 use Rattle.closure_marks.proofs.Marks.{none_held, one_held, two_held}
 use Rattle.closure.proofs.follow.sources_below.Goals as goal

@@ -1,6 +1,6 @@
 -- `closure::slots::charge_scratch` meets its contract: the first charge, then the second.
 -- Assumes nothing.
-use Rattle.std.proofs.Common.{◌≡◌, ◌*◌, refl, arith, rules}
+use Rattle.std.proofs.Common.{◌≡◌, ◌*◌, refl, arith}
 use Rattle.model.specs.Charges.{spend_bytes}
 use Rattle.budget.specs.Outcome.{as_spent}
 use Rattle.budget.proofs.Spending.{first_refused, second_came, bytes_came}

@@ -1,6 +1,6 @@
 -- `closure::slots::tracked_slots` meets its contract: the first L marks are lent, and the others stay zero.
 -- Assumes nothing.
-use Rattle.std.proofs.Common.{sym, length-take-le, rules}
+use Rattle.std.proofs.Common.{sym, length-take-le}
 use Rattle.sheet.proofs.SizeNames.{counted}
 use Rattle.closure.proofs.TrackedSlots.{blank, marks_clear}
 use Rattle.closure.proofs.slots.tracked_slots.Goals as goal

@@ -1,13 +1,10 @@
 -- `closure_edges::charges::charge_dependencies` meets its contract: so far all charges were covered.
 -- Assumes nothing.
-use Prim.Native.Nat.{◌-◌}
 use mathlib.Core.Path.{◌≡◌, ◌∙◌}
-use native.Mathlib.Omega.{arith}
-use borrow.Author.Rules.{rules}
 use Rattle.model.specs.Dependencies.{charge_dependencies}
 use Rattle.budget.specs.Outcome.{as_spent}
 use Rattle.budget.proofs.Outcomes.{spent_stopped}
-use Rattle.budget.proofs.Spending.{Charged, charged_none, charged_more, charged_all, charged_refused, covered}
+use Rattle.budget.proofs.Spending.{charged_none, charged_more, charged_all, charged_refused, covered}
 use Rattle.sheet.proofs.SizeNames.{counted}
 use Rattle.sheet.proofs.FieldBounds.{code_inside}
 use Rattle.closure_edges.proofs.EdgeCharges.{charges, same_charge}

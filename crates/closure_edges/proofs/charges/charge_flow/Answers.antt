@@ -5,7 +5,6 @@ use mathlib.Core.Path.{◌≡◌, refl}
 use Rattle.model.specs.Charges.{spend_bytes, spend_work}
 use Rattle.budget.specs.Outcome.{as_spent}
 use Rattle.budget.proofs.Spending.{first_refused, second_came, bytes_came, work_came}
-use borrow.Author.Rules.{rules}
 use Rattle.closure_edges.proofs.charges.charge_flow.Goals as goal
 
 pub returns-in_default : goal.returns-in_default

@@ -7,7 +7,6 @@ use Rattle.budget.proofs.Spending.{first_refused, second_came}
 use Rattle.sheet.proofs.SizeLimits.{limited}
 use Rattle.closure_edges.proofs.EdgeCharges.{flow_counted}
 use Rattle.closure_edges.specs.GraphCharges.{charge_graph}
-use borrow.Author.Rules.{rules}
 use Rattle.closure_edges.proofs.charges.charge_graph.Goals as goal
 
 pub charge_flow-flow-requires : goal.charge_flow-flow-requires

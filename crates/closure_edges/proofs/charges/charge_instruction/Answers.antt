@@ -5,7 +5,6 @@ use Rattle.model.specs.Charges.{spend_work}
 use Rattle.model.specs.Dependencies.{depends, copy_work, charge_instruction}
 use Rattle.budget.specs.Outcome.{as_spent}
 use Rattle.budget.proofs.Spending.{first_refused, second_came, work_came, edges_came}
-use borrow.Author.Rules.{rules}
 use Rattle.closure_edges.proofs.charges.charge_instruction.Goals as goal
 
 pub returns-in_default : goal.returns-in_default

@@ -1,7 +1,6 @@
 -- `closure_edges::destinations::buckets_of` meets its contract.
 -- Assumes nothing.
 use native.Mathlib.Omega.{arith}
-use borrow.Author.Rules.{rules}
 use Rattle.closure_edges.proofs.BucketOrder.{in_order, some_buckets, no_buckets}
 use Rattle.closure_edges.proofs.destinations.buckets_of.Goals as goal
 

@@ -4,7 +4,6 @@ use mathlib.Core.Path.{sym}
 use Rattle.model.specs.Opcode.{select}
 use Rattle.model.specs.Dependencies.{copy_work, depends}
 use Rattle.closure_edges.proofs.EdgeRows.{no_copy_work}
-use borrow.Author.Rules.{rules}
 use Rattle.closure_edges.proofs.edges.copy_work.Goals as goal
 
 pub returns-then-op-eq-COPY_N : goal.returns-then-op-eq-COPY_N

@@ -1,7 +1,6 @@
 -- `closure_edges::edges::edge_count` meets its contract: the rows' lengths.
 -- Assumes nothing.
 use Rattle.closure_edges.proofs.EdgeRows.{edge_rows_are, counted_one, counted_fold}
-use borrow.Author.Rules.{rules}
 use Rattle.closure_edges.proofs.edges.edge_count.Goals as goal
 
 pub returns-then-fold : goal.returns-then-fold

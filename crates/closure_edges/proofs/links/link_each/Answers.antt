@@ -1,8 +1,6 @@
 -- `closure_edges::links::link_each` meets its contract.
 -- Assumes nothing.
-use Prim.Native.Nat.{◌-◌}
-use native.Mathlib.Omega.{arith}
-use Rattle.closure_edges.proofs.ChainLoops.{Linking, linking_none, linking_more, linking_done}
+use Rattle.closure_edges.proofs.ChainLoops.{linking_none, linking_more, linking_done}
 use Rattle.closure_edges.proofs.links.link_each.Goals as goal
 
 pub loop-i-init : goal.loop-i-init

@@ -1,8 +1,7 @@
 -- `closure_edges::links::link_each` meets its contract.
 -- Assumes nothing.
 use Prim.Native.Nat.{◌-◌}
-use native.Mathlib.Omega.{arith}
-use Rattle.closure_edges.proofs.ChainLoops.{Linking, linking_none, linking_more, linking_done}
+use Rattle.closure_edges.proofs.ChainLoops.{Linking}
 use Rattle.closure_edges.proofs.links.link_each.Given as goal
 
 abbrev pub invariant-loop-i : goal.invariant-loop-i

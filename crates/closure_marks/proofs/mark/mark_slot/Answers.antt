@@ -2,7 +2,6 @@
 -- Assumes nothing.
 use native.Mathlib.Omega.{arith}
 use Rattle.closure_marks.proofs.Marks.{push_room, mark_new, mark_old, mark_past}
-use borrow.Author.Rules.{rules}
 use Rattle.closure_marks.proofs.mark.mark_slot.Goals as goal
 
 pub offset_bounds-stack-top : goal.offset_bounds-stack-top

@@ -1,7 +1,6 @@
 -- `closure_marks::mark::mark_slots` meets its contract: one slot after the other.
 -- Assumes nothing.
 use Rattle.closure_marks.proofs.Marks.{none_marked, one_marked, both_marked, lain_on}
-use borrow.Author.Rules.{rules}
 use Rattle.closure_marks.proofs.mark.mark_slots.Goals as goal
 
 pub returns-then-len-eq0 : goal.returns-then-len-eq0

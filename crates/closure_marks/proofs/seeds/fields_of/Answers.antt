@@ -1,7 +1,6 @@
 -- `closure_marks::fields_of` meets its contract.
 -- Assumes nothing.
 use Rattle.closure_marks.proofs.SeedRules.{for_kind}
-use borrow.Author.Rules.{rules}
 use Rattle.closure_marks.proofs.seeds.fields_of.Goals as goal
 
 pub returns-in-Constant : goal.returns-in-Constant

@@ -5,7 +5,6 @@ use Rattle.closure_marks.specs.Fields.{fields_in}
 use Rattle.closure_marks.specs.declared.Fields.TheVariants.{None, A, B, C, BAndNext, AAndB}
 use Rattle.closure_marks.proofs.SeedRules.{fields_held}
 use Rattle.closure_marks.proofs.Marks.{none_held, one_held, two_held}
-use borrow.Author.Rules.{rules}
 use Rattle.closure_marks.proofs.seeds.seed_fields.Goals as goal
 
 pub returns-in-None : goal.returns-in-None

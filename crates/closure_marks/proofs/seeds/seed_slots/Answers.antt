@@ -1,12 +1,8 @@
 -- `closure_marks::seed_slots` meets its contract: the seeds of the instructions passed are marked.
 -- Assumes nothing.
-use Prim.Native.Nat.{◌-◌, ◌≤◌}
 use native.Mathlib.Omega.{arith}
-use borrow.Author.Rules.{rules}
-use Rattle.model.specs.Closure.{mark_seeds}
 use Rattle.sheet.proofs.SizeNames.{counted}
 use Rattle.sheet.proofs.FieldBounds.{code_inside}
-use Rattle.closure_marks.specs.Marks.{Goes}
 use Rattle.closure_marks.proofs.Marks.{lain_on, goes_wide, goes_long}
 use Rattle.closure_marks.proofs.SeedRules.{seeds_none, seeds_more, seeds_all}
 use Rattle.closure_marks.proofs.seeds.seed_slots.Goals as goal
@@ -28,11 +24,10 @@ pub loop-pc-smaller : goal.loop-pc-smaller
 loop-pc-smaller c = omega (arith, c.loop-pc-test.true)
 
 pub loop-pc-preserved : goal.loop-pc-preserved
-loop-pc-preserved c =
-    (
-      omega (arith, c.loop-pc-test.true),
-      seeds_more _ _ _ c.loop-pc.invariant.1 c.instruction_at.ensures c.seed_fields.ensures c.mark_slots-top.ensures,
-    )
+loop-pc-preserved c = (
+  omega (arith, c.loop-pc-test.true),
+  seeds_more _ _ _ c.loop-pc.invariant.1 c.instruction_at.ensures c.seed_fields.ensures c.mark_slots-top.ensures,
+)
 
 pub shape_of-marks : goal.shape_of-marks
 shape_of-marks c = goes_wide c.loop-pc.invariant.1 c.requires.1

@@ -1,14 +1,8 @@
 -- `closure_marks::seed_slots` meets its contract: the seeds of the instructions passed are marked.
 -- Assumes nothing.
 use Prim.Native.Nat.{◌-◌, ◌≤◌}
-use native.Mathlib.Omega.{arith}
-use borrow.Author.Rules.{rules}
 use Rattle.model.specs.Closure.{mark_seeds}
-use Rattle.sheet.proofs.SizeNames.{counted}
-use Rattle.sheet.proofs.FieldBounds.{code_inside}
 use Rattle.closure_marks.specs.Marks.{Goes}
-use Rattle.closure_marks.proofs.Marks.{lain_on, goes_wide, goes_long}
-use Rattle.closure_marks.proofs.SeedRules.{seeds_none, seeds_more, seeds_all}
 use Rattle.closure_marks.proofs.seeds.seed_slots.Given as goal
 
 abbrev pub invariant-loop-pc : goal.invariant-loop-pc

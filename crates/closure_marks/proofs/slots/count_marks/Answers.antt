@@ -1,10 +1,6 @@
 -- `closure_marks::slots::count_marks` meets its contract: the marks passed are counted.
 -- Assumes nothing.
-use Prim.Native.Nat.{◌-◌}
-use native.Mathlib.Omega.{arith}
-use borrow.Author.Rules.{rules}
-use lib.ListN.{length}
-use Rattle.closure_marks.proofs.MarkedSlots.{Counting, counting_none, counting_more, counting_all}
+use Rattle.closure_marks.proofs.MarkedSlots.{counting_none, counting_more, counting_all}
 use Rattle.closure_marks.proofs.slots.count_marks.Goals as goal
 
 pub loop-i-init : goal.loop-i-init

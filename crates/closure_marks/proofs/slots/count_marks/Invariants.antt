@@ -1,10 +1,8 @@
 -- `closure_marks::slots::count_marks` meets its contract: the marks passed are counted.
 -- Assumes nothing.
 use Prim.Native.Nat.{◌-◌}
-use native.Mathlib.Omega.{arith}
-use borrow.Author.Rules.{rules}
 use lib.ListN.{length}
-use Rattle.closure_marks.proofs.MarkedSlots.{Counting, counting_none, counting_more, counting_all}
+use Rattle.closure_marks.proofs.MarkedSlots.{Counting}
 use Rattle.closure_marks.proofs.slots.count_marks.Given as goal
 
 abbrev pub invariant-loop-i : goal.invariant-loop-i

@@ -3,7 +3,6 @@
 use mathlib.Core.Path.{◌∙◌}
 use native.Mathlib.Omega.{arith}
 use Rattle.closure_marks.proofs.MarkedSlots.{marks_fit, fits_not}
-use borrow.Author.Rules.{rules}
 use Rattle.closure_marks.proofs.slots.list_slots.Goals as goal
 
 pub returns-then-slots-s : goal.returns-then-slots-s

@@ -1,9 +1,7 @@
 -- `closure_marks::slots::write_marked_slots` meets its contract: the marked slots passed are written.
 -- Assumes nothing.
-use Prim.Native.Nat.{◌-◌}
 use native.Mathlib.Omega.{arith}
-use lib.ListN.{length}
-use Rattle.closure_marks.proofs.MarkedSlots.{MarksListed, marks_listed_none, writing_inside, writing_within, writing_room, marks_listed_more, writing_all}
+use Rattle.closure_marks.proofs.MarkedSlots.{marks_listed_none, writing_inside, writing_within, writing_room, marks_listed_more, writing_all}
 use Rattle.closure_marks.proofs.slots.write_marked_slots.Goals as goal
 
 pub loop-at-init : goal.loop-at-init

@@ -1,9 +1,8 @@
 -- `closure_marks::slots::write_marked_slots` meets its contract: the marked slots passed are written.
 -- Assumes nothing.
 use Prim.Native.Nat.{◌-◌}
-use native.Mathlib.Omega.{arith}
 use lib.ListN.{length}
-use Rattle.closure_marks.proofs.MarkedSlots.{MarksListed, marks_listed_none, writing_inside, writing_within, writing_room, marks_listed_more, writing_all}
+use Rattle.closure_marks.proofs.MarkedSlots.{MarksListed}
 use Rattle.closure_marks.proofs.slots.write_marked_slots.Given as goal
 
 abbrev pub invariant-loop-at : goal.invariant-loop-at

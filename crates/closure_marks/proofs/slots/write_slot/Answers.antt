@@ -4,7 +4,6 @@ use native.Mathlib.Omega.{arith}
 use borrow.Author.Tests.{eq-eqb, ne_eqb}
 use Rattle.model.specs.Closure.{list_unless}
 use Rattle.closure_marks.specs.Slots.{stored_unless}
-use borrow.Author.Rules.{rules}
 use Rattle.closure_marks.proofs.slots.write_slot.Goals as goal
 
 pub returns-then-mark-eq0 : goal.returns-then-mark-eq0

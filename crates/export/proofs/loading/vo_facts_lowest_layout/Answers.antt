@@ -1,5 +1,4 @@
 -- `vo_facts_lowest_layout` meets its contract. Assumes nothing.
-use borrow.Author.Rules.{rules}
 use Rattle.export.proofs.loading.vo_facts_lowest_layout.Goals as goal
 
 pub returns : goal.returns

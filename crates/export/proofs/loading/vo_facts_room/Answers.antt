@@ -1,5 +1,4 @@
 -- `vo_facts_room` meets its contract. Assumes nothing.
-use borrow.Author.Rules.{rules}
 use Rattle.export.proofs.loading.vo_facts_room.Goals as goal
 
 pub shape_of-marks : goal.shape_of-marks

@@ -2,7 +2,6 @@
 -- Assumes nothing.
 use Rattle.export_loader.proofs.RoomAnswers.{no_entry, sheet_refused, searched}
 use mathlib.Core.Path.{sym, ◌∙◌}
-use borrow.Author.Rules.{rules}
 use Rattle.sheet_questions.proofs.FirstRefusal.{accepted}
 use Rattle.export_loader.proofs.lowest.lowest_layout.Goals as goal
 

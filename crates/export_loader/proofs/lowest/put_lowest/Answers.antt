@@ -6,7 +6,6 @@ use Rattle.sheet.proofs.SizeNames.{counted}
 use Rattle.sheet.proofs.SizeLimits.{limited}
 use Rattle.sheet_index.proofs.OffsetTables.{layout_starts_hold}
 use Rattle.export_loader.proofs.RoomAnswers.{no_layout, put_one}
-use borrow.Author.Rules.{rules}
 use Rattle.export_loader.proofs.lowest.put_lowest.Goals as goal
 
 pub returns-then-sizes-layout : goal.returns-then-sizes-layout

@@ -3,7 +3,6 @@
 use mathlib.Core.Path.{sym, ◌∙◌}
 use Rattle.export_loader.proofs.RoomAnswers.{counted_slots}
 use native.Mathlib.Omega.{arith}
-use borrow.Author.Rules.{rules}
 use Rattle.export_loader.proofs.room.count_tracked.Goals as goal
 
 pub returns : goal.returns

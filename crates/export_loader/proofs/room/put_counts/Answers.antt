@@ -3,7 +3,6 @@
 use mathlib.Core.Path.{◌∙◌}
 use Rattle.sheet.proofs.SizeNames.{counted}
 use Rattle.export_loader.proofs.RoomAnswers.{still_zero, still_long, four_told}
-use borrow.Author.Rules.{rules}
 use Rattle.export_loader.proofs.room.put_counts.Goals as goal
 
 pub count_tracked-index-requires : goal.count_tracked-index-requires

@@ -5,7 +5,6 @@ use native.Mathlib.Omega.{arith}
 use lib.ListN.{length-set}
 use lib.Seq.{sets-eq}
 use Rattle.model.specs.Interface.{in_front}
-use borrow.Author.Rules.{rules}
 use Rattle.export_loader.proofs.room.put_four.Goals as goal
 
 pub bounds-out-1 : goal.bounds-out-1

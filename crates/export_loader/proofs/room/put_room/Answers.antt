@@ -2,7 +2,6 @@
 -- Assumes nothing.
 use mathlib.Core.Path.{◌∙◌}
 use Rattle.export_loader.proofs.RoomAnswers.{closure_cleared, cleared_long}
-use borrow.Author.Rules.{rules}
 use Rattle.export_loader.proofs.room.put_room.Goals as goal
 
 pub put_counts-requires : goal.put_counts-requires

@@ -5,7 +5,6 @@ use Rattle.sheet.proofs.AcceptedSheet.{measured}
 use Rattle.sheet.proofs.SizeNames.{counted}
 use Rattle.sheet_questions.proofs.AdmissionTests.{admitted_lengths}
 use Rattle.export_loader.proofs.RoomAnswers.{out_too_short, room_refused, room_told}
-use borrow.Author.Rules.{rules}
 use Rattle.export_loader.proofs.room.room_of.Goals as goal
 
 pub returns-then-out-lt4 : goal.returns-then-out-lt4

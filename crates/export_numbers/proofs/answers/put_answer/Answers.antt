@@ -1,7 +1,6 @@
 -- `export_numbers::put_answer` meets its contract. Assumes nothing.
 use mathlib.Core.Path.{refl}
 use Rattle.export_numbers.specs.Numbers.{numbers_compute}
-use borrow.Author.Rules.{rules}
 use Rattle.export_numbers.proofs.answers.put_answer.Goals as goal
 
 pub returns-in-Analyzed : goal.returns-in-Analyzed

@@ -1,7 +1,6 @@
 -- `export_numbers::put_refusal` meets its contract. Assumes nothing.
 use mathlib.Core.Path.{refl}
 use Rattle.export_numbers.specs.Numbers.{nothing}
-use borrow.Author.Rules.{rules}
 use Rattle.export_numbers.proofs.answers.put_refusal.Goals as goal
 
 pub returns : goal.returns

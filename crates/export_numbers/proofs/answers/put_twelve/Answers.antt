@@ -3,7 +3,6 @@ use native.Mathlib.Omega.{arith}
 use lib.ListN.{length-set}
 use lib.Seq.{sets-eq}
 use Rattle.export_numbers.specs.Numbers.{entries, numbers_compute}
-use borrow.Author.Rules.{rules}
 use Rattle.export_numbers.proofs.answers.put_twelve.Goals as goal
 
 pub bounds-out-1 : goal.bounds-out-1

@@ -6,7 +6,6 @@ use borrow.Author.Tests.{lt-leb, le-leb}
 use lib.ListN.{length}
 use lib.Seq.{sets-eq}
 use Rattle.model.specs.Interface.{looked, looked_up, interface_compute}
-use borrow.Author.Rules.{rules}
 use Rattle.export_numbers.proofs.facts.put_slot_fact.Goals as goal
 
 pub returns-then-out-lt2 : goal.returns-then-out-lt2

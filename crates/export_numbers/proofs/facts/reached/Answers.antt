@@ -1,6 +1,5 @@
 -- `facts::reached` meets its contract. Assumes nothing.
 use Rattle.model.specs.Interface.{interface_compute}
-use borrow.Author.Rules.{rules}
 use Rattle.export_numbers.proofs.facts.reached.Goals as goal
 
 pub returns-in-Yes : goal.returns-in-Yes

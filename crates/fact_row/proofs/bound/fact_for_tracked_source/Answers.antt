@@ -1,7 +1,6 @@
 -- `fact_row::bound::fact_for_tracked_source` meets its contract: the slot is past the tracked ones, between two, or one of them. Assumes nothing.
 use mathlib.Core.Path.{sym, ap, ◌∙◌}
 use native.Mathlib.Omega.{arith}
-use borrow.Author.Rules.{rules}
 use Rattle.model.specs.Tables.{cell_of}
 use Rattle.fact_row.proofs.Ascending.{fact_found, fact_past, fact_between}
 use Rattle.fact_row.proofs.Rows.{cell_at, row_long}

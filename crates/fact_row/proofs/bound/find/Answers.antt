@@ -1,7 +1,6 @@
 -- `fact_row::bound::find` meets its contract: the slot is past the tracked ones, between two, or one of them. Assumes nothing.
 use mathlib.Core.Path.{sym, ◌∙◌}
 use native.Mathlib.Omega.{arith}
-use borrow.Author.Rules.{rules}
 use Rattle.fact_row.proofs.Places.{place_found, place_past, place_between}
 use Rattle.fact_row.proofs.bound.find.Goals as goal
 

@@ -1,7 +1,6 @@
 -- `fact_row::bound::half_of` meets its contract: the product with 0 or 1 chooses. Assumes nothing.
 use native.Mathlib.Omega.{arith}
 use lib.Dec.{leb}
-use borrow.Author.Rules.{rules}
 use Rattle.fact_row.proofs.Ascending.{times_le, half_stepped}
 use Rattle.fact_row.proofs.bound.half_of.Goals as goal
 

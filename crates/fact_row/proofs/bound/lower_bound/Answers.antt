@@ -1,7 +1,6 @@
 -- `fact_row::bound::lower_bound` meets its contract: each turn halves the part in which the bound lies. Assumes nothing.
 use native.Mathlib.Omega.{arith}
-use borrow.Author.Rules.{rules}
-use Rattle.fact_row.proofs.Ascending.{Halved, halved_none, halved, bound_above, bound_at, bound_none}
+use Rattle.fact_row.proofs.Ascending.{halved_none, halved, bound_above, bound_at, bound_none}
 use Rattle.fact_row.proofs.bound.lower_bound.Goals as goal
 
 pub returns-then-slots-eq0 : goal.returns-then-slots-eq0

@@ -1,7 +1,5 @@
 -- `fact_row::bound::lower_bound` meets its contract: each turn halves the part in which the bound lies. Assumes nothing.
-use native.Mathlib.Omega.{arith}
-use borrow.Author.Rules.{rules}
-use Rattle.fact_row.proofs.Ascending.{Halved, halved_none, halved, bound_above, bound_at, bound_none}
+use Rattle.fact_row.proofs.Ascending.{Halved}
 use Rattle.fact_row.proofs.bound.lower_bound.Given as goal
 
 abbrev pub invariant-loop-size : goal.invariant-loop-size

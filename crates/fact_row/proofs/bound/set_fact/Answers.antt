@@ -8,7 +8,6 @@ use Rattle.fact_row.specs.Place.{placed}
 use Rattle.fact_row.proofs.Places.{place_inside}
 use Rattle.fact_row.proofs.FactSet.{set_none, set_some}
 use native.Mathlib.Omega.{arith}
-use borrow.Author.Rules.{rules}
 use Rattle.fact_row.proofs.bound.set_fact.Goals as goal
 
 pub find-requires : goal.find-requires

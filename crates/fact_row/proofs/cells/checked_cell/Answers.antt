@@ -1,6 +1,5 @@
 -- `fact_row::checked_cell` meets its contract: by the kind of the length's cell, and its value. Assumes nothing.
 use mathlib.Core.Path.{ap, ◌∙◌}
-use borrow.Author.Rules.{rules}
 use Rattle.model.specs.Fact.{kind, value}
 use Rattle.model.specs.Tables.{cell_of, fact_in}
 use Rattle.fact_row.proofs.CheckedLengths.{checked_unknown, checked_other, checked_over, checked_in}

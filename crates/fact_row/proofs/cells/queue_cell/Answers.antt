@@ -1,6 +1,5 @@
 -- `fact_row::queue_cell` meets its contract: the cell is the definition's. Assumes nothing.
 use mathlib.Core.Path.{refl}
-use borrow.Author.Rules.{rules}
 use Rattle.model.specs.Fact.{kind, value}
 use Rattle.model.specs.Tables.{cell_of}
 use Rattle.model.specs.Transfer.{queue_fact}

@@ -2,7 +2,6 @@
 use mathlib.Core.Logic.{⊎_elim}
 use Rattle.std.proofs.Common.{eq-eqb}
 use borrow.Author.Tests.{ne_eqb}
-use borrow.Author.Rules.{rules}
 use Rattle.fact_row.proofs.NoteFacts.{first_fails, second_fails, map_noted, queue_noted, not_noted}
 use Rattle.fact_row.proofs.notes.instruction_fact.Goals as goal
 

@@ -1,7 +1,6 @@
 -- `refused` meets its contract.
 -- Assumes nothing.
 use Rattle.fixpoint.specs.Result.{run_refused}
-use borrow.Author.Rules.{rules}
 use Rattle.fixpoint.proofs.answer.refused.Goals as goal
 
 pub returns : goal.returns

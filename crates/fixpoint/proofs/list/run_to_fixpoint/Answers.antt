@@ -1,15 +1,13 @@
 -- `run_to_fixpoint` meets its contract: instruction 0 gets the first row, the loop passes through the states of the defined run, and what is over is cleared.
 -- Assumes nothing.
 use mathlib.Core.Path.{◌≡◌, ap, ◌∙◌}
-use Prim.Native.Nat.{◌+◌, ◌*◌, ◌-◌, ◌<◌, ◌≤◌}
+use Prim.Native.Nat.{◌<◌}
 use native.Mathlib.Omega.{arith}
 use lib.ListN.{length}
 use Rattle.model.specs.Call.{zeros}
-use Rattle.model.specs.Sheet.{code_count}
 use Rattle.model.specs.Tables.{facts_of}
 use Rattle.finality.proofs.Lengths.{zeros_length, zeros_same}
 use Rattle.fixpoint.specs.Memory.{RunMemory, run_memory}
-use Rattle.fixpoint.specs.Turn.{Turn}
 use Rattle.fixpoint.proofs.FirstTurn.{turn_lengths, start_joins, start_enters, start_turn}
 use Rattle.fixpoint.proofs.LoopTurns.{turn_little, turn_ends, turn_refused, stepping, enter_first, enter_second, stepped}
 use Rattle.fixpoint.proofs.RunEnds.{RunTold, told_cleared}
@@ -45,10 +43,10 @@ overflow_add-pops c =
 
 pub step-news-requires : goal.step-news-requires
 step-news-requires c = record {
-      sheet_index = c.requires.sheet_index;
-      memory_ready = stepping c.args.resources c.requires.sheet_index.0 c.requires.sheet_index.1 c.loop-top.invariant c.loop-top-test.true
-          c.if-cost-rest.true c.take-p.ensures.0;
-    }
+  sheet_index = c.requires.sheet_index;
+  memory_ready = stepping c.args.resources c.requires.sheet_index.0 c.requires.sheet_index.1 c.loop-top.invariant c.loop-top-test.true
+      c.if-cost-rest.true c.take-p.ensures.0;
+}
 
 pub enter-top-requires-in-loop-top : goal.enter-top-requires-in-loop-top
 enter-top-requires-in-loop-top c =
@@ -91,8 +89,8 @@ shape_of-row_values c = c.finish.auto.row_values ∙ (turn_lengths c.loop-top.in
 low : (c : goal.After-slice_known-15-1) → 0 < c.loop-top.top → c.loop-top.rest < length c.args.slots.now
 low c h =
     elim c.loop-top-test.branch [
-      then-loop-top-test+else-cost-rest w ↦ omega (arith, w.if-cost-rest.false)
-    | else-loop-top-test w ↦ absurd (omega (arith, w.loop-top-test.false))
+      | then-loop-top-test+else-cost-rest w ↦ omega (arith, w.if-cost-rest.false)
+      | else-loop-top-test w ↦ absurd (omega (arith, w.loop-top-test.false))
     ]
 
 abbrev memory : goal.After-slice_known-15-1 → RunMemory
@@ -106,13 +104,13 @@ told c =
     let loop = c.loop-top in
     let long = loop.invariant.list_length ∙ c.enter-top.auto.work_list in
     elim c.if-top-gt0.branch [
-      then-top-gt0 w ↦ (
+      | then-top-gt0 w ↦ (
         turn_refused c.args.resources asked.0 asked.1 loop.invariant w.if-top-gt0.true (low c w.if-top-gt0.true) _ (w.ran-is ∙ w.refused-ran.ensures) _,
         w.work_list-is ∙ w.clear.ensures ∙ zeros_same _ _ long,
       )
-    | else-top-gt0 w ↦
-      let done = turn_ends c.args.resources asked.0 asked.1 loop.invariant w.if-top-gt0.false _ (w.ran-is ∙ w.ended-ran.ensures) in
-      (done.0, w.work_list-is ∙ done.1 ∙ zeros_same _ _ long)
+      | else-top-gt0 w ↦
+          let done = turn_ends c.args.resources asked.0 asked.1 loop.invariant w.if-top-gt0.false _ (w.ran-is ∙ w.ended-ran.ensures) in
+          (done.0, w.work_list-is ∙ done.1 ∙ zeros_same _ _ long)
     ]
 
 pub shape_of-work_list : goal.shape_of-work_list

@@ -1,20 +1,11 @@
 -- `run_to_fixpoint` meets its contract: instruction 0 gets the first row, the loop passes through the states of the defined run, and what is over is cleared.
 -- Assumes nothing.
-use mathlib.Core.Logic.{⊎_elim}
-use mathlib.Core.Path.{◌≡◌, ap, ◌∙◌}
-use Prim.Native.Nat.{◌+◌, ◌*◌, ◌-◌, ◌<◌, ◌≤◌}
-use native.Mathlib.Omega.{arith}
-use borrow.Author.Tests.{leb-true, leb-false, ltb-true, ltb-false}
+use Prim.Native.Nat.{◌+◌, ◌*◌, ◌-◌}
 use lib.ListN.{length}
-use Rattle.model.specs.Call.{zeros}
 use Rattle.model.specs.Sheet.{code_count}
 use Rattle.model.specs.Tables.{facts_of}
-use Rattle.finality.proofs.Lengths.{zeros_length, zeros_same}
-use Rattle.fixpoint.specs.Memory.{RunMemory, run_memory}
+use Rattle.fixpoint.specs.Memory.{run_memory}
 use Rattle.fixpoint.specs.Turn.{Turn}
-use Rattle.fixpoint.proofs.FirstTurn.{turn_lengths, start_joins, start_enters, start_turn}
-use Rattle.fixpoint.proofs.LoopTurns.{turn_little, turn_ends, turn_refused, stepping, enter_first, enter_second, stepped}
-use Rattle.fixpoint.proofs.RunEnds.{RunTold, told_cleared}
 use Rattle.fixpoint.proofs.list.run_to_fixpoint.Given as goal
 
 abbrev pub invariant-loop-top : goal.invariant-loop-top

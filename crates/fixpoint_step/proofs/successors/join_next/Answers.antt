@@ -1,7 +1,6 @@
 -- `join_next` meets its contract.
 -- Assumes nothing.
 use Rattle.fixpoint_step.proofs.TwoSuccessors.{next_joined, next_none}
-use borrow.Author.Rules.{rules}
 use Rattle.fixpoint_step.proofs.successors.join_next.Goals as goal
 
 pub join_into-requires : goal.join_into-requires

@@ -3,7 +3,6 @@
 use mathlib.Core.Path.{◌≡◌}
 use Rattle.model.specs.Successors.{sheet_successors, as_record}
 use Rattle.fixpoint_step.proofs.TwoSuccessors.{next_is, following_inside, following_code, first_next, second_next, followed}
-use borrow.Author.Rules.{rules}
 use Rattle.fixpoint_step.proofs.successors.visit_successors.Goals as goal
 
 pub instruction_at-requires : goal.instruction_at-requires

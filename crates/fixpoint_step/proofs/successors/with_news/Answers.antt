@@ -1,7 +1,6 @@
 -- `with_news` meets its contract.
 -- Assumes nothing.
 use Rattle.fixpoint_step.specs.News.{with_news}
-use borrow.Author.Rules.{rules}
 use Rattle.fixpoint_step.proofs.successors.with_news.Goals as goal
 
 pub returns-then-second : goal.returns-then-second

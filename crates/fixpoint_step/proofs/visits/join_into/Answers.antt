@@ -1,7 +1,6 @@
 -- `join_into` meets its contract: the copy where there is no row, the join where there is one.
 -- Assumes nothing.
 use native.Mathlib.Omega.{arith}
-use borrow.Author.Rules.{rules}
 use Rattle.fixpoint_step.proofs.VisitedTables.{visiting_end, visiting_row, visiting_lengths, visit_absent, visit_present}
 use Rattle.fixpoint_step.proofs.visits.join_into.Goals as goal
 

@@ -1,6 +1,5 @@
 -- `join::containers::equal_containers` meets its contract: a law for each way out.
 -- Assumes nothing.
-use borrow.Author.Rules.{rules}
 use Rattle.join.proofs.ContainerEquality.{other_kinds, same_values, other_first, by_second}
 use Rattle.join.proofs.containers.equal_containers.Goals as goal
 

@@ -1,7 +1,6 @@
 -- `join::containers::merge_container_fact` meets its contract: the answer is handed what the rule says of the two cells.
 -- Assumes nothing.
 use mathlib.Core.Path.{◌∙◌}
-use borrow.Author.Rules.{rules}
 use Rattle.sheet_layouts.specs.Classes.{equal_containers_by}
 use Rattle.join.proofs.CellJoins.{merged_by, containers_shift}
 use Rattle.join.proofs.containers.merge_container_fact.Goals as goal

@@ -1,7 +1,6 @@
 -- `join::facts::merge_constant_fact` meets its contract: the answer is handed what the rule says of the two cells.
 -- Assumes nothing.
 use mathlib.Core.Path.{◌∙◌}
-use borrow.Author.Rules.{rules}
 use Rattle.model.specs.Fact.{equal_numbers}
 use Rattle.join.proofs.CellJoins.{merged_by, numbers_shift}
 use Rattle.join.proofs.facts.merge_constant_fact.Goals as goal

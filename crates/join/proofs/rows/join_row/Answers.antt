@@ -1,11 +1,6 @@
 -- `join::rows::join_row` meets its contract. The loop's invariant: the first i places are joined, and the others are as they were.
 -- Assumes nothing.
-use Prim.Native.Nat.{◌-◌}
-use native.Mathlib.Omega.{arith}
-use borrow.Author.Rules.{rules}
-use lib.ListN.{length}
-use Rattle.sheet_layouts.specs.Classes.{equal_by}
-use Rattle.join.proofs.JoinLoop.{Partly, carried, partly_start, partly_changed, partly_kept, partly_end}
+use Rattle.join.proofs.JoinLoop.{carried, partly_start, partly_changed, partly_kept, partly_end}
 use Rattle.join.proofs.rows.join_row.Goals as goal
 use Rattle.join.proofs.rows.join_row.Goals.{then-kind-was, else-kind-was}
 
@@ -16,10 +11,10 @@ pub loop-i-preserved : goal.loop-i-preserved
 loop-i-preserved c =
     let joined = c.merge_fact_of-joined in
     elim c.if-kind-was.branch [
-      then-kind-was w ↦
-        carried w.kinds-is w.values-is w.changed-is (partly_changed c.loop-i.invariant c.loop-i-test.true joined.result joined.ensures w.if-kind-was.true)
-    | else-kind-was w ↦
-        carried w.kinds-is w.values-is w.changed-is (partly_kept c.loop-i.invariant c.loop-i-test.true joined.result joined.ensures w.if-kind-was.false)
+      | then-kind-was w ↦
+          carried w.kinds-is w.values-is w.changed-is (partly_changed c.loop-i.invariant c.loop-i-test.true joined.result joined.ensures w.if-kind-was.true)
+      | else-kind-was w ↦
+          carried w.kinds-is w.values-is w.changed-is (partly_kept c.loop-i.invariant c.loop-i-test.true joined.result joined.ensures w.if-kind-was.false)
     ]
 
 pub returns : goal.returns

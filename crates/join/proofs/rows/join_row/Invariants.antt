@@ -1,12 +1,9 @@
 -- `join::rows::join_row` meets its contract. The loop's invariant: the first i places are joined, and the others are as they were.
 -- Assumes nothing.
-use mathlib.Core.Logic.{⊎_elim}
 use Prim.Native.Nat.{◌-◌}
-use native.Mathlib.Omega.{arith}
-use borrow.Author.Rules.{rules}
 use lib.ListN.{length}
 use Rattle.sheet_layouts.specs.Classes.{equal_by}
-use Rattle.join.proofs.JoinLoop.{Partly, carried, partly_start, partly_changed, partly_kept, partly_end}
+use Rattle.join.proofs.JoinLoop.{Partly}
 use Rattle.join.proofs.rows.join_row.Given as goal
 
 abbrev pub invariant-loop-i : goal.invariant-loop-i

@@ -1,6 +1,5 @@
 -- `join::rows::merge_fact_of` meets its contract: the rule of each analysis.
 -- Assumes nothing.
-use borrow.Author.Rules.{rules}
 use Rattle.model.specs.Tables.{fact_in}
 use Rattle.join.proofs.ContainerEquality.{joins_constants, joins_checks, joins_containers}
 use Rattle.join.proofs.rows.merge_fact_of.Goals as goal

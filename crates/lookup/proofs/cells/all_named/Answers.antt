@@ -1,12 +1,9 @@
 -- `lookup::all_named` meets its contract. Assumes nothing.
 use mathlib.Core.Path.{◌≡◌, sym, ◌∙◌}
 use mathlib.Core.Bool.{true}
-use Prim.Native.Nat.{◌-◌, ◌≤◌}
 use lib.ListN.{length}
-use borrow.Author.Tests.{not-true, not-false}
 use Rattle.lookup.proofs.Rows.{rows_none, rows_more, rows_refused}
 use Rattle.fact_row.specs.Place.{placed}
-use Rattle.lookup.specs.Inside.{rows_named}
 use native.Mathlib.Omega.{arith}
 use Rattle.lookup.proofs.cells.all_named.Goals as goal
 

@@ -1,13 +1,10 @@
 -- `lookup::all_named` meets its contract. Assumes nothing.
-use mathlib.Core.Path.{◌≡◌, sym, ◌∙◌}
+use mathlib.Core.Path.{◌≡◌}
 use mathlib.Core.Bool.{true}
 use Prim.Native.Nat.{◌-◌, ◌≤◌}
 use lib.ListN.{length}
-use borrow.Author.Tests.{not-true, not-false}
-use Rattle.lookup.proofs.Rows.{rows_none, rows_more, rows_refused}
 use Rattle.fact_row.specs.Place.{placed}
 use Rattle.lookup.specs.Inside.{rows_named}
-use native.Mathlib.Omega.{arith}
 use Rattle.lookup.proofs.cells.all_named.Given as goal
 
 abbrev pub invariant-loop-pc : goal.invariant-loop-pc

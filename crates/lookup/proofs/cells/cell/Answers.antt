@@ -1,7 +1,6 @@
 -- `lookup::cell` meets its contract. Assumes nothing.
 use Rattle.lookup.proofs.Rows.{cell_inside, no_row, no_slot, the_cell}
 use Rattle.fact_row.specs.Place.{placed}
-use borrow.Author.Rules.{rules}
 use native.Mathlib.Omega.{arith}
 use Rattle.lookup.proofs.cells.cell.Goals as goal
 

@@ -1,6 +1,5 @@
 -- `lookup::named` meets its contract. Assumes nothing.
 use Rattle.lookup.proofs.Rows.{cell_inside, untracked_row, present_row_lem, other_row}
-use borrow.Author.Rules.{rules}
 use native.Mathlib.Omega.{arith}
 use Rattle.lookup.proofs.cells.named.Goals as goal
 

@@ -1,10 +1,8 @@
 -- `lookup::fixed_fact` meets its contract. Assumes nothing.
 use mathlib.Core.Path.{sym, ap, ◌∙◌}
-use borrow.Author.Tests.{not-true, not-false}
 use Rattle.model.specs.Lookup.{fact_with_numbers}
 use Rattle.lookup.proofs.Agreement.{agreed}
 use Rattle.lookup.proofs.LookupAnswers.{found_inside, same_length, fixed_damaged, fixed_row_damaged, fixed_answered}
-use borrow.Author.Rules.{rules}
 use Rattle.lookup.proofs.lookups.fixed_fact.Goals as goal
 
 pub returns-then-not-tables_agree : goal.returns-then-not-tables_agree

@@ -2,7 +2,6 @@
 use mathlib.Core.Path.{ap}
 use Rattle.model.specs.Lookup.{reachability_with_numbers}
 use Rattle.lookup.proofs.Rows.{not_reached, reached, unreadable}
-use borrow.Author.Rules.{rules}
 use Rattle.lookup.proofs.lookups.is_reachable.Goals as goal
 
 pub returns-in-0 : goal.returns-in-0

@@ -1,6 +1,5 @@
 -- `lookup::last_kind` meets its contract. Assumes nothing.
 use Rattle.model.specs.Lookup.{last_kind}
-use borrow.Author.Rules.{rules}
 use Rattle.lookup.proofs.lookups.last_kind.Goals as goal
 
 pub returns-in-Constant : goal.returns-in-Constant

@@ -1,8 +1,6 @@
 -- `lookup::question::ascending` meets its contract. Assumes nothing.
 use mathlib.Core.Path.{sym}
-use Prim.Native.Nat.{◌-◌, ◌≤◌}
-use lib.ListN.{length}
-use Rattle.lookup.proofs.AscendingLoop.{Rising, rising_all, rising_more, falling}
+use Rattle.lookup.proofs.AscendingLoop.{rising_all, rising_more, falling}
 use native.Mathlib.Omega.{arith}
 use Rattle.lookup.proofs.question.ascending.Goals as goal
 

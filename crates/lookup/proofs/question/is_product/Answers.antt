@@ -1,6 +1,5 @@
 -- `lookup::question::is_product` meets its contract. Assumes nothing.
 use Rattle.lookup.proofs.Agreement.{product_none, product_rest, product_exact}
-use borrow.Author.Rules.{rules}
 use Rattle.lookup.proofs.question.is_product.Goals as goal
 
 pub returns-then-s-eq0 : goal.returns-then-s-eq0

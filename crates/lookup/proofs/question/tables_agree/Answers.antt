@@ -1,8 +1,6 @@
 -- `lookup::question::tables_agree` meets its contract. Assumes nothing.
 use mathlib.Core.Path.{sym, ◌∙◌}
-use borrow.Author.Tests.{not-true, not-false}
 use Rattle.lookup.proofs.Agreement.{unordered, other_kinds_agree, by_values}
-use borrow.Author.Rules.{rules}
 use Rattle.lookup.proofs.question.tables_agree.Goals as goal
 
 pub returns-then-not-ascending : goal.returns-then-not-ascending

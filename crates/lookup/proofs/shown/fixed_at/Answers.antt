@@ -2,7 +2,6 @@
 use Rattle.model.specs.Lookup.{fixed_fact}
 use Rattle.lookup.proofs.Rows.{inside_at}
 use Rattle.lookup.proofs.LookupAnswers.{fixed_untracked, fixed_tracked}
-use borrow.Author.Rules.{rules}
 use Rattle.lookup.proofs.shown.fixed_at.Goals as goal
 
 pub shown-seen-requires : goal.shown-seen-requires

@@ -1,6 +1,5 @@
 -- `lookup::shown::show` meets its contract. Assumes nothing.
 use Rattle.lookup.proofs.FixedSlots.{not_known, first_shown, shows_other_kind, other_value, same_shown, still_mixed}
-use borrow.Author.Rules.{rules}
 use Rattle.lookup.proofs.shown.show.Goals as goal
 
 pub returns-then-kind-lt2 : goal.returns-then-kind-lt2

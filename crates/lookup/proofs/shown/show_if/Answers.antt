@@ -1,7 +1,6 @@
 -- `lookup::shown::show_if` meets its contract. Assumes nothing.
 use Rattle.model.specs.Lookup.{show_if}
 use borrow.Author.Tests.{eq-eqb, ne_eqb}
-use borrow.Author.Rules.{rules}
 use Rattle.lookup.proofs.shown.show_if.Goals as goal
 
 pub returns-then-byte-eq1 : goal.returns-then-byte-eq1

@@ -1,9 +1,8 @@
 -- `lookup::shown::shown` meets its contract. Assumes nothing.
 use mathlib.Core.Path.{◌≡◌, refl}
-use Prim.Native.Nat.{◌+◌, ◌*◌, ◌-◌, ◌≤◌}
+use Prim.Native.Nat.{◌+◌, ◌-◌}
 use lib.ListN.{length}
 use Rattle.model.specs.Lookup.{shown}
-use Rattle.lookup.specs.Shown.{shown_by}
 use Rattle.lookup.proofs.FixedSlots.{next_cell, shown_more}
 use native.Mathlib.Omega.{arith}
 use Rattle.lookup.proofs.shown.shown.Goals as goal

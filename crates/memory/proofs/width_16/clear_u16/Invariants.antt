@@ -1,9 +1,7 @@
 -- `memory::width_16::clear_u16` meets its contract, by the law of loops that clear. Assumes nothing.
 use Prim.Native.Nat.{◌-◌}
 use lib.ListN.{length}
-use mathlib.Core.Path.{refl}
-use Rattle.memory.proofs.StoreLoops.{Turned, turned_none, turn, turned_clear}
-use native.Mathlib.Omega.{arith}
+use Rattle.memory.proofs.StoreLoops.{Turned}
 use Rattle.memory.proofs.width_16.clear_u16.Given as goal
 
 abbrev pub invariant-loop-i : goal.invariant-loop-i

@@ -1,9 +1,7 @@
 -- `memory::width_64::copy_u64` meets its contract, by the law of loops that copy. Assumes nothing.
 use Prim.Native.Nat.{◌-◌}
 use lib.ListN.{length, get_or}
-use mathlib.Core.Path.{refl}
-use Rattle.memory.proofs.StoreLoops.{Turned, turned_none, turn, turned_copy}
-use native.Mathlib.Omega.{arith}
+use Rattle.memory.proofs.StoreLoops.{Turned}
 use Rattle.memory.proofs.width_64.copy_u64.Given as goal
 
 abbrev pub invariant-loop-i : goal.invariant-loop-i

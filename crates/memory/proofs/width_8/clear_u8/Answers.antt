@@ -1,9 +1,6 @@
 -- `memory::width_8::clear_u8` meets its contract, by the law of loops that clear. Assumes nothing.
-use Prim.Native.Nat.{◌-◌}
-use lib.ListN.{length}
 use mathlib.Core.Path.{refl}
-use Rattle.memory.proofs.StoreLoops.{Turned, turned_none, turn, turned_clear}
-use native.Mathlib.Omega.{arith}
+use Rattle.memory.proofs.StoreLoops.{turned_none, turn, turned_clear}
 use Rattle.memory.proofs.width_8.clear_u8.Goals as goal
 
 pub loop-i-init : goal.loop-i-init

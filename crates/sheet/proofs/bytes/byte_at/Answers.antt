@@ -1,7 +1,6 @@
 -- `sheet::byte_at` meets its contract. Assumes nothing.
 use mathlib.Core.Path.{refl}
 use Rattle.model.specs.Bytes.{byte}
-use borrow.Author.Rules.{rules}
 use Rattle.sheet.proofs.bytes.byte_at.Goals as goal
 
 pub returns : goal.returns

@@ -4,7 +4,6 @@ use Prim.Native.Nat.{ℕ}
 use Rattle.model.specs.Bytes.{u32}
 use Rattle.model.specs.Sheet.{size}
 use native.Mathlib.Omega.{arith}
-use borrow.Author.Rules.{rules}
 use Rattle.sheet.proofs.head.size_at.Goals as goal
 
 pub returns : goal.returns

@@ -1,6 +1,5 @@
 -- `sheet_fields::instruction_at` meets its contract. Assumes nothing.
 use Rattle.sheet.proofs.FieldBounds.{instruction_is}
-use borrow.Author.Rules.{rules}
 use Rattle.sheet_fields.proofs.instructions.instruction_at.Goals as goal
 
 pub returns : goal.returns

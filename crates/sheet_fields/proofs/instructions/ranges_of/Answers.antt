@@ -2,7 +2,6 @@
 use mathlib.Core.Path.{sym}
 use borrow.Author.Tests.{eq-eqb, ne_eqb}
 use Rattle.model.specs.Sheet.{ranges_of, erred}
-use borrow.Author.Rules.{rules}
 use Rattle.sheet_fields.proofs.instructions.ranges_of.Goals as goal
 
 pub returns-then-count : goal.returns-then-count

@@ -1,11 +1,10 @@
 -- `sheet_index::offsets::first_ranges` meets its contract. Assumes nothing.
-use Prim.Native.Nat.{◌-◌}
-use Rattle.model.specs.Sheet.{ranges_of, first_range}
+use Rattle.model.specs.Sheet.{first_range}
 use Rattle.sheet_index.specs.Tables.{first_ranges}
 use Rattle.sheet.proofs.SizeNames.{counted}
 use Rattle.sheet.proofs.SizeLimits.{limited}
 use Rattle.sheet.proofs.AcceptedSheet.{measured, ranges_fit}
-use Rattle.sheet_index.proofs.PrefixSums.{Summed, summed_none, summed_more, summed_all}
+use Rattle.sheet_index.proofs.PrefixSums.{summed_none, summed_more, summed_all}
 use native.Mathlib.Omega.{arith}
 use Rattle.sheet_index.proofs.offsets.first_ranges.Goals as goal
 

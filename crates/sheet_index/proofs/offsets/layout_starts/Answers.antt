@@ -1,11 +1,10 @@
 -- `sheet_index::offsets::layout_starts` meets its contract. Assumes nothing.
-use Prim.Native.Nat.{◌-◌}
-use Rattle.model.specs.Sheet.{layout_length, layout_start}
+use Rattle.model.specs.Sheet.{layout_start}
 use Rattle.sheet_index.specs.Tables.{layout_starts}
 use Rattle.sheet.proofs.SizeNames.{counted}
 use Rattle.sheet.proofs.SizeLimits.{limited}
 use Rattle.sheet.proofs.AcceptedSheet.{measured, layout_fits}
-use Rattle.sheet_index.proofs.PrefixSums.{Summed, summed_none, summed_more, summed_all}
+use Rattle.sheet_index.proofs.PrefixSums.{summed_none, summed_more, summed_all}
 use native.Mathlib.Omega.{arith}
 use Rattle.sheet_index.proofs.offsets.layout_starts.Goals as goal
 

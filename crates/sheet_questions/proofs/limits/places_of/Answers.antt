@@ -1,6 +1,5 @@
 -- `sheet_questions::limits::places_of` meets its contract. Assumes nothing.
 use Rattle.sheet_questions.proofs.ArrayPlaces.{placed_is}
-use borrow.Author.Rules.{rules}
 use Rattle.sheet_questions.proofs.limits.places_of.Goals as goal
 
 pub returns : goal.returns

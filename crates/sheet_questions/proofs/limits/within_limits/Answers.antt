@@ -1,8 +1,6 @@
 -- `sheet_questions::limits::within_limits` meets its contract. Assumes nothing.
-use Prim.Native.Nat.{◌-◌, ◌≤◌}
-use mathlib.Core.Path.{◌≡◌, refl, sym}
-use lib.ListN.{drop}
-use Rattle.model.specs.Sheet.{limits, within_limits}
+use mathlib.Core.Path.{refl, sym}
+use Rattle.model.specs.Sheet.{limits}
 use Rattle.sheet_questions.proofs.LimitLoop.{within_passed, within_failed, within_all}
 use native.Mathlib.Omega.{arith}
 use Rattle.sheet_questions.proofs.limits.within_limits.Goals as goal

@@ -1,10 +1,8 @@
 -- `sheet_questions::limits::within_limits` meets its contract. Assumes nothing.
 use Prim.Native.Nat.{◌-◌, ◌≤◌}
-use mathlib.Core.Path.{◌≡◌, refl, sym}
+use mathlib.Core.Path.{◌≡◌}
 use lib.ListN.{drop}
 use Rattle.model.specs.Sheet.{limits, within_limits}
-use Rattle.sheet_questions.proofs.LimitLoop.{within_passed, within_failed, within_all}
-use native.Mathlib.Omega.{arith}
 use Rattle.sheet_questions.proofs.limits.within_limits.Given as goal
 
 abbrev pub invariant-loop-j : goal.invariant-loop-j

@@ -1,8 +1,4 @@
 -- `sheet_questions::constants_named` meets its contract. Assumes nothing.
-use Prim.Native.Nat.{◌-◌, ◌≤◌}
-use mathlib.Core.Path.{◌≡◌}
-use Rattle.model.specs.Count.{every}
-use Rattle.model.specs.Sheet.{constant_named}
 use Rattle.sheet.proofs.SizeNames.{counted}
 use Rattle.sheet_questions.proofs.AllLoop.{every_none, every_more, every_all}
 use native.Mathlib.Omega.{arith}

@@ -1,7 +1,6 @@
 -- `sheet_questions::note_named` meets its contract. Assumes nothing.
 use Rattle.model.specs.Sheet.{note_named}
 use Rattle.sheet.proofs.SizeNames.{counted}
-use borrow.Author.Rules.{rules}
 use Rattle.sheet_questions.proofs.question_5.note_named.Goals as goal
 
 pub note_kind_at-kind-requires : goal.note_kind_at-kind-requires

@@ -3,9 +3,6 @@ use Prim.Native.Nat.{◌-◌, ◌≤◌}
 use mathlib.Core.Path.{◌≡◌}
 use Rattle.model.specs.Count.{every}
 use Rattle.model.specs.Sheet.{note_named}
-use Rattle.sheet.proofs.SizeNames.{counted}
-use Rattle.sheet_questions.proofs.AllLoop.{every_none, every_more, every_all}
-use native.Mathlib.Omega.{arith}
 use Rattle.sheet_questions.proofs.question_5.notes_named.Given as goal
 
 abbrev pub invariant-loop-i : goal.invariant-loop-i

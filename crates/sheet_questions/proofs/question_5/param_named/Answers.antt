@@ -1,7 +1,6 @@
 -- `sheet_questions::param_named` meets its contract. Assumes nothing.
 use Rattle.model.specs.Sheet.{param_named}
 use Rattle.sheet.proofs.SizeNames.{counted}
-use borrow.Author.Rules.{rules}
 use Rattle.sheet_questions.proofs.question_5.param_named.Goals as goal
 
 pub param_kind_at-kind-requires : goal.param_kind_at-kind-requires

@@ -1,7 +1,6 @@
 -- `admit` meets its contract.
 -- Assumes nothing.
 use Rattle.sheet_questions.proofs.AdmissionTests.{refused_before, asked_last_lem}
-use borrow.Author.Rules.{rules}
 use Rattle.sheet_questions.proofs.question_6.admit.Goals as goal
 
 pub returns-in_default : goal.returns-in_default

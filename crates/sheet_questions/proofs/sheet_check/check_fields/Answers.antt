@@ -2,7 +2,6 @@
 use mathlib.Core.Path.{sym, ap, ◌∙◌}
 use mathlib.Core.Bool.{not}
 use Rattle.sheet_questions.proofs.FirstRefusal.{refused_4, refused_5, unrefused}
-use borrow.Author.Rules.{rules}
 use Rattle.sheet_questions.proofs.sheet_check.check_fields.Goals as goal
 
 pub returns-then-not-sums_match : goal.returns-then-not-sums_match

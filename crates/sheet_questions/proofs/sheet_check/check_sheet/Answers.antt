@@ -4,7 +4,6 @@ use Rattle.sheet_questions.proofs.FirstRefusal.{refused_1, refused_2, refused_3}
 use Rattle.sheet.proofs.SizeLimits.{limited_by}
 use Rattle.sheet.proofs.SheetLength.{laid_by, short}
 use native.Mathlib.Omega.{arith}
-use borrow.Author.Rules.{rules}
 use Rattle.sheet_questions.proofs.sheet_check.check_sheet.Goals as goal
 
 pub returns-then-sheet-lt40 : goal.returns-then-sheet-lt40

@@ -1,9 +1,8 @@
 -- `sheet_questions::sums::ranges_taken` meets its contract. Assumes nothing.
-use Prim.Native.Nat.{◌-◌}
 use Rattle.model.specs.Sheet.{ranges_of, first_range}
 use Rattle.sheet.proofs.SizeLimits.{limited}
 use Rattle.sheet.proofs.SizeNames.{counted}
-use Rattle.sheet.proofs.Sums.{SumUpto, added_none, added_more, added_all}
+use Rattle.sheet.proofs.Sums.{added_none, added_more, added_all}
 use native.Mathlib.Omega.{arith}
 use Rattle.sheet_questions.proofs.sums.ranges_taken.Goals as goal
 

@@ -1,10 +1,7 @@
 -- `sheet_questions::sums::slot_kinds_taken` meets its contract. Assumes nothing.
 use Prim.Native.Nat.{◌-◌}
-use Rattle.model.specs.Sheet.{layout_length, layout_start}
-use Rattle.sheet.proofs.SizeLimits.{limited}
-use Rattle.sheet.proofs.SizeNames.{counted}
-use Rattle.sheet.proofs.Sums.{SumUpto, added_none, added_more, added_all}
-use native.Mathlib.Omega.{arith}
+use Rattle.model.specs.Sheet.{layout_length}
+use Rattle.sheet.proofs.Sums.{SumUpto}
 use Rattle.sheet_questions.proofs.sums.slot_kinds_taken.Given as goal
 
 abbrev pub invariant-loop-i : goal.invariant-loop-i

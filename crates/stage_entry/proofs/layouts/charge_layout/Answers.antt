@@ -2,7 +2,6 @@
 use Rattle.model.specs.Parameters.{charge_layout}
 use Rattle.budget.proofs.Spending.{bytes_came}
 use native.Mathlib.Omega.{arith}
-use borrow.Author.Rules.{rules}
 use Rattle.stage_entry.proofs.layouts.charge_layout.Goals as goal
 
 pub returns : goal.returns

@@ -6,7 +6,6 @@ use Rattle.model.specs.Parameters.{charge_layout}
 use Rattle.budget.specs.Outcome.{as_spent}
 use Rattle.budget.proofs.Spending.{first_refused, second_came}
 use Rattle.stage_entry.proofs.LayoutCharges.{no_layouts, two_layouts, one_layout}
-use borrow.Author.Rules.{rules}
 use Rattle.stage_entry.proofs.layouts.charge_layouts.Goals as goal
 
 pub returns-then-cell-lt2 : goal.returns-then-cell-lt2

@@ -5,7 +5,6 @@ use native.Mathlib.Nat.{mul-le-mul}
 use native.Mathlib.Omega.{arith}
 use Rattle.model.specs.Charges.{in_stage}
 use Rattle.budget.proofs.Spending.{bytes_came}
-use borrow.Author.Rules.{rules}
 use Rattle.stage_entry.proofs.matrix.charge_matrix.Goals as goal
 
 pub overflow_mul-amount : goal.overflow_mul-amount

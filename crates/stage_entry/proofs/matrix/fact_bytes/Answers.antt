@@ -2,7 +2,6 @@
 use mathlib.Core.Path.{sym, ap}
 use native.Mathlib.Omega.{arith}
 use Rattle.model.specs.Analyses.{fact_bytes}
-use borrow.Author.Rules.{rules}
 use Rattle.stage_entry.proofs.matrix.fact_bytes.Goals as goal
 
 pub returns-in-Constant : goal.returns-in-Constant

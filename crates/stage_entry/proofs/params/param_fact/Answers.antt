@@ -6,7 +6,6 @@ use Rattle.model.specs.Fact.{Fact}
 use Rattle.model.specs.Tables.{cell_of}
 use Rattle.model.specs.Transfer.{or_unknown, map_fact, queue_fact}
 use Rattle.stage_entry.proofs.ParamFacts.{map_param, queue_param, plain_param}
-use borrow.Author.Rules.{rules}
 use Rattle.stage_entry.proofs.params.param_fact.Goals as goal
 
 pub returns-then-kind-eq1 : goal.returns-then-kind-eq1

@@ -4,7 +4,6 @@ use Rattle.sheet.proofs.SizeLimits.{limited}
 use Rattle.sheet.proofs.SizeNames.{counted}
 use Rattle.stage_entry.proofs.ParamStarts.{no_params_lem, too_wide, too_many, behind_all, no_receiver, behind_closure, nowhere}
 use native.Mathlib.Omega.{arith}
-use borrow.Author.Rules.{rules}
 use Rattle.stage_entry.proofs.params.param_start.Goals as goal
 
 pub returns-then-sizes-eq0 : goal.returns-then-sizes-eq0

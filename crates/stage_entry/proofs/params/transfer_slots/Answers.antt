@@ -1,12 +1,9 @@
 -- `stage_entry::params::transfer_slots` meets its contract: the law of loops that add. Assumes nothing.
-use Prim.Native.Nat.{◌-◌}
-use Rattle.model.specs.Sheet.{param_width}
 use Rattle.model.specs.Parameters.{transfer_slots}
 use Rattle.sheet.proofs.SizeLimits.{limited}
 use Rattle.sheet.proofs.SizeNames.{counted}
-use Rattle.sheet.proofs.Sums.{SumUpto, added_none, added_more, added_all}
+use Rattle.sheet.proofs.Sums.{added_none, added_more, added_all}
 use native.Mathlib.Omega.{arith}
-use borrow.Author.Rules.{rules}
 use Rattle.stage_entry.proofs.params.transfer_slots.Goals as goal
 
 pub loop-i-init : goal.loop-i-init

@@ -3,7 +3,6 @@ use native.Mathlib.Omega.{arith}
 use lib.ListN.{length}
 use Rattle.stage_entry.proofs.RowsMade.{blank_rowed, blanked}
 use Rattle.stage_entry.proofs.FirstRows.{params_refused, notes_refused, notes_covered}
-use borrow.Author.Rules.{rules}
 use Rattle.stage_entry.proofs.row.container_row.Goals as goal
 
 pub returns-in_default : goal.returns-in_default

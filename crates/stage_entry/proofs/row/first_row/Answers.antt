@@ -2,7 +2,6 @@
 use Rattle.sheet.proofs.SizeNames.{counted}
 use Rattle.stage_entry.proofs.FirstRows.{constant_row, index_row, container_row_lem}
 use native.Mathlib.Omega.{arith}
-use borrow.Author.Rules.{rules}
 use Rattle.stage_entry.proofs.row.first_row.Goals as goal
 
 pub returns-in-Constant : goal.returns-in-Constant

@@ -7,7 +7,6 @@ use Rattle.stage_entry.specs.First.{row_laid, zero_row}
 use Rattle.stage_entry.specs.Start.{param_start_of}
 use Rattle.stage_entry.proofs.RowsMade.{blank_lies, blank_rowed}
 use Rattle.stage_entry.proofs.FirstRows.{param_none, param_some}
-use borrow.Author.Rules.{rules}
 use Rattle.stage_entry.proofs.seeds.param_row.Goals as goal
 
 pub returns-in_default : goal.returns-in_default

@@ -1,7 +1,6 @@
 -- `stage_entry::seeds::seed_fact` meets its contract. Assumes nothing.
 use Rattle.stage_entry.proofs.RowsMade.{blanked}
 use Rattle.stage_entry.proofs.ParamSeeds.{seed_covered, seed_refused}
-use borrow.Author.Rules.{rules}
 use Rattle.stage_entry.proofs.seeds.seed_fact.Goals as goal
 
 pub returns-in_default : goal.returns-in_default

@@ -8,7 +8,6 @@ use Rattle.budget.specs.Outcome.{leaves_of}
 use Rattle.stage_entry.specs.First.{row_laid, zero_row}
 use Rattle.stage_entry.proofs.ParamFacts.{brings_none, brings}
 use Rattle.stage_entry.proofs.ParamSeeds.{seed_none}
-use borrow.Author.Rules.{rules}
 use Rattle.stage_entry.proofs.seeds.seed_param.Goals as goal
 
 pub returns-then-cell-eq0 : goal.returns-then-cell-eq0

@@ -1,7 +1,6 @@
 -- `stage_entry::seeds::seed_params` meets its contract: so far all charges were covered. Assumes nothing.
-use Prim.Native.Nat.{ℕ, ◌-◌}
-use mathlib.Core.Path.{◌≡◌, ap, ◌∙◌}
-use Rattle.model.specs.Fact.{Row}
+use Prim.Native.Nat.{ℕ}
+use mathlib.Core.Path.{ap, ◌∙◌}
 use lib.ListN.{length}
 use Rattle.model.specs.Sheet.{param_count}
 use Rattle.model.specs.Parameters.{seed_params}
@@ -9,9 +8,8 @@ use Rattle.budget.specs.Outcome.{leaves_of}
 use Rattle.sheet.proofs.SizeLimits.{limited}
 use Rattle.sheet.proofs.SizeNames.{counted}
 use Rattle.stage_entry.specs.First.{row_laid, zero_row}
-use Rattle.stage_entry.proofs.ParamSeeds.{Seeded, seeded_none, seeded_more, seeded_refused, seeded_all}
+use Rattle.stage_entry.proofs.ParamSeeds.{seeded_none, seeded_more, seeded_refused, seeded_all}
 use native.Mathlib.Omega.{arith}
-use borrow.Author.Rules.{rules}
 use Rattle.stage_entry.proofs.seeds.seed_params.Goals as goal
 
 pub loop-i-init : goal.loop-i-init

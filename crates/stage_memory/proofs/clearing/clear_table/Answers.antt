@@ -2,7 +2,6 @@
 -- Assumes nothing.
 use Rattle.model.specs.Call.{zero_table}
 use Rattle.stage_memory.proofs.RecordEqualities.{table_path}
-use borrow.Author.Rules.{rules}
 use Rattle.stage_memory.proofs.clearing.clear_table.Goals as goal
 
 pub returns : goal.returns

@@ -1,7 +1,6 @@
 -- `clear_table_if` meets its contract.
 -- Assumes nothing.
 use Rattle.stage_memory.proofs.RecordEqualities.{cleared_if, kept_if}
-use borrow.Author.Rules.{rules}
 use Rattle.stage_memory.proofs.clearing.clear_table_if.Goals as goal
 
 pub returns-then-test : goal.returns-then-test

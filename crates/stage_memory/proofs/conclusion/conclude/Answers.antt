@@ -2,7 +2,6 @@
 -- Assumes nothing.
 use mathlib.Core.Path.{sym, ◌∙◌}
 use Rattle.stage_memory.specs.Stage.{counts_if}
-use borrow.Author.Rules.{rules}
 use Rattle.stage_memory.proofs.conclusion.conclude.Goals as goal
 
 pub returns-then-refuses : goal.returns-then-refuses

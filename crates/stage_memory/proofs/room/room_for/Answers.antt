@@ -5,7 +5,6 @@ use native.Mathlib.Omega.{arith}
 use borrow.Author.Tests.{le-leb, lt-leb}
 use Rattle.stage_memory.specs.Room.{room_by}
 use Rattle.stage_memory.proofs.RoomTests.{cells_fit}
-use borrow.Author.Rules.{rules}
 use Rattle.stage_memory.proofs.room.room_for.Goals as goal
 
 pub returns-then-slots-s : goal.returns-then-slots-s

@@ -2,7 +2,6 @@
 -- Assumes nothing.
 use native.Mathlib.Omega.{arith}
 use Rattle.stage_memory.proofs.RoomTests.{cells_fit, no_code, no_slots, some_room}
-use borrow.Author.Rules.{rules}
 use Rattle.stage_memory.proofs.room.work_list_room.Goals as goal
 
 pub returns-then-n-eq0 : goal.returns-then-n-eq0

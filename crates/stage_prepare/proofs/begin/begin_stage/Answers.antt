@@ -6,7 +6,6 @@ use Rattle.sheet.proofs.AcceptedSheet.{measured}
 use Rattle.sheet.proofs.SizeNames.{counted}
 use Rattle.stage_prepare.specs.Prepare.{something}
 use Rattle.stage_prepare.proofs.ClosureSlots.{begin_stopped, few_tracked, tracked_ascend, begin_refused, begin_covered}
-use borrow.Author.Rules.{rules}
 use Rattle.stage_prepare.proofs.begin.begin_stage.Goals as goal
 
 pub tracked_slots-closed-requires : goal.tracked_slots-closed-requires

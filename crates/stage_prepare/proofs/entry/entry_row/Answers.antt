@@ -2,7 +2,6 @@
 -- Assumes nothing.
 use Rattle.sheet.proofs.SizeLimits.{limited}
 use Rattle.stage_prepare.proofs.EntryRow.{enter_refused, enter_covered}
-use borrow.Author.Rules.{rules}
 use Rattle.stage_prepare.proofs.entry.entry_row.Goals as goal
 
 pub charge_matrix-charged-requires : goal.charge_matrix-charged-requires

@@ -2,7 +2,6 @@
 -- Assumes nothing.
 use Rattle.stage_prepare.proofs.ZeroFronts.{cleared_zero}
 use Rattle.stage_prepare.proofs.PreparedOutcome.{prepared_none, prepared_begun}
-use borrow.Author.Rules.{rules}
 use Rattle.stage_prepare.proofs.preparation.prepare.Goals as goal
 
 pub returns-in_default : goal.returns-in_default

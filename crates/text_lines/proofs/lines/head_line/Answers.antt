@@ -1,7 +1,6 @@
 -- `text_lines::head_line` meets its contract. Assumes nothing.
 use Rattle.model.specs.Listing.{ascii, decimal, space, newline, head_line}
 use Rattle.text_lines.proofs.TextWritten.{then, then_two}
-use borrow.Author.Rules.{rules}
 use Rattle.text_lines.proofs.lines.head_line.Goals as goal
 
 pub returns : goal.returns

@@ -2,7 +2,6 @@
 use mathlib.Core.Path.{refl}
 use Rattle.model.specs.Listing.{ascii, analysis_name}
 use Rattle.text_lines.proofs.TextWritten.{reword}
-use borrow.Author.Rules.{rules}
 use native.Mathlib.Omega.{arith}
 use Rattle.text_lines.proofs.lines.put_name.Goals as goal
 

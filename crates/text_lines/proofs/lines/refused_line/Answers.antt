@@ -1,7 +1,6 @@
 -- `text_lines::refused_line` meets its contract. Assumes nothing.
 use Rattle.model.specs.Listing.{ascii, newline, refused_line}
 use Rattle.text_lines.proofs.TextWritten.{then}
-use borrow.Author.Rules.{rules}
 use Rattle.text_lines.proofs.lines.refused_line.Goals as goal
 
 pub returns : goal.returns

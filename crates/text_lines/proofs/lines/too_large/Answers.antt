@@ -1,6 +1,5 @@
 -- `text_lines::too_large` meets its contract. Assumes nothing.
 use Rattle.model.specs.Listing.{ascii, too_large}
-use borrow.Author.Rules.{rules}
 use Rattle.text_lines.proofs.lines.too_large.Goals as goal
 
 pub returns : goal.returns

@@ -2,7 +2,7 @@
 use mathlib.Core.Path.{refl}
 use Rattle.model.specs.Listing.{ascii}
 use Rattle.text_lines.proofs.TextWritten.{reword}
-use Rattle.text_lines.proofs.Decimals.{DigitsFound, found_start, found_above, found_turn, found_all, zero_digit}
+use Rattle.text_lines.proofs.Decimals.{found_start, found_above, found_turn, found_all, zero_digit}
 use native.Mathlib.Omega.{arith}
 use Rattle.text_lines.proofs.words.put_decimal.Goals as goal
 

@@ -1,8 +1,8 @@
 -- `text_lines::put_from` meets its contract. Assumes nothing.
 use mathlib.Core.Path.{◌≡◌, refl, sym, ◌∙◌}
-use Prim.Native.Nat.{◌+◌, ◌-◌, ◌≤◌}
+use Prim.Native.Nat.{◌+◌, ◌-◌}
 use lib.ListN.{length, drop, length-drop, length-set}
-use lib.Seq.{get_or-drop, paste, paste-zero}
+use lib.Seq.{get_or-drop, paste-zero}
 use Rattle.text_lines.proofs.TextWritten.{byte_more, text_written}
 use native.Mathlib.Omega.{arith}
 use Rattle.text_lines.proofs.words.put_from.Goals as goal

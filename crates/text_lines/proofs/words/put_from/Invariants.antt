@@ -1,10 +1,8 @@
 -- `text_lines::put_from` meets its contract. Assumes nothing.
-use mathlib.Core.Path.{◌≡◌, refl, sym, ◌∙◌}
-use Prim.Native.Nat.{◌+◌, ◌-◌, ◌≤◌}
-use lib.ListN.{length, drop, length-drop, length-set}
-use lib.Seq.{get_or-drop, paste, paste-zero}
-use Rattle.text_lines.proofs.TextWritten.{byte_more, text_written}
-use native.Mathlib.Omega.{arith}
+use mathlib.Core.Path.{◌≡◌}
+use Prim.Native.Nat.{◌-◌, ◌≤◌}
+use lib.ListN.{length, drop}
+use lib.Seq.{paste}
 use Rattle.text_lines.proofs.words.put_from.Given as goal
 
 abbrev pub invariant-loop-i : goal.invariant-loop-i

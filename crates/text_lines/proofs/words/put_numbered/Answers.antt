@@ -1,6 +1,5 @@
 -- `text_lines::put_numbered` meets its contract: the numbers behind the word. Assumes nothing.
 use Rattle.text_lines.proofs.TextWritten.{then}
-use borrow.Author.Rules.{rules}
 use Rattle.text_lines.proofs.words.put_numbered.Goals as goal
 
 pub returns : goal.returns

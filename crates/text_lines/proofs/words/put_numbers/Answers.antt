@@ -1,8 +1,5 @@
 -- `text_lines::put_numbers` meets its contract: one number behind the other. Assumes nothing.
-use Prim.Native.Nat.{◌-◌, ◌*◌, ◌≤◌}
 use native.Mathlib.Omega.{arith}
-use lib.ListN.{length, take}
-use Rattle.text_lines.specs.Text.{Added, spaced_all}
 use Rattle.text_lines.proofs.SpacedNumbers.{none, more, all}
 use Rattle.text_lines.proofs.words.put_numbers.Goals as goal
 

@@ -1,7 +1,6 @@
 -- `text_lines::put_spaced` meets its contract. Assumes nothing.
 use Rattle.model.specs.Listing.{ascii, space}
 use Rattle.text_lines.proofs.TextWritten.{then}
-use borrow.Author.Rules.{rules}
 use Rattle.text_lines.proofs.words.put_spaced.Goals as goal
 
 pub returns : goal.returns

@@ -2,7 +2,6 @@
 use native.Mathlib.Omega.{arith}
 use Rattle.text_facts.specs.Text.{fact_text_by}
 use Rattle.text_listing.proofs.RowLines.{rows_short, analysis_written}
-use borrow.Author.Rules.{rules}
 use Rattle.text_listing.proofs.answer.analysis_lines.Goals as goal
 
 pub rows_lines-requires : goal.rows_lines-requires

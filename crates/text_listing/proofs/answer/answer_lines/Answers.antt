@@ -1,16 +1,13 @@
 -- `text_listing::answer::answer_lines` meets its contract. Assumes nothing.
 use mathlib.Core.Path.{sym, ap, ◌∙◌, subst}
-use mathlib.Core.List.{List}
-use Prim.Native.Nat.{ℕ}
 use native.Mathlib.Omega.{arith}
 use Rattle.model.specs.declared.Counts.{Counts}
 use Rattle.model.specs.declared.Answer.{Answer}
 use Rattle.text_listing.specs.Rows.{printed_analysis}
-use Rattle.model.specs.Call.{Table, table}
+use Rattle.model.specs.Call.{table}
 use Rattle.text_listing.specs.Answer.{Listable, answer_part}
 use Rattle.text_facts.specs.Text.{fact_text_by}
 use Rattle.text_lines.proofs.TextWritten.{reword, no_text}
-use borrow.Author.Rules.{rules}
 use Rattle.text_listing.proofs.answer.answer_lines.Goals as goal
 
 pub analysis_lines-requires : goal.analysis_lines-requires

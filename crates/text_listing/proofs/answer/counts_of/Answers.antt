@@ -1,6 +1,5 @@
 -- `text_listing::answer::counts_of` meets its contract. Assumes nothing.
 use Rattle.text_listing.specs.Answer.{choose}
-use borrow.Author.Rules.{rules}
 use Rattle.text_listing.proofs.answer.counts_of.Goals as goal
 
 pub returns-in-Constant : goal.returns-in-Constant

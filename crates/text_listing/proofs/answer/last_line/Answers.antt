@@ -3,7 +3,6 @@ use mathlib.Core.Path.{sym, ap}
 use native.Mathlib.Omega.{arith}
 use Rattle.text_listing.specs.Answer.{last_line}
 use Rattle.text_lines.proofs.TextWritten.{reword}
-use borrow.Author.Rules.{rules}
 use Rattle.text_listing.proofs.answer.last_line.Goals as goal
 
 pub returns-in-Analyzed : goal.returns-in-Analyzed

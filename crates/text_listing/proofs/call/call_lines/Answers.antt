@@ -1,7 +1,6 @@
 -- `text_listing::call::call_lines` meets its contract. Assumes nothing.
 use native.Mathlib.Omega.{arith}
 use Rattle.text_listing.proofs.AnswerText.{text_added}
-use borrow.Author.Rules.{rules}
 use Rattle.text_listing.proofs.call.call_lines.Goals as goal
 
 -- ---- needs

@@ -2,7 +2,6 @@
 use Rattle.model.specs.Listing.{ascii, decimal, space, newline}
 use Rattle.text_listing.specs.Rows.{cell_line}
 use Rattle.text_lines.proofs.TextWritten.{then, then_two}
-use borrow.Author.Rules.{rules}
 use Rattle.text_listing.proofs.rows.cell_line.Goals as goal
 
 pub returns : goal.returns

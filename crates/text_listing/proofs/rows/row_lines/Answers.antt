@@ -1,8 +1,6 @@
 -- `text_listing::rows::row_lines` meets its contract. Assumes nothing.
-use Prim.Native.Nat.{◌-◌, ◌≤◌}
-use lib.ListN.{length}
 use Rattle.text_facts.specs.Text.{fact_text_by}
-use Rattle.text_listing.proofs.CellLines.{CellsListed, listed_none, listed_more, listed_all, listed_nothing}
+use Rattle.text_listing.proofs.CellLines.{listed_none, listed_more, listed_all, listed_nothing}
 use native.Mathlib.Omega.{arith}
 use Rattle.text_listing.proofs.rows.row_lines.Goals as goal
 

@@ -2,8 +2,7 @@
 use Prim.Native.Nat.{◌-◌, ◌≤◌}
 use lib.ListN.{length}
 use Rattle.text_facts.specs.Text.{fact_text_by}
-use Rattle.text_listing.proofs.CellLines.{CellsListed, listed_none, listed_more, listed_all, listed_nothing}
-use native.Mathlib.Omega.{arith}
+use Rattle.text_listing.proofs.CellLines.{CellsListed}
 use Rattle.text_listing.proofs.rows.row_lines.Given as goal
 
 abbrev pub invariant-loop-j : goal.invariant-loop-j

@@ -8,7 +8,7 @@ use native.Mathlib.Numerals.{add-one}
 use lib.ListN.{length, take, drop, length-take, length-drop}
 use lib.Seq.{length-take-le}
 use Rattle.text_facts.specs.Text.{fact_text_by}
-use Rattle.text_listing.proofs.RowLines.{Walked, row_fits, walked_none, walked_more}
+use Rattle.text_listing.proofs.RowLines.{row_fits, walked_none, walked_more}
 use Rattle.text_listing.proofs.rows.rows_lines.Goals as goal
 
 part-long : (s at : ℕ) (slots table : List ℕ) → s ≤ length slots → at + s ≤ length table → length (take (at + s - at) (drop at table)) ≡ length (take s slots)

@@ -1,14 +1,8 @@
 -- `text_listing::rows::rows_lines` meets its contract. Assumes nothing.
-use mathlib.Core.List.{List}
-use mathlib.Core.Path.{◌≡◌, sym}
-use Prim.Native.Nat.{ℕ, ◌≤◌, ◌+◌, ◌*◌, ◌-◌}
-use native.Mathlib.Omega.{arith}
-use native.Mathlib.Nat.{suc-mul, zero-mul}
-use native.Mathlib.Numerals.{add-one}
-use lib.ListN.{length, take, drop, length-take, length-drop}
-use lib.Seq.{length-take-le}
+use mathlib.Core.Path.{◌≡◌}
+use Prim.Native.Nat.{◌≤◌, ◌*◌, ◌-◌}
 use Rattle.text_facts.specs.Text.{fact_text_by}
-use Rattle.text_listing.proofs.RowLines.{Walked, row_fits, walked_none, walked_more}
+use Rattle.text_listing.proofs.RowLines.{Walked}
 use Rattle.text_listing.proofs.rows.rows_lines.Given as goal
 
 abbrev pub invariant-loop-pc : goal.invariant-loop-pc

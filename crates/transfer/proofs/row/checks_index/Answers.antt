@@ -1,6 +1,5 @@
 -- `transfer::row::checks_index` meets its contract: by the analysis. Assumes nothing.
 use mathlib.Core.Path.{sym, ap}
-use borrow.Author.Rules.{rules}
 use Rattle.model.specs.declared.AnalysisKind.{AnalysisKind}
 use Rattle.transfer.specs.Analysis.{checks_index}
 use Rattle.transfer.proofs.row.checks_index.Goals as goal

@@ -1,5 +1,4 @@
 -- `transfer::row::set_checked` meets its contract: IndexCheck puts its fact, any other leaves the row. Assumes nothing.
-use borrow.Author.Rules.{rules}
 use Rattle.transfer.proofs.RowTransfers.{index_checked_lem, not_checked}
 use Rattle.transfer.proofs.row.set_checked.Goals as goal
 

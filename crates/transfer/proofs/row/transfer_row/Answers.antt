@@ -2,7 +2,6 @@
 use mathlib.Core.Path.{sym, ap, ◌∙◌, subst}
 use lib.ListN.{length}
 use native.Mathlib.Omega.{arith}
-use borrow.Author.Rules.{rules}
 use Rattle.model.specs.Tables.{facts_of}
 use Rattle.sheet.proofs.AcceptedSheet.{measured}
 use Rattle.sheet.proofs.FieldBounds.{code_inside}
@@ -27,11 +26,17 @@ copy_u64-requires c = c.requires.readable_row.0.values_long ∙ sym c.requires.r
 
 pub write_slots-requires : goal.write_slots-requires
 write_slots-requires c =
-    record { measured = (measured c.requires.accepted.0, (let came : let s = c.args in
-    SlotsAre c.slots_written-written.result s.sheet.now s.sizes (slot_written s.which s.sheet.now s.pc s.slots.now (facts_of s.kinds.now s.values.now)) = let s = c.args in
-    subst (λ (w : Written). SlotsAre w s.sheet.now s.sizes (slot_written s.which s.sheet.now s.pc s.slots.now (facts_of s.kinds.now s.values.now)))
-    (sym c.slots_written-written.ensures)
-    (written_are c.requires.accepted.0 c.args.pc c.requires.accepted.2 c.args.which c.args.slots.now (facts_of c.args.kinds.now c.args.values.now)) in came).fits); readable_row = (c.requires.readable_row.0, ap length c.copy_u8.ensures ∙ c.requires.readable_row.0.kinds_long, ap length c.copy_u64.ensures ∙ c.requires.readable_row.0.values_long) }
+    record {
+      measured = (
+        measured c.requires.accepted.0,
+        (let came : let s = c.args in
+            SlotsAre c.slots_written-written.result s.sheet.now s.sizes (slot_written s.which s.sheet.now s.pc s.slots.now (facts_of s.kinds.now s.values.now)) = let s = c.args in
+            subst (λ (w : Written). SlotsAre w s.sheet.now s.sizes (slot_written s.which s.sheet.now s.pc s.slots.now (facts_of s.kinds.now s.values.now)))
+            (sym c.slots_written-written.ensures)
+            (written_are c.requires.accepted.0 c.args.pc c.requires.accepted.2 c.args.which c.args.slots.now (facts_of c.args.kinds.now c.args.values.now)) in came).fits,
+      );
+      readable_row = (c.requires.readable_row.0, ap length c.copy_u8.ensures ∙ c.requires.readable_row.0.kinds_long, ap length c.copy_u64.ensures ∙ c.requires.readable_row.0.values_long);
+    }
 
 pub set_checked-requires : goal.set_checked-requires
 set_checked-requires c =

@@ -1,11 +1,6 @@
 -- `transfer::write_range` meets its contract: the slots before the range are left, those in it are written, and those behind it are left. Assumes nothing.
-use Prim.Native.Nat.{◌-◌}
 use native.Mathlib.Omega.{arith}
-use lib.ListN.{length}
-use borrow.Author.Rules.{rules}
-use Rattle.model.specs.Tables.{facts_of}
-use Rattle.transfer_facts.specs.Effect.{effect_cell}
-use Rattle.transfer.proofs.RangeWrites.{Writing, writing_start, writing_more, written_all, written_range, wrote_beyond, last_below}
+use Rattle.transfer.proofs.RangeWrites.{writing_start, writing_more, written_all, written_range, wrote_beyond, last_below}
 use Rattle.transfer.proofs.rows.write_range.Goals as goal
 
 pub returns-then-last-start : goal.returns-then-last-start

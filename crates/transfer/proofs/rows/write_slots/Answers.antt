@@ -1,11 +1,7 @@
 -- `transfer::write_slots` meets its contract: each turn is one range more. Assumes nothing.
 use mathlib.Core.Path.{refl}
-use Prim.Native.Nat.{◌-◌}
 use native.Mathlib.Omega.{arith}
-use borrow.Author.Rules.{rules}
-use Rattle.model.specs.Tables.{facts_of}
-use Rattle.transfer_facts.specs.Effect.{effect_cell}
-use Rattle.transfer.proofs.RangeWrites.{wrote_nowhere, Ranging, ranging_start, ranging_more, ranging_all}
+use Rattle.transfer.proofs.RangeWrites.{wrote_nowhere, ranging_start, ranging_more, ranging_all}
 use Rattle.transfer.proofs.rows.write_slots.Goals as goal
 
 pub returns-then-len-eq0 : goal.returns-then-len-eq0

@@ -2,7 +2,6 @@
 use mathlib.Core.Path.{ap, ap₂, ◌∙◌}
 use Prim.Native.Nat.{ℕ}
 use lib.IntN.{ℤ}
-use borrow.Author.Rules.{rules}
 use Rattle.model.specs.Fact.{Fact}
 use Rattle.model.specs.Tables.{cell_of, facts_of}
 use Rattle.model.specs.Transfer.{fact_for, integer, load_const, fold_binary, u64_fact, shl, or}

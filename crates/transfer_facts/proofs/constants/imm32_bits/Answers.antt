@@ -1,7 +1,6 @@
 -- `transfer_facts::imm32_bits` meets its contract: the same number at 32 and at 64 bits. Assumes nothing.
 use Prim.Native.Nat.{◌+◌, ◌*◌}
 use native.Mathlib.Omega.{arith}
-use borrow.Author.Rules.{rules}
 use Rattle.model.specs.Successors.{imm32}
 use Rattle.transfer_facts.proofs.ConstantFacts.{lower_half, upper_half}
 use Rattle.transfer_facts.proofs.constants.imm32_bits.Goals as goal

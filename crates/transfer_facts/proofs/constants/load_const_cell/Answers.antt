@@ -1,6 +1,5 @@
 -- `transfer_facts::load_const_cell` meets its contract: past the table, of another kind, or an integer. Assumes nothing.
 use mathlib.Core.Path.{ap, ◌∙◌}
-use borrow.Author.Rules.{rules}
 use Rattle.model.specs.Tables.{cell_of}
 use Rattle.transfer_facts.proofs.ConstantFacts.{const_past, const_other, const_loaded}
 use Rattle.transfer_facts.proofs.constants.load_const_cell.Goals as goal

@@ -1,6 +1,5 @@
 -- `transfer_facts::shl_cell` meets its contract: by the kinds of the two cells, and the shift. Assumes nothing.
 use mathlib.Core.Path.{ap, ◌∙◌}
-use borrow.Author.Rules.{rules}
 use Rattle.model.specs.Fact.{kind, value}
 use Rattle.model.specs.Tables.{cell_of}
 use Rattle.model.specs.Transfer.{shl}

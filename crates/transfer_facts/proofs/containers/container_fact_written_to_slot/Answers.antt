@@ -1,7 +1,6 @@
 -- `transfer_facts::container_fact_written_to_slot` meets its contract: each opcode takes its rule; of any other the note gives the fact, or none. Assumes nothing.
 use mathlib.Core.Path.{ap, ◌∙◌}
 use Prim.Native.Nat.{ℕ}
-use borrow.Author.Rules.{rules}
 use Rattle.model.specs.Fact.{Fact}
 use Rattle.model.specs.Tables.{cell_of, facts_of}
 use Rattle.model.specs.Transfer.{fact_for, iter_init}

@@ -1,6 +1,5 @@
 -- `transfer_facts::iter_init_cell` meets its contract: by the kind of b's cell. Assumes nothing.
 use mathlib.Core.Path.{ap, ◌∙◌}
-use borrow.Author.Rules.{rules}
 use Rattle.model.specs.Fact.{kind, value}
 use Rattle.model.specs.Tables.{cell_of, fact_in}
 use Rattle.transfer_facts.proofs.IteratorFacts.{init_map, init_other}

@@ -1,7 +1,6 @@
 -- `transfer_facts::effects::container_effect` meets its contract: MapIterNext by its range, any other by its target. Assumes nothing.
 use mathlib.Core.Path.{ap, ◌∙◌}
 use Prim.Native.Nat.{ℕ}
-use borrow.Author.Rules.{rules}
 use Rattle.model.specs.Fact.{Fact}
 use Rattle.model.specs.Tables.{cell_of, facts_of}
 use Rattle.model.specs.Transfer.{fact_for, iter_next}

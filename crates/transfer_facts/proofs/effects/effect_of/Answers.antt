@@ -1,6 +1,5 @@
 -- `transfer_facts::effects::effect_of` meets its contract: CopyN by one law, any other by its analysis. Assumes nothing.
 use mathlib.Core.Path.{sym, ap, ◌∙◌}
-use borrow.Author.Rules.{rules}
 use Rattle.model.specs.Tables.{facts_of}
 use Rattle.model.specs.declared.AnalysisKind.{AnalysisKind}
 use Rattle.transfer_facts.specs.Effect.{effect_of}

@@ -1,5 +1,4 @@
 -- `transfer_facts::effects::effect_on_slot` meets its contract: by where the slot lies from the effect's range. Assumes nothing.
-use borrow.Author.Rules.{rules}
 use Rattle.model.specs.Tables.{facts_of}
 use Rattle.transfer_facts.proofs.SlotEffects.{filled_outside, filled_past, filled_inside, copied_outside, copied_past, copied_inside}
 use Rattle.transfer_facts.proofs.effects.effect_on_slot.Goals as goal

@@ -1,7 +1,6 @@
 -- `transfer_facts::index::index_check_fact_written_to_slot` meets its contract: Copy by its rule; of any other both tests fail. Assumes nothing.
 use mathlib.Core.Path.{ap, ◌∙◌}
 use Prim.Native.Nat.{ℕ}
-use borrow.Author.Rules.{rules}
 use Rattle.model.specs.Tables.{cell_of, facts_of}
 use Rattle.model.specs.Transfer.{fact_for}
 use Rattle.transfer_facts.proofs.EffectRules.{copies_index, no_index}

@@ -1,6 +1,5 @@
 -- `transfer_written::elements::elem_slots` meets its contract: with the note and without it.
 -- Assumes nothing.
-use borrow.Author.Rules.{rules}
 use Rattle.transfer_written.proofs.NoteElements.{note_elements, flag_elements}
 use Rattle.transfer_written.proofs.elements.elem_slots.Goals as goal
 

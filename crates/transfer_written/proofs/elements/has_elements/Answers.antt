@@ -1,6 +1,5 @@
 -- `transfer_written::elements::has_elements` meets its contract: with the note and without it.
 -- Assumes nothing.
-use borrow.Author.Rules.{rules}
 use Rattle.transfer_written.proofs.NoteElements.{elements, no_elements}
 use Rattle.transfer_written.proofs.elements.has_elements.Goals as goal
 

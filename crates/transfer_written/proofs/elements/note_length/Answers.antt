@@ -1,7 +1,6 @@
 -- `transfer_written::elements::note_length` meets its contract: two readers.
 -- Assumes nothing.
 use mathlib.Core.Path.{ap, ◌∙◌}
-use borrow.Author.Rules.{rules}
 use Rattle.model.specs.Sheet.{layout_length}
 use Rattle.transfer_written.proofs.elements.note_length.Goals as goal
 

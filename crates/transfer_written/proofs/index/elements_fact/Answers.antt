@@ -1,7 +1,5 @@
 -- `transfer_written::index::elements_fact` meets its contract: by the opcode. Assumes nothing.
 use mathlib.Core.Logic.{⊎_elim}
-use borrow.Author.Rules.{rules}
-use borrow.Author.Tests.{eqb-true, eqb-false}
 use Rattle.model.specs.Tables.{facts_of}
 use Rattle.transfer_written.proofs.Spans.{set_elements, setn_elements, no_elements_fact}
 use Rattle.transfer_written.proofs.index.elements_fact.Goals as goal

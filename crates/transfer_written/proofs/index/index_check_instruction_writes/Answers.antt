@@ -1,5 +1,4 @@
 -- `transfer_written::index::index_check_instruction_writes` meets its contract: SlotSet and SlotSetN by a Checked b, any other as in the other analyses. Assumes nothing.
-use borrow.Author.Rules.{rules}
 use Rattle.model.specs.Tables.{fact_in}
 use Rattle.sheet.proofs.AcceptedSheet.{measured}
 use Rattle.transfer_written.proofs.Spans.{unchecked_spans, checked_spans, checked_n_spans, as_other_spans}
@@ -24,8 +23,8 @@ pub returns : goal.returns
 unfolding fact_in
 returns c =
     elim c.if-before-gt1.branch [
-      then-before-gt1+else-op-eq-SLOT_SET+else-op-eq-SLOT_SET_N w ↦
-        as_other_spans c.args.sheet.now c.args.pc c.args.inst c.requires.inst_value _ w.if-op-eq-SLOT_SET.false w.if-op-eq-SLOT_SET_N.false c.instruction_writes.ensures
-    | else-before-gt1 w ↦
-        unchecked_spans c.args.sheet.now c.args.pc c.args.inst c.requires.inst_value c.args.before.kind c.args.before.value w.if-before-gt1.false c.instruction_writes.ensures
+      | then-before-gt1+else-op-eq-SLOT_SET+else-op-eq-SLOT_SET_N w ↦
+          as_other_spans c.args.sheet.now c.args.pc c.args.inst c.requires.inst_value _ w.if-op-eq-SLOT_SET.false w.if-op-eq-SLOT_SET_N.false c.instruction_writes.ensures
+      | else-before-gt1 w ↦
+          unchecked_spans c.args.sheet.now c.args.pc c.args.inst c.requires.inst_value c.args.before.kind c.args.before.value w.if-before-gt1.false c.instruction_writes.ensures
     ]

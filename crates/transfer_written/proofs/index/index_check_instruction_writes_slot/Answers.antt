@@ -1,7 +1,6 @@
 -- `transfer_written::index::index_check_instruction_writes_slot` meets its contract: the slots that are found are those that are written. Assumes nothing.
 use mathlib.Core.Path.{◌∙◌}
 use native.Mathlib.Omega.{arith}
-use borrow.Author.Rules.{rules}
 use Rattle.model.specs.Tables.{fact_in}
 use Rattle.sheet.proofs.AcceptedSheet.{measured}
 use Rattle.transfer_written.proofs.WrittenSlots.{index_spans_are}

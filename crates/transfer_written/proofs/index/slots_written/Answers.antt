@@ -1,5 +1,4 @@
 -- `transfer_written::index::slots_written` meets its contract: by the analysis. Assumes nothing.
-use borrow.Author.Rules.{rules}
 use Rattle.model.specs.Tables.{facts_of}
 use Rattle.transfer_written.proofs.Spans.{constant_spans, container_spans, index_spans_lem}
 use Rattle.transfer_written.proofs.index.slots_written.Goals as goal

@@ -1,8 +1,6 @@
 -- `transfer_written::ranges::holds` meets its contract. The loop's invariant: the ranges passed do not hold the slot. Assumes nothing.
-use Prim.Native.Nat.{◌-◌}
 use native.Mathlib.Omega.{arith}
-use borrow.Author.Rules.{rules}
-use Rattle.transfer_written.proofs.RangeLoop.{NoneHolds, none_yet, none_more, none_of_all, one_holds}
+use Rattle.transfer_written.proofs.RangeLoop.{none_yet, none_more, none_of_all, one_holds}
 use Rattle.transfer_written.proofs.ranges.holds.Goals as goal
 
 pub loop-i-init : goal.loop-i-init

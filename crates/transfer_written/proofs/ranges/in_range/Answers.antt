@@ -1,6 +1,5 @@
 -- `transfer_written::ranges::in_range` meets its contract: a slot before the start, and one from it on.
 -- Assumes nothing.
-use borrow.Author.Rules.{rules}
 use Rattle.transfer_written.proofs.RangeTests.{starts_before, from_start}
 use Rattle.transfer_written.proofs.ranges.in_range.Goals as goal
 

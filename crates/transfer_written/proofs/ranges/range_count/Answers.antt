@@ -1,5 +1,4 @@
 -- `transfer_written::ranges::range_count` meets its contract. Assumes nothing.
-use borrow.Author.Rules.{rules}
 use Rattle.transfer_written.proofs.RangeLoop.{span_count, ranges_count}
 use Rattle.transfer_written.proofs.ranges.range_count.Goals as goal
 

@@ -1,6 +1,5 @@
 -- `transfer_written::ranges::range_of` meets its contract. Assumes nothing.
 use native.Mathlib.Omega.{arith}
-use borrow.Author.Rules.{rules}
 use Rattle.sheet.proofs.SizeLimits.{limited}
 use Rattle.transfer_written.proofs.RangeLoop.{span_range, range_inside, sheet_range}
 use Rattle.transfer_written.proofs.ranges.range_of.Goals as goal

@@ -1,7 +1,6 @@
 -- `transfer_written::ranges::ranges_written` meets its contract: all slots, or those of the instruction's ranges. Assumes nothing.
 use mathlib.Core.Path.{◌∙◌}
 use native.Mathlib.Omega.{arith}
-use borrow.Author.Rules.{rules}
 use Rattle.sheet.proofs.AcceptedSheet.{measured}
 use Rattle.transfer_written.proofs.Spans.{in_code, in_firsts, all_spans, own_spans}
 use Rattle.transfer_written.proofs.ranges.ranges_written.Goals as goal

@@ -1,5 +1,4 @@
 -- `transfer_written::slots::instruction_writes` meets its contract: by the opcode, and for SlotSetN by its note. Assumes nothing.
-use borrow.Author.Rules.{rules}
 use Rattle.sheet.proofs.AcceptedSheet.{measured}
 use Rattle.transfer_written.proofs.Spans.{set_spans, element_spans_lem, no_spans, other_spans}
 use Rattle.transfer_written.proofs.slots.instruction_writes.Goals as goal

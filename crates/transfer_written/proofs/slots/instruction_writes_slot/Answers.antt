@@ -1,7 +1,6 @@
 -- `transfer_written::slots::instruction_writes_slot` meets its contract: the slots that are found are those that are written. Assumes nothing.
 use mathlib.Core.Path.{◌∙◌}
 use native.Mathlib.Omega.{arith}
-use borrow.Author.Rules.{rules}
 use Rattle.sheet.proofs.AcceptedSheet.{measured}
 use Rattle.transfer_written.proofs.WrittenSlots.{spans_are}
 use Rattle.transfer_written.proofs.slots.instruction_writes_slot.Goals as goal
