@@ -121,6 +121,8 @@ def main():
         for crate in sorted(crates):
             print(f"{crate}: " + ", ".join(f"{w} {spelled(w)}" for w in sorted(crates[crate])))
         return
+    if glob.glob("crates/*/proofs/**/Answers.antt", recursive=True):
+        sys.exit("respell: proofs/ has answers, so the names have been turned already")
     for path in statements():
         turn(path, statement, names)
     for path in glob.glob("crates/*/src/**/*.rt", recursive=True):

@@ -1,10 +1,33 @@
 -- Answers of `read`, and a buffer that is filled piece by piece.
 -- Assumes nothing.
-use Rattle.std.proofs.Common.{◌≡◌, refl, sym, ap, ap₂, ◌∙◌, true, false, List, ◌++◌, append_assoc, ℕ, ◌+◌, ◌≤◌, arith, ℤ, pos, negsuc, length, take, drop, length-append, length-take-le, take_at, drop_at, drop-drop}
-use Rattle.std.proofs.lemmas.Bool.{false≢true}
+use mathlib.Core.Path.{◌≡◌, refl, sym, ap, ap₂, ◌∙◌}
+use mathlib.Core.Bool.{true, false, false≢true}
+use mathlib.Core.List.{List, ◌++◌, append_assoc}
+use Prim.Native.Nat.{ℕ, ◌+◌, ◌≤◌, ◌<◌, min}
+use native.Mathlib.Omega.{arith}
+use lib.IntN.{ℤ, pos, negsuc, nat_abs}
+use lib.ListN.{length, take, drop, length-append, take-append-drop}
+use lib.Seq.{length-take-le, take_at, drop_at, drop-drop, drop-append-le}
+use lib.Signed.{lt_z}
+use borrow.Author.Tests.{ltb-true}
+use Rattle.io.specs.Counts.{IsPrefixLen}
 use Rattle.text_lines.specs.Text.{Added}
 use Rattle.check_input.specs.Answered.{answered_of}
 use Rattle.check_input.specs.declared.Input.{Input}
+
+-- ---- an answer
+
+-- below 0
+pub failed_is : (z : ℤ) (most : ℕ) → lt_z z (pos 0) ≡ true → record { count = 0; failed = true } ≡ answered_of z most
+unfolding answered_of
+failed_is (pos k) most e = absurd (omega (arith, ltb-true k 0 e))
+failed_is (negsuc k) most e = refl
+
+-- from 0 up
+pub came_is : (z : ℤ) (most count : ℕ) → lt_z z (pos 0) ≡ false → count ≡ min (nat_abs z) most → record { count = count; failed = false } ≡ answered_of z most
+unfolding answered_of
+came_is (pos k) most count e h = rw h
+came_is (negsuc k) most count e h = absurd (let z : ◌≡◌ {A = ℕ} 0 1 = cc in omega arith)
 
 -- a failed read moves nothing
 pub failed_none : (z : ℤ) (most : ℕ) (r : Input) → r ≡ answered_of z most → r.failed ≡ true → r.count ≡ 0
@@ -34,3 +57,22 @@ module _ (piece old new : List ℕ) (to count next most : ℕ) (h : to ≤ lengt
 -- what lies behind stays behind
 pub still_behind : (old mid new : List ℕ) (done count : ℕ) → drop done mid ≡ drop done old → drop (done + count) new ≡ drop (done + count) mid → drop (done + count) new ≡ drop (done + count) old
 still_behind old mid new done count e k = k ∙ sym (drop-drop count done mid) ∙ ap (drop count) e ∙ drop-drop count done old
+
+pub counts_first : (count : ℕ) (bytes : List ℕ) → count ≤ length bytes → IsPrefixLen count bytes
+counts_first count bytes h = (h, sym (length-take-le count bytes h))
+
+-- ---- the front of a buffer
+
+-- r bytes of the first count ones came
+pub front_read : (front buffer : List ℕ) (count r : ℕ) → count ≤ length buffer → length front ≡ length (take count buffer) → r ≤ length front → drop r front ≡ drop r (take count buffer)
+    → IsPrefixLen r (front ++ drop count buffer) × (r ≤ count) × (drop r (front ++ drop count buffer) ≡ drop r buffer) × (length buffer < count → r ≡ 0)
+front_read front buffer count r h e k same =
+    let t = length-take-le count buffer h in (
+      counts_first r (front ++ drop count buffer) (omega (arith, length-append front (drop count buffer))),
+      omega arith,
+      drop-append-le r front (drop count buffer) k
+          ∙ ap (λ (x : List ℕ). x ++ drop count buffer) same
+          ∙ sym (drop-append-le r (take count buffer) (drop count buffer) (omega arith))
+          ∙ ap (drop r) (take-append-drop count buffer),
+      λ l. absurd (omega arith),
+    )
