@@ -9,7 +9,8 @@ fn main(rt: HostRuntime) {
     list_input(&mut rt.stdin(), &mut rt.stdout());
 }
 
-// Answers whether the sheet came and all of its listing was written: nothing is written behind a gap.
+// Answers whether the sheet came and all of its listing was written: nothing is written behind a gap. A write that a signal interrupts before it moves a
+// byte is made again.
 fn list_input<R: Read, W: Write>(input: &mut R, output: &mut W) -> bool {
     // One byte more than the longest sheet that is not too large: of a longer input the rest may be left unread.
     let mut sheet = [0u8; 65537];
