@@ -6,14 +6,15 @@ use native.Mathlib.Omega.{arith}
 use Prim.Native.Nat.{ℕ}
 use Rattle.model.specs.Charges.{Refusal, over_budget, no_room, Spent, ok, stop, unfinished, Metered, continue}
 use Rattle.model.specs.declared.VerifierResources.{VerifierResources}
-use Rattle.budget.specs.Outcome.{refused_by, as_spent, Leaves, leaves, leaves_of}
-use Rattle.budget.specs.declared.Outcome.{Outcome}
-use Rattle.budget.specs.declared.Outcome.TheVariants.{Covered, Refused, NoRoom}
+use Rattle.std.specs.Prelude.{Ok, Err}
+use Rattle.budget.specs.Outcome.{Outcome, refused_by, as_spent, Leaves, leaves, leaves_of}
+use Rattle.budget.specs.declared.Refused.{Refused}
+use Rattle.budget.specs.declared.Refused.TheVariants.{OverBudget, NoRoom}
 
 -- an outcome and memory, by what the definitions' part comes to
 pub data Left {A M : Type 0} (given : A → M) (refused : M) (spent : Spent A) (outcome : Outcome) (memory : M) : Type 0 where
-  covered : (a : A) (left : VerifierResources) → spent ≡ ok a left → outcome ≡ Covered left → memory ≡ given a → Left given refused spent outcome memory
-  stopped : (refusal : Refusal) (left : VerifierResources) → spent ≡ stop refusal left → outcome ≡ refused_by refusal left → memory ≡ refused
+  covered : (a : A) (left : VerifierResources) → spent ≡ ok a left → outcome ≡ Ok left → memory ≡ given a → Left given refused spent outcome memory
+  stopped : (refusal : Refusal) (left : VerifierResources) → spent ≡ stop refusal left → outcome ≡ Err (refused_by refusal left) → memory ≡ refused
       → Left given refused spent outcome memory
 
 -- what is left, where something is
@@ -34,7 +35,7 @@ module _ {A M : Type 0} (given : A → M) (refused : M) where
 
 -- what is left after a part that was covered
 pub covered_leaves : {A M : Type 0} (given : A → M) (refused : M) {memory : M} {spent : Spent A} {outcome : Outcome} {a : A} {left : VerifierResources}
-    → spent ≡ ok a left → outcome ≡ Covered left → memory ≡ given a → some (leaves outcome memory) ≡ leaves_of given refused spent
+    → spent ≡ ok a left → outcome ≡ Ok left → memory ≡ given a → some (leaves outcome memory) ≡ leaves_of given refused spent
 unfolding leaves_of
 covered_leaves given refused s o m = rw (s, o, m)
 
@@ -45,11 +46,11 @@ pub record Stopped {A : Type 0} (spent : Spent A) (outcome : Outcome) : Type 0 w
   pub refusal : Refusal
   pub left : VerifierResources
   pub came : spent ≡ stop refusal left
-  pub is : outcome ≡ refused_by refusal left
+  pub is : outcome ≡ Err (refused_by refusal left)
 
--- what the code knows behind `let Outcome::Covered { .. } = outcome else`
+-- what the code knows behind `let Ok(..) = outcome else`
 abbrev pub NotCovered : Outcome → Type 0
-NotCovered outcome = (left : VerifierResources) → outcome ≡ Covered left → ⊥
+NotCovered outcome = (left : VerifierResources) → outcome ≡ Ok left → ⊥
 
 module _ {A : Type 0} {spent : Spent A} {outcome : Outcome} (s : Stopped spent outcome) where
   -- it ends what follows
@@ -66,20 +67,27 @@ pub stopped_spent : {spent : Spent (Unit {0})} {outcome : Outcome} → Stopped s
 unfolding as_spent refused_by
 stopped_spent {spent} {outcome} s = rw (s.came, s.is) (go s.refusal)
   where
-    go : (refusal : Refusal) → as_spent (refused_by refusal s.left) ≡ stop refusal s.left
+    go : (refusal : Refusal) → as_spent (Err (refused_by refusal s.left)) ≡ stop refusal s.left
     go (over_budget stage requested remaining) = refl
     go no_room = refl
 
 pub spent_stopped : (outcome : Outcome) {spent : Spent (Unit {0})} → as_spent outcome ≡ spent → NotCovered outcome → Stopped spent outcome
 unfolding as_spent refused_by
-spent_stopped (Covered left) e h = absurd (h left refl)
-spent_stopped (Refused stage requested remaining left) e h = record { refusal = over_budget stage requested remaining; left = left; came = sym e; is = refl }
-spent_stopped (NoRoom left) e h = record { refusal = no_room; left = left; came = sym e; is = refl }
+spent_stopped (Ok left) e h = absurd (h left refl)
+spent_stopped (Err (OverBudget stage requested remaining left)) e h = record { refusal = over_budget stage requested remaining; left = left; came = sym e; is = refl }
+spent_stopped (Err (NoRoom left)) e h = record { refusal = no_room; left = left; came = sym e; is = refl }
+
+-- a refusal that the code passes on
+pub refused_stopped : {spent : Spent (Unit {0})} {outcome : Outcome} {refused : Refused} → as_spent outcome ≡ spent → outcome ≡ Err refused → Stopped spent outcome
+refused_stopped {spent} {outcome} {refused} e h = spent_stopped outcome e (λ left k. let z : Err refused ≡ Ok left = cc in absurd (go z))
+  where
+    go : {refused : Refused} {left : VerifierResources} → ◌≡◌ {A = Outcome} (Err refused) (Ok left) → ⊥
+    go e = let z : ◌≡◌ {A = ℕ} 0 1 = cc in omega arith
 
 -- ---- by what the code knows of the outcome
 
 module _ {A M : Type 0} (given : A → M) (refused : M) (spent : Spent A) {outcome : Outcome} {memory : M} (e : some (leaves outcome memory) ≡ leaves_of given refused spent) where
-  pub left_covered : {left : VerifierResources} → outcome ≡ Covered left → (a : A) × (spent ≡ ok a left) × (memory ≡ given a)
+  pub left_covered : {left : VerifierResources} → outcome ≡ Ok left → (a : A) × (spent ≡ ok a left) × (memory ≡ given a)
   unfolding refused_by
   left_covered {left} h = go (left_by given refused spent e)
     where

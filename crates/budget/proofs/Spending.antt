@@ -4,13 +4,11 @@ use mathlib.Core.Path.{◌≡◌, refl, sym, ◌∙◌}
 use Prim.Native.Nat.{ℕ, ◌+◌, ◌-◌, ◌≤◌, ◌<◌}
 use native.Mathlib.Numerals.{add-one}
 use native.Mathlib.Omega.{arith}
-use Rattle.model.specs.Charges.{Spent, ok, Metered, give, continue, ◌>>◌, for_each, charge_bytes, charge_work, in_stage, spend_bytes, spend_work}
-use Rattle.model.specs.declared.Charge.{Charge}
+use Rattle.std.specs.Prelude.{Ok}
+use Rattle.model.specs.Charges.{Charge, Spent, ok, Metered, give, continue, ◌>>◌, for_each, charge_bytes, charge_work, in_stage, spend_bytes, spend_work}
 use Rattle.model.specs.declared.VerifierResources.{VerifierResources}
 use Rattle.model.proofs.Loops.{each_stops}
-use Rattle.budget.specs.Outcome.{as_spent}
-use Rattle.budget.specs.declared.Outcome.{Outcome}
-use Rattle.budget.specs.declared.Outcome.TheVariants.{Covered}
+use Rattle.budget.specs.Outcome.{Outcome, as_spent}
 use Rattle.budget.proofs.Outcomes.{Stopped, NotCovered, stopped_then, stopped_spent, spent_stopped}
 
 module _ {A B : Type 0} (part : Metered A) (next : Metered B) (budget : VerifierResources) where
@@ -19,7 +17,7 @@ module _ {A B : Type 0} (part : Metered A) (next : Metered B) (budget : Verifier
   then_covered e = rw e
 
 -- the answer of a part that was covered
-pub covered : {whole : Outcome} {spent : Spent (Unit {0})} {left : VerifierResources} → as_spent whole ≡ spent → whole ≡ Covered left → spent ≡ ok tt left
+pub covered : {whole : Outcome} {spent : Spent (Unit {0})} {left : VerifierResources} → as_spent whole ≡ spent → whole ≡ Ok left → spent ≡ ok tt left
 unfolding as_spent
 covered came e = sym came ∙ rw e
 
@@ -30,7 +28,7 @@ module _ (part next : Metered (Unit {0})) (budget : VerifierResources) (whole : 
   first_refused h = stopped_spent (stopped_then (spent_stopped whole came h) (λ _. next))
 
   -- what follows a covered part
-  pub second_came : {left : VerifierResources} (last : Outcome) → whole ≡ Covered left → as_spent last ≡ next left → as_spent last ≡ (part >> next) budget
+  pub second_came : {left : VerifierResources} (last : Outcome) → whole ≡ Ok left → as_spent last ≡ next left → as_spent last ≡ (part >> next) budget
   second_came last e h = h ∙ sym (then_covered part next budget (covered came e))
 
 -- ---- a loop that charges
@@ -55,7 +53,7 @@ module _ (f : ℕ → Metered (Unit {0})) (n : ℕ) (budget : VerifierResources)
 
   -- all of them, or the first that is refused, where m is how many there are
   module _ {m : ℕ} (counted : n ≡ m) where
-    pub charged_all : {left : VerifierResources} {i : ℕ} → Charged left i → n ≤ i → as_spent (Covered left) ≡ for_each f m budget
+    pub charged_all : {left : VerifierResources} {i : ℕ} → Charged left i → n ≤ i → as_spent (Ok left) ≡ for_each f m budget
     unfolding as_spent
     charged_all {left} {i} c h = let e : m ≡ i = omega (arith, c.within) in rw (e, c.is)
 

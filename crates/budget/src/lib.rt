@@ -4,18 +4,15 @@
 ghost use Rattle.std.specs.Prelude.{◌≡◌};
 ghost use Rattle.model.specs.Charges.{units, charge_bytes, charge_work, in_stage, spend_bytes, for_each};
 ghost use Rattle.model.specs.Closure.{stage_number};
-ghost use Rattle.budget.specs.Outcome.{as_spent, refusing, left_of};
+ghost use Rattle.budget.specs.Outcome.{as_spent, left_after, left_of};
 
-use model::{AnalysisKind, Charge, VerifierResources};
+use model::{AnalysisKind, Shortage, VerifierResources};
 
-// What a part of the call that spends comes to: what is left; "7, with stage (1 to 5 in charge order), requested, remaining"; or 8. A
-// refusal has what the covered charges left.
-#[derive(Clone, Copy)]
-pub enum Outcome {
-    Covered {
-        left: VerifierResources,
-    },
-    Refused {
+// What ends a part of the call that spends: "7, with stage (1 to 5 in charge order), requested, remaining"; or 8. It has what the covered
+// charges left.
+#[derive(Clone, Copy, PartialEq, Eq)]
+pub enum Refused {
+    OverBudget {
         stage: u8,
         requested: u64,
         remaining: u64,
@@ -25,6 +22,9 @@ pub enum Outcome {
         left: VerifierResources,
     },
 }
+
+// What a part of the call that spends comes to: what is left, or what ends it.
+pub type Outcome = Result<VerifierResources, Refused>;
 
 // "stage (1 to 5 in charge order)", of an analysis
 pub fn stage_number(which: AnalysisKind) -> u8
@@ -37,93 +37,88 @@ pub fn stage_number(which: AnalysisKind) -> u8
     }
 }
 
-// Whether an outcome is a refusal.
-pub fn refuses(outcome: Outcome) -> bool
-    ensures { result ≡ refusing outcome }
-{
-    match outcome {
-        Outcome::Covered { left: _ } => false,
-        Outcome::Refused {
-            stage: _,
-            requested: _,
-            remaining: _,
-            left: _,
-        } => true,
-        Outcome::NoRoom { left: _ } => true,
+impl Refused {
+    // "what the covered charges left"
+    pub fn left(self) -> VerifierResources
+        ensures { result ≡ left_after self }
+    {
+        match self {
+            Refused::OverBudget {
+                stage: _,
+                requested: _,
+                remaining: _,
+                left,
+            } => left,
+            Refused::NoRoom { left } => left,
+        }
     }
 }
 
-// "what the covered charges left"
+// "what the covered charges left", refused or not
 pub fn left_of(outcome: Outcome) -> VerifierResources
     ensures { result ≡ left_of outcome }
 {
     match outcome {
-        Outcome::Covered { left } => left,
-        Outcome::Refused {
-            stage: _,
-            requested: _,
-            remaining: _,
-            left,
-        } => left,
-        Outcome::NoRoom { left } => left,
+        Ok(left) => left,
+        Err(refused) => refused.left(),
     }
 }
 
 // "7. Does what is left cover the charge?" "A refused charge takes nothing."
-pub fn charge_bytes(resources: VerifierResources, amount: u64) -> Charge
+pub fn charge_bytes(
+    resources: VerifierResources,
+    amount: u64,
+) -> Result<VerifierResources, Shortage>
     ensures { result ≡ charge_bytes amount resources }
 {
     let bytes = resources.bytes;
     if amount <= bytes {
-        Charge::Covered {
-            left: VerifierResources {
-                bytes: bytes - amount,
-                work: resources.work,
-            },
-        }
+        Ok(VerifierResources {
+            bytes: bytes - amount,
+            work: resources.work,
+        })
     } else {
-        Charge::Refused {
+        Err(Shortage {
             requested: amount,
             remaining: bytes,
-        }
+        })
     }
 }
 
 // The same for work.
-pub fn charge_work(resources: VerifierResources, amount: u64) -> Charge
+pub fn charge_work(resources: VerifierResources, amount: u64) -> Result<VerifierResources, Shortage>
     ensures { result ≡ charge_work amount resources }
 {
     let work = resources.work;
     if amount <= work {
-        Charge::Covered {
-            left: VerifierResources {
-                bytes: resources.bytes,
-                work: work - amount,
-            },
-        }
+        Ok(VerifierResources {
+            bytes: resources.bytes,
+            work: work - amount,
+        })
     } else {
-        Charge::Refused {
+        Err(Shortage {
             requested: amount,
             remaining: work,
-        }
+        })
     }
 }
 
 // A charge made from the resources, as a part of a stage: they are what is left where it was refused.
-pub fn metered(stage: u8, resources: VerifierResources, charge: Charge) -> Outcome
+pub fn metered(
+    stage: u8,
+    resources: VerifierResources,
+    charge: Result<VerifierResources, Shortage>,
+) -> Outcome
     ensures { as_spent result ≡ in_stage stage resources charge }
 {
     match charge {
-        Charge::Covered { left } => Outcome::Covered { left },
-        Charge::Refused {
-            requested,
-            remaining,
-        } => Outcome::Refused {
+        Ok(left) => Ok(left),
+        Err(short) => Err(Refused::OverBudget {
             stage,
-            requested,
-            remaining,
+            requested: short.requested,
+            remaining: short.remaining,
             left: resources,
-        },
+        }),
     }
 }
 
@@ -135,19 +130,17 @@ pub fn charge_edges(stage: u8, resources: VerifierResources, count: u64) -> Outc
     let bytes = resources.bytes;
     let work = resources.work;
     if count <= bytes / 4 {
-        Outcome::Covered {
-            left: VerifierResources {
-                bytes: bytes - 4 * count,
-                work,
-            },
-        }
+        Ok(VerifierResources {
+            bytes: bytes - 4 * count,
+            work,
+        })
     } else {
         let rest = bytes % 4;
-        Outcome::Refused {
+        Err(Refused::OverBudget {
             stage,
             requested: 4,
             remaining: rest,
             left: VerifierResources { bytes: rest, work },
-        }
+        })
     }
 }

@@ -17,6 +17,7 @@ use Rattle.model.specs.Transfer.{put, instruction_fact}
 use Rattle.model.specs.Parameters.{charge_layout, charge_layouts, seed_param, seed_params, param_row, param_start, param_fact, charge_fact, charge_instruction_facts}
 use Rattle.model.specs.Run.{RunEnd, finished, overdrawn, fuel_spent, run}
 use Rattle.model.specs.Analyses.{Analysed, Facts, analysis, unknown_row, length_facts, ask_room, charge_matrix, container_row, first_row, ran_to, propagate, stage, charge_flow, analyses}
+use Rattle.model.specs.declared.Question.{Question}
 use Rattle.model.specs.Call.{Lent, CallEnd, completed, call_end, after_six, after_five, call, closure_room, table_room, tables, filled, filled_table}
 use Rattle.model.specs.Listing.{call_lines, listing_lent, sized, asked, fits, listing}
 use Rattle.model.specs.CallDemand.{analysis_of, Made, Demanded, CallDemand}
@@ -133,10 +134,10 @@ unfolding after_six
 six_ends true sheet budget lent e = end_some (analyses sheet (table_room sheet lent) budget) (analyses_finish sheet (table_room sheet lent) budget) e
 six_ends false sheet budget lent e = let z : ◌≡◌ {A = ℕ} 0 1 = cc in omega arith
 
-five_ends : (refusal : Option ℕ) (sheet : List ℕ) (budget : VerifierResources) (lent : Lent) → after_five refusal sheet budget lent ≡ none → ⊥
+five_ends : (refusal : Option Question) (sheet : List ℕ) (budget : VerifierResources) (lent : Lent) → after_five refusal sheet budget lent ≡ none → ⊥
 unfolding after_five
 five_ends none sheet budget lent e = six_ends (closure_room sheet lent) sheet budget lent e
-five_ends (some number) sheet budget lent e = let z : ◌≡◌ {A = ℕ} 0 1 = cc in omega arith
+five_ends (some question) sheet budget lent e = let z : ◌≡◌ {A = ℕ} 0 1 = cc in omega arith
 
 -- "every call ends"
 pub call_ends : (sheet : List ℕ) (budget : VerifierResources) (lent : Lent) → call sheet budget lent ≡ none → ⊥
@@ -157,9 +158,9 @@ listing_ends sheet e = fit (leb (length sheet) 65536) e
     size true k = lines_end sheet (call sheet fresh listing_lent) (call_ends sheet fresh listing_lent) k
     size false k = let z : ◌≡◌ {A = ℕ} 0 1 = cc in omega arith
 
-    ask : (refusal : Option ℕ) → asked refusal sheet ≡ none → ⊥
+    ask : (refusal : Option Question) → asked refusal sheet ≡ none → ⊥
     ask none k = size (leb (code_count sheet) 256 && leb (local_slots sheet) 4096) k
-    ask (some number) k = let z : ◌≡◌ {A = ℕ} 0 1 = cc in omega arith
+    ask (some question) k = let z : ◌≡◌ {A = ℕ} 0 1 = cc in omega arith
 
     fit : (b : Bool) → fits b sheet ≡ none → ⊥
     fit true k = ask (sheet_refusal sheet) k
@@ -254,11 +255,11 @@ unfolding after_six
 six_demand true sheet budget lent facts left e = analyses_demand sheet (table_room sheet lent) budget facts left (end_completed _ facts left e)
 six_demand false sheet budget lent facts left e = let z : ◌≡◌ {A = ℕ} 0 1 = cc in absurd (omega arith)
 
-five_demand : (refusal : Option ℕ) (sheet : List ℕ) (budget : VerifierResources) (lent : Lent) (facts : Facts) (left : VerifierResources)
+five_demand : (refusal : Option Question) (sheet : List ℕ) (budget : VerifierResources) (lent : Lent) (facts : Facts) (left : VerifierResources)
     → after_five refusal sheet budget lent ≡ some (completed facts left) → CallDemand sheet budget facts left
 unfolding after_five
 five_demand none sheet budget lent facts left e = six_demand (closure_room sheet lent) sheet budget lent facts left e
-five_demand (some number) sheet budget lent facts left e = let z : ◌≡◌ {A = ℕ} 0 1 = cc in absurd (omega arith)
+five_demand (some question) sheet budget lent facts left e = let z : ◌≡◌ {A = ℕ} 0 1 = cc in absurd (omega arith)
 
 -- Demand 3 of every call that ends with facts.
 pub call_demand : (sheet : List ℕ) (budget : VerifierResources) (lent : Lent) (facts : Facts) (left : VerifierResources)

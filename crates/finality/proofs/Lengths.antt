@@ -16,6 +16,8 @@ use Rattle.model.specs.Fact.{Fact, unknown, kind, value, Row}
 use Rattle.model.specs.Run.{finished, row_at}
 use Rattle.model.specs.Tables.{present_bytes, cells}
 use Rattle.model.specs.Analyses.{Analysed, Facts, analysis, ask_room, length_facts, stage, analyses}
+use Rattle.model.specs.declared.Question.{Question}
+use Rattle.model.specs.declared.Question.TheVariants.{ClosureRoom}
 use Rattle.model.specs.Call.{Table, Lent, table_of, room_for, table_room, CallEnd, kept, cleared, completed, call_end, closure_room, after_six, after_five, call, tables, zeros, filled, zero_table, filled_table, scratch_zero, lent_after}
 use Rattle.model.specs.CallDemand.{Made, Demanded}
 use Rattle.model.specs.declared.VerifierResources.{VerifierResources}
@@ -224,12 +226,12 @@ module _ (sheet : List ℕ) (budget : VerifierResources) (lent : Lent) (end : Ca
   six_lengths : (b : Bool) → after_six b sheet budget lent ≡ some end → SameRoom (lent_after end lent) lent
   unfolding after_six lent_after
   six_lengths true p = spent_lengths _ refl p
-  six_lengths false p = ended {e = kept 6} (kept_lengths lent) p
+  six_lengths false p = ended {e = kept ClosureRoom} (kept_lengths lent) p
 
-  five_lengths : (refusal : Option ℕ) → after_five refusal sheet budget lent ≡ some end → SameRoom (lent_after end lent) lent
+  five_lengths : (refusal : Option Question) → after_five refusal sheet budget lent ≡ some end → SameRoom (lent_after end lent) lent
   unfolding after_five lent_after
   five_lengths none p = six_lengths (closure_room sheet lent) p
-  five_lengths (some number) p = ended {e = kept number} (kept_lengths lent) p
+  five_lengths (some question) p = ended {e = kept question} (kept_lengths lent) p
 
   -- Every lent buffer is as long after a call as before it.
   pub call_lengths : call sheet budget lent ≡ some end → SameRoom (lent_after end lent) lent

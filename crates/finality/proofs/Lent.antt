@@ -46,7 +46,7 @@ module _ (sheet : List ℕ) (budget : VerifierResources) (before : Lent) (consta
   from_end : (end : CallEnd) → call sheet budget before ≡ some end → answer budget end ≡ Analyzed constant index container left → lent_after end before ≡ after
       → LentDemand sheet budget before constant index container left after
   unfolding answer
-  from_end (kept number) e a w = let z : ◌≡◌ {A = ℕ} 0 1 = cc in absurd (omega arith)
+  from_end (kept question) e a w = let z : ◌≡◌ {A = ℕ} 0 1 = cc in absurd (omega arith)
   from_end (cleared (over_budget stage requested remaining) rest) e a w = let z : ◌≡◌ {A = ℕ} 0 1 = cc in absurd (omega arith)
   from_end (cleared no_room rest) e a w = let z : ◌≡◌ {A = ℕ} 0 1 = cc in absurd (omega arith)
   from_end (completed facts rest) e a w =

@@ -1,13 +1,12 @@
--- Loops that store one element a turn, from the front: any, and those that clear or copy a whole list. A number's width makes no difference.
+-- Loops that store one element a turn, from the front. A number's width makes no difference.
 -- Assumes nothing.
 use mathlib.Core.Path.{◌≡◌, refl, ◌∙◌}
 use mathlib.Core.List.{List}
 use Prim.Native.Nat.{ℕ, ◌+◌, ◌≤◌, ◌<◌}
 use native.Mathlib.Omega.{arith}
-use lib.ListN.{length, get_or, set, length-set, length-replicate, get_or-replicate}
+use lib.ListN.{length, set, length-set}
 use Rattle.memory.specs.Front.{front}
-use Rattle.memory.proofs.Front.{front_none, front_more, front_whole}
-use Rattle.model.specs.Call.{zeros}
+use Rattle.memory.proofs.Front.{front_none, front_more}
 
 -- after i turns
 pub record Turned (f : ℕ → ℕ) (old out : List ℕ) (i : ℕ) : Type 0 where
@@ -24,16 +23,3 @@ turn {f} {old} {out} {i} {v} t h e = record {
   is = front_more f i old t.is e;
   long = length-set out i v ∙ t.long;
 }
-
--- all zero
-pub turned_clear : {old out : List ℕ} {i : ℕ} → Turned (λ j. 0) old out i → length out ≤ i → out ≡ zeros old
-unfolding zeros
-turned_clear {old} {out} {i} t h =
-    t.is
-    ∙ front_whole (λ j. 0) i 0 old (zeros old) (omega (arith, t.long, t.within)) (length-replicate (length old) 0)
-    (λ j l. get_or-replicate (length old) j 0 0 (omega (arith, length-replicate {A = ℕ} (length old) 0)))
-
--- all of another list, as long
-pub turned_copy : {from old out : List ℕ} {i : ℕ} → length from ≡ length old → Turned (λ j. get_or from j 0) old out i → length out ≤ i → out ≡ from
-turned_copy {from} {old} {out} {i} same t h =
-    t.is ∙ front_whole (λ j. get_or from j 0) i 0 old from (omega (arith, t.long, t.within)) same (λ j l. refl)

@@ -4,7 +4,7 @@
 use mathlib.Core.Path.{◌≡◌, refl}
 use mathlib.Core.List.{List, [], ◌∷◌, ◌++◌, map}
 use mathlib.Core.Option.{Option, none, some}
-use Prim.Native.Nat.{ℕ, ◌+◌, ◌*◌, ◌/◌, ◌%◌}
+use Prim.Native.Nat.{ℕ, ◌*◌, ◌/◌, ◌%◌}
 use lib.ListN.{length, replicate}
 use lib.IntN.{pos, negsuc}
 use Rattle.model.specs.Count.{collect}

@@ -1,11 +1,10 @@
 -- Parts that spend, taken apart: what a sequence came to, and that it finishes where its parts do.
 -- Assumes nothing.
 use mathlib.Core.Path.{◌≡◌, refl}
+use Rattle.std.specs.Prelude.{Ok, Err}
 use Prim.Native.Nat.{ℕ, zero, suc}
 use native.Mathlib.Omega.{arith}
-use Rattle.model.specs.Charges.{Spent, ok, stop, unfinished, Metered, give, continue, ◌>>=◌, ◌>>◌, in_stage, spend_bytes, spend_work, for_each}
-use Rattle.model.specs.declared.Charge.{Charge}
-use Rattle.model.specs.declared.Charge.TheVariants.{Covered, Refused}
+use Rattle.model.specs.Charges.{Charge, Spent, ok, stop, unfinished, Metered, give, continue, ◌>>=◌, ◌>>◌, in_stage, spend_bytes, spend_work, for_each}
 use Rattle.model.specs.declared.VerifierResources.{VerifierResources}
 
 -- ---- what a sequence came to
@@ -73,8 +72,8 @@ give_finishes a budget e = let z : ◌≡◌ {A = ℕ} 0 1 = cc in omega arith
 
 stage_finishes : (stage : ℕ) (left : VerifierResources) (c : Charge) → in_stage stage left c ≡ unfinished → ⊥
 unfolding in_stage
-stage_finishes stage left (Covered rest) e = let z : ◌≡◌ {A = ℕ} 0 1 = cc in omega arith
-stage_finishes stage left (Refused requested remaining) e = let z : ◌≡◌ {A = ℕ} 0 1 = cc in omega arith
+stage_finishes stage left (Ok rest) e = let z : ◌≡◌ {A = ℕ} 0 1 = cc in omega arith
+stage_finishes stage left (Err short) e = let z : ◌≡◌ {A = ℕ} 0 1 = cc in omega arith
 
 pub bytes_finish : (stage amount : ℕ) → Finishes (spend_bytes stage amount)
 unfolding spend_bytes

@@ -24,12 +24,11 @@ use Rattle.model.specs.Transfer.{fact_for, target, u64_fact, fold_binary, shifte
 use Rattle.model.specs.Parameters.{param_start, param_fact, seed_param, seed_params, param_row, charge_layouts, charge_instruction_facts}
 use Rattle.model.specs.Run.{Analysis, State, next, row_at, merged, news, visit, carry, popped, charged, pop, step}
 use Rattle.model.specs.Analyses.{unknown_row, container_row}
-use Rattle.model.specs.Lookup.{slot_fact_numbered, reachability_numbered}
+use Rattle.std.specs.Prelude.{Ok, Err}
+use Rattle.model.specs.Lookup.{cell_found, none_found, damaged, slot_fact_numbered, reachability_numbered}
 use Rattle.model.specs.declared.VerifierResources.{VerifierResources}
 use Rattle.model.specs.declared.Instruction.{Instruction}
 use Rattle.model.specs.declared.AnalysisKind.{AnalysisKind}
-use Rattle.model.specs.declared.SlotFact.TheVariants.{Cell, Absent, Damaged}
-use Rattle.model.specs.declared.Reachability.TheVariants.{Yes, No, Unreadable}
 use Rattle.model.proofs.Equality.{eqb_self, content_self, content_path}
 
 -- ---- the work list
@@ -223,8 +222,8 @@ opcodes = refl
 
 -- A lookup's answers, "none" and "no" among them, have number 0: they are no refusals. What question 9 refuses has 9.
 pub lookup_numbers : (k v : ℕ)
-    → (slot_fact_numbered (Cell k v)).number ∷ (slot_fact_numbered Absent).number ∷ (slot_fact_numbered Damaged).number
-    ∷ (reachability_numbered Yes).number ∷ (reachability_numbered No).number ∷ (reachability_numbered Unreadable).number ∷ []
+    → (slot_fact_numbered (cell_found k v)).number ∷ (slot_fact_numbered none_found).number ∷ (slot_fact_numbered (Err damaged)).number
+    ∷ (reachability_numbered (Ok true)).number ∷ (reachability_numbered (Ok false)).number ∷ (reachability_numbered (Err damaged)).number ∷ []
     ≡ 0 ∷ 0 ∷ 9 ∷ 0 ∷ 0 ∷ 9 ∷ []
-unfolding slot_fact_numbered reachability_numbered
+unfolding cell_found none_found slot_fact_numbered reachability_numbered
 lookup_numbers k v = refl

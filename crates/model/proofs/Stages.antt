@@ -4,11 +4,12 @@ use mathlib.Core.Path.{◌≡◌, refl}
 use mathlib.Core.Bool.{Bool, true, false}
 use mathlib.Core.List.{List, [], ◌∷◌}
 use mathlib.Core.Option.{Option, none, some}
+use Rattle.std.specs.Prelude.{Ok, Err}
 use Prim.Native.Nat.{ℕ, zero, suc}
 use native.Mathlib.Omega.{arith}
 use lib.ListN.{length}
 use Rattle.model.specs.Sheet.{code_count, local_slots, param_count}
-use Rattle.model.specs.Charges.{Refusal, over_budget, no_room, Spent, ok, stop, unfinished, Metered, give, give_up, continue, ◌>>=◌, ◌>>◌, in_stage, spend_bytes, spend_work, for_each}
+use Rattle.model.specs.Charges.{Charge, Refusal, over_budget, no_room, Spent, ok, stop, unfinished, Metered, give, give_up, continue, ◌>>=◌, ◌>>◌, in_stage, spend_bytes, spend_work, for_each}
 use Rattle.model.specs.Dependencies.{charge_instruction, charge_dependencies}
 use Rattle.model.specs.Closure.{Marked, stage_number, seeded, take_slot, expand, places, tracked_slots}
 use Rattle.model.specs.Fact.{Fact, unknown, conflict, known, Row}
@@ -16,8 +17,6 @@ use Rattle.model.specs.Transfer.{instruction_fact}
 use Rattle.model.specs.Parameters.{param_start, param_fact, charge_layout, charge_layouts, seed_param, seed_params, param_row, charge_fact, charge_instruction_facts}
 use Rattle.model.specs.Run.{RunEnd, finished, overdrawn, fuel_spent, run}
 use Rattle.model.specs.Analyses.{unknown_row, analysis, ask_room, charge_matrix, container_row, first_row, ran_to, propagate, stage, charge_flow}
-use Rattle.model.specs.declared.Charge.{Charge}
-use Rattle.model.specs.declared.Charge.TheVariants.{Covered, Refused}
 use Rattle.model.specs.declared.VerifierResources.{VerifierResources}
 use Rattle.model.specs.declared.AnalysisKind.{AnalysisKind}
 use Rattle.model.specs.declared.AnalysisKind.TheVariants.{Constant, IndexCheck, Container}
@@ -59,8 +58,8 @@ up_staged n budget refusal left e = let z : ◌≡◌ {A = ℕ} 0 1 = cc in absu
 
 in_staged : (n : ℕ) (budget : VerifierResources) (c : Charge) (refusal : Refusal) (left : VerifierResources) → in_stage n budget c ≡ stop refusal left → Names n refusal
 unfolding in_stage
-in_staged n budget (Covered rest) refusal left e = let z : ◌≡◌ {A = ℕ} 0 1 = cc in absurd (omega arith)
-in_staged n budget (Refused requested remaining) refusal left e = let w : over_budget n requested remaining ≡ refusal = cc in rw⁻¹ w refl
+in_staged n budget (Ok rest) refusal left e = let z : ◌≡◌ {A = ℕ} 0 1 = cc in absurd (omega arith)
+in_staged n budget (Err short) refusal left e = let w : over_budget n short.requested short.remaining ≡ refusal = cc in rw⁻¹ w refl
 
 bytes_staged : (n amount : ℕ) → Staged n (spend_bytes n amount)
 unfolding spend_bytes

@@ -2,12 +2,14 @@
 -- Assumes nothing.
 use Rattle.std.specs.Prelude.{Bool, true, false, ◌&&◌, ◌||◌, List, [], ◌∷◌, ◌++◌, ℕ, ◌+◌, ◌*◌, ◌-◌, leb, eqb, length, replicate}
 use Rattle.std.proofs.Math.Option.{Option, none, some}
-use Rattle.model.specs.Sheet.{code_count, local_slots, sheet_refusal, sheet_compute}
+use Rattle.model.specs.Sheet.{code_count, local_slots, question_number, sheet_refusal, sheet_compute}
 use Rattle.model.specs.Charges.{Refusal, over_budget, no_room, Spent, ok, stop, unfinished}
 use Rattle.model.specs.Analyses.{Analysed, Facts, analyses, analyses_compute}
 use Rattle.model.specs.Fact.{kind, value}
 use Rattle.model.specs.Tables.{present_bytes, cells, tables_compute}
 use Rattle.model.specs.declared.VerifierResources.{VerifierResources}
+use Rattle.model.specs.declared.Question.{Question}
+use Rattle.model.specs.declared.Question.TheVariants.{ClosureRoom}
 use Rattle.model.specs.declared.AnalysisKind.{AnalysisKind}
 use Rattle.model.specs.declared.AnalysisKind.TheVariants.{Constant, IndexCheck, Container}
 use Rattle.model.specs.declared.Counts.{Counts}
@@ -91,9 +93,9 @@ table_room sheet lent which s = room_for (code_count sheet) (table_of lent which
 
 -- ---- the call
 
--- How a call ends: refused by 1 to 6, with that number; by 7 or 8, with the budget left; or with the facts and the budget left.
+-- How a call ends: refused by 1 to 6, with that question; by 7 or 8, with the budget left; or with the facts and the budget left.
 pub data CallEnd : Type 0 where
-  kept : ℕ → CallEnd
+  kept : Question → CallEnd
   cleared : Refusal → VerifierResources → CallEnd
   completed : Facts → VerifierResources → CallEnd
 
@@ -106,12 +108,12 @@ call_end unfinished = none
 -- the charges and the three analyses, or 6
 unfoldable pub after_six : Bool → List ℕ → VerifierResources → Lent → Option CallEnd
 after_six true sheet budget lent = call_end (analyses sheet (table_room sheet lent) budget)
-after_six false sheet budget lent = some (kept 6)
+after_six false sheet budget lent = some (kept ClosureRoom)
 
--- question 6, or the number of the first of 1 to 5 that refuses
-unfoldable pub after_five : Option ℕ → List ℕ → VerifierResources → Lent → Option CallEnd
+-- question 6, or the first of 1 to 5 that refuses
+unfoldable pub after_five : Option Question → List ℕ → VerifierResources → Lent → Option CallEnd
 after_five none sheet budget lent = after_six (closure_room sheet lent) sheet budget lent
-after_five (some number) sheet budget lent = some (kept number)
+after_five (some question) sheet budget lent = some (kept question)
 
 -- "Questions, in order"
 unfoldable pub call : List ℕ → VerifierResources → Lent → Option CallEnd
@@ -125,7 +127,7 @@ counts a = record { tracked = length a.slots; pops = a.pops }
 
 -- "answers s and the pop count of each analysis and the budget"; "After 1 to 6 and 9 .. the budget stays."
 unfoldable pub answer : VerifierResources → CallEnd → Answer
-answer budget (kept number) = Invalid number budget
+answer budget (kept question) = Invalid question budget
 answer budget (cleared (over_budget stage requested remaining) left) = OverBudget stage requested remaining left
 answer budget (cleared no_room left) = NoRoom left
 answer budget (completed facts left) = Analyzed (counts facts.constants) (counts facts.index) (counts facts.containers) left
@@ -152,7 +154,7 @@ resources left = left.bytes ∷ left.work ∷ []
 unfoldable pub answer_numbered : Answer → AnswerNumbered
 answer_numbered (Analyzed constant index container left) =
     record { number = 0; counted = counts_given constant ++ counts_given index ++ counts_given container; budget = resources left; refused = [] }
-answer_numbered (Invalid number left) = record { number = number; counted = []; budget = resources left; refused = [] }
+answer_numbered (Invalid question left) = record { number = question_number question; counted = []; budget = resources left; refused = [] }
 answer_numbered (OverBudget stage requested remaining left) =
     record { number = 7; counted = []; budget = resources left; refused = stage ∷ requested ∷ remaining ∷ [] }
 answer_numbered (NoRoom left) = record { number = 8; counted = []; budget = resources left; refused = [] }
@@ -204,7 +206,7 @@ scratch_zero constants index containers old = record {
 
 -- "After 1 to 6 and 9 nothing lent changes". "After 7 and 8 all lent output and scratch is zero". "Success leaves scratch and unused output zero".
 unfoldable pub lent_after : CallEnd → Lent → Lent
-lent_after (kept number) old = old
+lent_after (kept question) old = old
 lent_after (cleared refusal left) old = scratch_zero (zero_table old.constants) (zero_table old.index) (zero_table old.containers) old
 lent_after (completed facts left) old =
     scratch_zero (filled_table (tables facts.constants) old.constants) (filled_table (tables facts.index) old.index)

@@ -1,9 +1,8 @@
 -- "Charges": `VerifierResources`, and how the parts of a call that spend follow each other.
 -- Assumes nothing.
-use Rattle.std.specs.Prelude.{Bool, true, false, ℕ, zero, suc, ◌-◌, leb}
+use Rattle.std.specs.Prelude.{Bool, true, false, ℕ, zero, suc, ◌-◌, leb, Result, Ok, Err}
 use Rattle.model.specs.declared.VerifierResources.{VerifierResources}
-use Rattle.model.specs.declared.Charge.{Charge}
-use Rattle.model.specs.declared.Charge.TheVariants.{Covered, Refused}
+use Rattle.model.specs.declared.Shortage.{Shortage}
 
 -- "a fresh one has 268,435,456 of each"
 abbrev pub fresh : VerifierResources
@@ -26,10 +25,18 @@ units = record { successor_record = 24; dependency = 4; constant_fact = 32; inde
 
 -- ---- one charge
 
+-- "7, with .. requested, remaining": a charge that is not covered
+abbrev pub short : ℕ → ℕ → Shortage
+short requested remaining = record { requested = requested; remaining = remaining }
+
+-- What a charge comes to: what is left, or the refusal.
+abbrev pub Charge : Type 0
+Charge = Result VerifierResources Shortage
+
 -- "7. Does what is left cover the charge?" "A refused charge takes nothing."
 unfoldable pub bytes_charged : Bool → ℕ → VerifierResources → Charge
-bytes_charged true amount left = Covered (record { bytes = left.bytes - amount; work = left.work })
-bytes_charged false amount left = Refused amount left.bytes
+bytes_charged true amount left = Ok (record { bytes = left.bytes - amount; work = left.work })
+bytes_charged false amount left = Err (short amount left.bytes)
 
 -- `charge_bytes`: the amount is the count times the unit
 unfoldable pub charge_bytes : ℕ → VerifierResources → Charge
@@ -37,8 +44,8 @@ charge_bytes amount left = bytes_charged (leb amount left.bytes) amount left
 
 -- the same for work
 unfoldable pub work_charged : Bool → ℕ → VerifierResources → Charge
-work_charged true amount left = Covered (record { bytes = left.bytes; work = left.work - amount })
-work_charged false amount left = Refused amount left.work
+work_charged true amount left = Ok (record { bytes = left.bytes; work = left.work - amount })
+work_charged false amount left = Err (short amount left.work)
 
 -- `charge_work`
 unfoldable pub charge_work : ℕ → VerifierResources → Charge
@@ -89,8 +96,8 @@ module _ {A : Type 0} where
 
 -- a charge as a part of the call: what is left is the budget it was made from where it is refused
 unfoldable pub in_stage : ℕ → VerifierResources → Charge → Spent (Unit {0})
-in_stage stage left (Covered rest) = ok tt rest
-in_stage stage left (Refused requested remaining) = stop (over_budget stage requested remaining) left
+in_stage stage left (Ok rest) = ok tt rest
+in_stage stage left (Err e) = stop (over_budget stage e.requested e.remaining) left
 
 -- bytes charged to a stage
 unfoldable pub spend_bytes : ℕ → ℕ → Metered (Unit {0})

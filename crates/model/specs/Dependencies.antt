@@ -5,7 +5,7 @@ use Rattle.model.specs.Count.{collect, count_compute}
 use Rattle.model.specs.Sheet.{code_count, local_slots, instruction, sheet_compute}
 use Rattle.model.specs.Opcode as O
 use Rattle.model.specs.Opcode.{select, opcode_compute}
-use Rattle.model.specs.Charges.{units, Metered, ◌>>=◌, ◌>>◌, spend_bytes, spend_work, for_each, charges_compute}
+use Rattle.model.specs.Charges.{units, Metered, ◌>>◌, spend_bytes, spend_work, for_each, charges_compute}
 use Rattle.model.specs.declared.Instruction.{Instruction}
 use Rattle.model.specs.declared.AnalysisKind.{AnalysisKind}
 use Rattle.model.specs.declared.AnalysisKind.TheVariants.{Constant, IndexCheck, Container}

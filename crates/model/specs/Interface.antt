@@ -1,14 +1,11 @@
 -- The C interface, which include/vo_facts.h declares: how document 01's numbers and values lie in what C lends and is returned. The interface adds two
 -- numbers to document 01's: 254 for "none", and 255 where the memory for the answer is too short.
 -- Assumes nothing.
-use Rattle.std.specs.Prelude.{Bool, true, false, List, ◌∷◌, ◌++◌, ℕ, ◌-◌, length, get_or, drop, replicate}
+use Rattle.std.specs.Prelude.{Bool, true, false, List, ◌∷◌, ◌++◌, ℕ, ◌-◌, length, get_or, drop, replicate, Ok, Err, Some, None}
 use Rattle.std.proofs.Math.Option.{Option, none, some}
 use Rattle.model.specs.Call.{Lent, AnswerNumbered, Result, analyzed}
-use Rattle.model.specs.Lookup.{slot_fact_numbered, reachability_numbered}
+use Rattle.model.specs.Lookup.{SlotFact, Reachability, slot_fact_numbered, reachability_numbered}
 use Rattle.model.specs.declared.VerifierResources.{VerifierResources}
-use Rattle.model.specs.declared.SlotFact.{SlotFact}
-use Rattle.model.specs.declared.SlotFact.TheVariants.{Cell, Absent, Damaged}
-use Rattle.model.specs.declared.Reachability.{Reachability}
 
 -- ---- the call
 
@@ -53,9 +50,9 @@ looked returned out = record { returned = returned; out = out }
 
 -- document 01's number, but for "none", which has that of a cell there
 unfoldable pub fact_number : SlotFact → ℕ
-fact_number (Cell kind value) = (slot_fact_numbered (Cell kind value)).number
-fact_number Absent = 254
-fact_number Damaged = (slot_fact_numbered Damaged).number
+fact_number (Ok (Some cell)) = (slot_fact_numbered (Ok (Some cell))).number
+fact_number (Ok None) = 254
+fact_number (Err reason) = (slot_fact_numbered (Err reason)).number
 
 -- values at the front of the memory, which keeps what is behind them
 unfoldable pub in_front : List ℕ → List ℕ → List ℕ

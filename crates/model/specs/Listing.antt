@@ -4,12 +4,13 @@ use Rattle.std.specs.Prelude.{Bool, true, false, cond, ◌&&◌, List, [], ◌�
 use Rattle.std.proofs.Math.Option.{Option, none, some}
 use Prim.Native.String.{String, [] as []ˢ, ◌∷◌ as ◌∷ˢ◌}
 use Prim.Native.Char.{code}
-use Rattle.model.specs.Sheet.{code_count, local_slots, sheet_refusal, sheet_compute}
+use Rattle.model.specs.Sheet.{code_count, local_slots, question_number, sheet_refusal, sheet_compute}
 use Rattle.model.specs.Charges.{over_budget, no_room, fresh}
 use Rattle.model.specs.Fact.{Fact, unknown, conflict, known, Row, equal_layouts, fact_compute}
 use Rattle.model.specs.Analyses.{Analysed, Facts}
 use Rattle.model.specs.Call.{Lent, Table, CallEnd, kept, cleared, completed, call, call_compute}
 use Rattle.model.specs.declared.VerifierResources.{VerifierResources}
+use Rattle.model.specs.declared.Question.{Question}
 use Rattle.model.specs.declared.AnalysisKind.{AnalysisKind}
 use Rattle.model.specs.declared.AnalysisKind.TheVariants.{Constant, IndexCheck, Container}
 
@@ -129,7 +130,7 @@ too_large = ascii "too large\n"
 
 -- "Refusals print only `refused` and the number"; "`too large` .. for s over 32 in question 8's [place]"
 unfoldable pub end_lines : List ℕ → CallEnd → List ℕ
-end_lines sheet (kept number) = refused_line number
+end_lines sheet (kept question) = refused_line (question_number question)
 end_lines sheet (cleared (over_budget stage requested remaining) left) = refused_line 7
 end_lines sheet (cleared no_room left) = too_large
 end_lines sheet (completed facts left) = facts_lines sheet facts left
@@ -162,9 +163,9 @@ sized true sheet = call_lines sheet (call sheet fresh listing_lent)
 sized false sheet = some too_large
 
 -- "in question 6's place": after 1 to 5
-unfoldable pub asked : Option ℕ → List ℕ → Option (List ℕ)
+unfoldable pub asked : Option Question → List ℕ → Option (List ℕ)
 asked none sheet = sized (leb (code_count sheet) 256 && leb (local_slots sheet) 4096) sheet
-asked (some number) sheet = some (refused_line number)
+asked (some question) sheet = some (refused_line (question_number question))
 
 -- the questions, for a sheet of at most 65,536 bytes
 unfoldable pub fits : Bool → List ℕ → Option (List ℕ)

@@ -1,14 +1,32 @@
 -- Lookups: `fact_for_slot`, `is_reachable`, and "fixed", each over "the used parts" of the tables it is lent.
 -- Assumes nothing.
-use Rattle.std.specs.Prelude.{Bool, true, false, cond, ◌&&◌, ◌||◌, List, [], ◌∷◌, ℕ, zero, suc, ◌+◌, ◌*◌, ◌-◌, leb, ltb, eqb, length, get_or}
+use Rattle.std.specs.Prelude.{Bool, true, false, cond, ◌&&◌, ◌||◌, List, [], ◌∷◌, ℕ, zero, suc, ◌+◌, ◌*◌, ◌-◌, leb, ltb, eqb, length, get_or, Result, Ok, Err, Option as Choice, Some, None}
 use Rattle.std.proofs.Math.Option.{Option, none, some}
 use Rattle.model.specs.Count.{every}
 use Rattle.model.specs.declared.AnalysisKind.{AnalysisKind}
 use Rattle.model.specs.declared.AnalysisKind.TheVariants.{Constant, IndexCheck, Container}
-use Rattle.model.specs.declared.SlotFact.{SlotFact}
-use Rattle.model.specs.declared.SlotFact.TheVariants.{Cell, Absent, Damaged}
-use Rattle.model.specs.declared.Reachability.{Reachability}
-use Rattle.model.specs.declared.Reachability.TheVariants.{Yes, No, Unreadable}
+use Rattle.model.specs.declared.FactCell.{FactCell}
+use Rattle.model.specs.declared.Damaged.{Damaged}
+
+-- What a lookup answers: a cell, none, or 9.
+abbrev pub SlotFact : Type 0
+SlotFact = Result (Choice FactCell) Damaged
+
+-- What `is_reachable` answers: yes, no, or 9.
+abbrev pub Reachability : Type 0
+Reachability = Result Bool Damaged
+
+-- "9": the tables are none that a call leaves
+abbrev pub damaged : Damaged
+damaged = record {}
+
+-- a cell, as a lookup answers it
+unfoldable pub cell_found : ℕ → ℕ → SlotFact
+cell_found k v = Ok (Some (record { kind = k; value = v }))
+
+-- ""none", which is no refusal"
+unfoldable pub none_found : SlotFact
+none_found = Ok None
 
 -- the last kind "that this analysis names": "Constants: 2 .., 3 negative", "Index: 2 Checked", "Containers: 2 map, 3 iterator, 4 queue"
 unfoldable pub last_kind : AnalysisKind → ℕ
@@ -51,14 +69,14 @@ row_named last s present kinds j pc = leb (get_or present pc 0) 1 && kind_named 
 
 -- "else the cell's kind and value", for a tracked slot in a present row
 unfoldable pub cell : Bool → ℕ → List ℕ → List ℕ → ℕ → Option ℕ → SlotFact
-cell false s kinds values pc j = Absent
-cell true s kinds values pc none = Absent
-cell true s kinds values pc (some j) = Cell (cell_at s kinds pc j) (cell_at s values pc j)
+cell false s kinds values pc j = none_found
+cell true s kinds values pc none = none_found
+cell true s kinds values pc (some j) = cell_found (cell_at s kinds pc j) (cell_at s values pc j)
 
 -- "No: 9."
 unfoldable pub or_damaged : Bool → SlotFact → SlotFact
 or_damaged true answer = answer
-or_damaged false answer = Damaged
+or_damaged false answer = Err damaged
 
 -- "A lookup of an untracked slot, absent instruction or pc from n up answers "none", which is no refusal": `fact_for_slot`
 unfoldable pub fact_for_slot : AnalysisKind → List ℕ → List ℕ → List ℕ → List ℕ → ℕ → ℕ → SlotFact
@@ -70,9 +88,9 @@ fact_for_slot which slots present kinds values pc slot =
 
 -- "yes for byte 1, no for 0 .., 9 for another byte"
 unfoldable pub reached_by : ℕ → Reachability
-reached_by zero = No
-reached_by (suc zero) = Yes
-reached_by (suc (suc byte)) = Unreadable
+reached_by zero = Ok false
+reached_by (suc zero) = Ok true
+reached_by (suc (suc byte)) = Err damaged
 
 -- "no for .. pc from n up": no byte stands there, and it reads as 0
 unfoldable pub is_reachable : List ℕ → ℕ → Reachability
@@ -100,9 +118,9 @@ show_if true k v seen = show (leb 2 k) k v seen
 
 -- "gives that kind and value, else "none""
 unfoldable pub fixed_fact : Shown → SlotFact
-fixed_fact none_shown = Absent
-fixed_fact (one_shown k v) = Cell k v
-fixed_fact mixed_shown = Absent
+fixed_fact none_shown = none_found
+fixed_fact (one_shown k v) = cell_found k v
+fixed_fact mixed_shown = none_found
 
 -- the instructions 1 to count: "some instruction but 0 is present and all such show the same known value"
 unfoldable pub shown : ℕ → List ℕ → List ℕ → List ℕ → ℕ → ℕ → Shown
@@ -112,7 +130,7 @@ shown s present kinds values j (suc i) =
 
 -- the n − 1 instructions but 0, of a tracked slot
 unfoldable pub fixed_at : ℕ → List ℕ → List ℕ → List ℕ → Option ℕ → SlotFact
-fixed_at s present kinds values none = Absent
+fixed_at s present kinds values none = none_found
 fixed_at s present kinds values (some j) = fixed_fact (shown s present kinds values j (length present - 1))
 
 -- "A lookup lent all the constant tables gives that kind and value, else "none"; it asks 9 of every instruction."
@@ -130,15 +148,15 @@ pub record Numbered : Type 0 where
 
 -- "the cell's kind and value"; ""none", which is no refusal", with no values; 9
 unfoldable pub slot_fact_numbered : SlotFact → Numbered
-slot_fact_numbered (Cell k v) = record { number = 0; given = k ∷ v ∷ [] }
-slot_fact_numbered Absent = record { number = 0; given = [] }
-slot_fact_numbered Damaged = record { number = 9; given = [] }
+slot_fact_numbered (Ok (Some cell)) = record { number = 0; given = cell.kind ∷ cell.value ∷ [] }
+slot_fact_numbered (Ok None) = record { number = 0; given = [] }
+slot_fact_numbered (Err _) = record { number = 9; given = [] }
 
 -- "yes", as 1, "no", as 0, "9 for another byte"
 unfoldable pub reachability_numbered : Reachability → Numbered
-reachability_numbered Yes = record { number = 0; given = 1 ∷ [] }
-reachability_numbered No = record { number = 0; given = 0 ∷ [] }
-reachability_numbered Unreadable = record { number = 9; given = [] }
+reachability_numbered (Ok true) = record { number = 0; given = 1 ∷ [] }
+reachability_numbered (Ok false) = record { number = 0; given = 0 ∷ [] }
+reachability_numbered (Err _) = record { number = 9; given = [] }
 
 -- What a lookup promises: its answer, with the number and values of document 01. "The promises use that definition."
 pub record WithNumbers (A : Type 0) : Type 0 where

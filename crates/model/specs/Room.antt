@@ -2,12 +2,14 @@
 -- Assumes nothing.
 use Rattle.std.specs.Prelude.{Bool, true, false, ◌&&◌, List, [], ◌∷◌, ℕ, zero, suc, leb, ltb, length}
 use Rattle.std.proofs.Math.Option.{Option, none, some}
-use Rattle.model.specs.Sheet.{code_count, local_slots, layout_count, sheet_refusal}
+use Rattle.model.specs.Sheet.{code_count, local_slots, layout_count, question_number, sheet_refusal}
 use Rattle.model.specs.Dependencies.{dependency_bit, edges_to}
 use Rattle.model.specs.Closure.{Marked, follow, seeded, places}
 use Rattle.model.specs.Call.{zeros}
 use Rattle.model.specs.Listing.{lowest}
 use Rattle.model.specs.Interface.{Looked, looked, in_front}
+use Rattle.model.specs.declared.Question.{Question}
+use Rattle.model.specs.declared.Question.TheVariants.{ClosureRoom}
 use Rattle.model.specs.declared.AnalysisKind.{AnalysisKind}
 use Rattle.model.specs.declared.AnalysisKind.TheVariants.{Constant, IndexCheck, Container}
 
@@ -48,12 +50,12 @@ room_numbers sheet = code_count sheet ∷ length (closure_slots Constant sheet) 
 -- the numbers at the front of the memory for them, with marks and stack zero; or 6, with nothing changed
 unfoldable pub room_if : Bool → List ℕ → List ℕ → List ℕ → List ℕ → Room
 room_if true sheet marks stack old = room 0 (zeros marks) (zeros stack) (in_front (room_numbers sheet) old)
-room_if false sheet marks stack old = room 6 marks stack old
+room_if false sheet marks stack old = room (question_number ClosureRoom) marks stack old
 
 -- "6. Have the marks and the closure's stack at least L entries each?", or the number of the first of 1 to 5 that refuses
-unfoldable pub room_after_five : Option ℕ → List ℕ → List ℕ → List ℕ → List ℕ → Room
+unfoldable pub room_after_five : Option Question → List ℕ → List ℕ → List ℕ → List ℕ → Room
 room_after_five none sheet marks stack old = room_if (leb (local_slots sheet) (length marks) && leb (local_slots sheet) (length stack)) sheet marks stack old
-room_after_five (some number) sheet marks stack old = room number marks stack old
+room_after_five (some question) sheet marks stack old = room (question_number question) marks stack old
 
 -- the questions in order; 255 comes first, where the memory for the four numbers is too short
 unfoldable pub room_of : Bool → List ℕ → List ℕ → List ℕ → List ℕ → Room
@@ -68,9 +70,9 @@ lowest_if true sheet layout old = looked 0 (in_front (lowest sheet layout ∷ []
 lowest_if false sheet layout old = looked 254 old
 
 -- whether the number is below y, or the number of the first of 1 to 5 that refuses
-unfoldable pub lowest_after_five : Option ℕ → List ℕ → ℕ → List ℕ → Looked
+unfoldable pub lowest_after_five : Option Question → List ℕ → ℕ → List ℕ → Looked
 lowest_after_five none sheet layout old = lowest_if (ltb layout (layout_count sheet)) sheet layout old
-lowest_after_five (some number) sheet layout old = looked number old
+lowest_after_five (some question) sheet layout old = looked (question_number question) old
 
 -- the questions in order; 255 comes first, where the memory for the number has no entry
 unfoldable pub lowest_of : Bool → List ℕ → ℕ → List ℕ → Looked

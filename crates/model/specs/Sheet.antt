@@ -4,6 +4,8 @@ use Rattle.std.specs.Prelude.{Bool, true, false, not, cond, ◌&&◌, ◌||◌, 
 use Rattle.std.proofs.Math.Option.{Option, none, some}
 use Rattle.model.specs.Bytes.{byte, u16, u32, u64, bytes_compute}
 use Rattle.model.specs.Count.{sum, every, count_compute}
+use Rattle.model.specs.declared.Question.{Question}
+use Rattle.model.specs.declared.Question.TheVariants.{Head, Limits, Length, Sums, Kinds, ClosureRoom}
 use Rattle.model.specs.declared.Instruction.{Instruction}
 
 -- ---- sizes
@@ -246,19 +248,28 @@ kinds_named sheet =
     && every (λ i. param_named sheet i) (param_count sheet)
     && every (λ i. slot_kind_named sheet i) (slot_kind_count sheet)
 
--- A question that is answered no refuses with its number; else the next one is asked.
-unfoldable pub ask : Bool → ℕ → Option ℕ → Option ℕ
-ask true number next = next
-ask false number next = some number
+-- the number of a question
+unfoldable pub question_number : Question → ℕ
+question_number Head = 1
+question_number Limits = 2
+question_number Length = 3
+question_number Sums = 4
+question_number Kinds = 5
+question_number ClosureRoom = 6
 
--- "Questions, in order": the number of the first of 1 to 5 that refuses the sheet.
-unfoldable pub sheet_refusal : List ℕ → Option ℕ
+-- A question that is answered no refuses; else the next one is asked.
+unfoldable pub ask : Bool → Question → Option Question → Option Question
+ask true question next = next
+ask false question next = some question
+
+-- "Questions, in order": the first of 1 to 5 that refuses the sheet.
+unfoldable pub sheet_refusal : List ℕ → Option Question
 sheet_refusal sheet =
-    ask (leb 40 (length sheet)) 1
-    (ask (within_limits sheet 0 limits) 2
-    (ask (eqb (length sheet) (sheet_length sheet)) 3
-    (ask (sums_match sheet) 4
-    (ask (kinds_named sheet) 5
+    ask (leb 40 (length sheet)) Head
+    (ask (within_limits sheet 0 limits) Limits
+    (ask (eqb (length sheet) (sheet_length sheet)) Length
+    (ask (sums_match sheet) Sums
+    (ask (kinds_named sheet) Kinds
     none))))
 
 unfoldable pub sheet_compute : Unit {0}
@@ -268,5 +279,5 @@ unfolding bytes_compute count_compute
     param_widths_at param_kinds_at param_as_at param_bs_at layout_lengths_at slot_kinds_at sheet_length
     instruction note_kind note_a note_b write_count erred ranges_of first_range range_start range_length constant_kind constant_bits
     param_width param_kind param_a param_b layout_length layout_start layout
-    within_limits sums_match layouts_used note_named constant_named param_named slot_kind_named kinds_named ask sheet_refusal
+    within_limits sums_match layouts_used note_named constant_named param_named slot_kind_named kinds_named question_number ask sheet_refusal
 sheet_compute = tt

@@ -3,19 +3,20 @@
 
 ghost use Rattle.std.specs.Prelude.{◌≡◌};
 ghost use Rattle.model.specs.Charges.{fresh};
+ghost use Rattle.model.specs.Sheet.{question_number};
 
 // What is left to spend: derived bytes and work units.
-#[derive(Clone, Copy)]
+#[derive(Clone, Copy, PartialEq, Eq)]
 pub struct VerifierResources {
     pub bytes: u64,
     pub work: u64,
 }
 
-// What a charge comes to: what is left, or the refusal, which takes nothing.
-#[derive(Clone, Copy)]
-pub enum Charge {
-    Covered { left: VerifierResources },
-    Refused { requested: u64, remaining: u64 },
+// "requested, remaining": a charge that is not covered, and takes nothing.
+#[derive(Clone, Copy, PartialEq, Eq)]
+pub struct Shortage {
+    pub requested: u64,
+    pub remaining: u64,
 }
 
 // One instruction of the code.
@@ -28,7 +29,8 @@ pub struct Instruction {
     pub c: u16,
 }
 
-// The successors of one instruction: the first len of pcs, and zeros after them.
+// The successors of one instruction: the first len of pcs, and zeros after them. Document 01 names the record, an array of two and
+// their number, and there is no heap for a Vec.
 #[derive(Clone, Copy)]
 pub struct InstructionSuccessors {
     pub pcs: [usize; 2],
@@ -44,10 +46,21 @@ pub enum AnalysisKind {
 }
 
 // A fact as it lies in a table: a kind byte and a 64-bit value.
-#[derive(Clone, Copy)]
+#[derive(Clone, Copy, PartialEq, Eq)]
 pub struct FactCell {
     pub kind: u8,
     pub value: u64,
+}
+
+// The questions about a sheet and what is lent for it, in their order, with their numbers.
+#[derive(Clone, Copy, PartialEq, Eq)]
+pub enum Question {
+    Head = 1,
+    Limits = 2,
+    Length = 3,
+    Sums = 4,
+    Kinds = 5,
+    ClosureRoom = 6,
 }
 
 // How many slots an analysis tracks, and how many entries it took from its work list.
@@ -67,7 +80,7 @@ pub enum Answer {
         left: VerifierResources,
     },
     Invalid {
-        number: u8,
+        question: Question,
         left: VerifierResources,
     },
     OverBudget {
@@ -81,21 +94,15 @@ pub enum Answer {
     },
 }
 
+// The tables that a lookup is lent are none that a call leaves: question 9.
+#[derive(Clone, Copy, PartialEq, Eq)]
+pub struct Damaged;
+
 // What a lookup answers: a cell, none, or 9.
-#[derive(Clone, Copy)]
-pub enum SlotFact {
-    Cell { kind: u8, value: u64 },
-    Absent,
-    Damaged,
-}
+pub type SlotFact = Result<Option<FactCell>, Damaged>;
 
 // What is_reachable answers: yes, no, or 9.
-#[derive(Clone, Copy)]
-pub enum Reachability {
-    Yes,
-    No,
-    Unreadable,
-}
+pub type Reachability = Result<bool, Damaged>;
 
 impl VerifierResources {
     // A fresh budget.
@@ -106,5 +113,22 @@ impl VerifierResources {
             bytes: 268435456,
             work: 268435456,
         }
+    }
+}
+
+impl FactCell {
+    // "Kind 0 Unknown .., value 0"
+    pub const UNKNOWN: FactCell = FactCell { kind: 0, value: 0 };
+
+    // "1 Conflict, value 0"
+    pub const CONFLICT: FactCell = FactCell { kind: 1, value: 0 };
+}
+
+impl Question {
+    // "1" to "6", as a refusal names it
+    pub fn number(self) -> u8
+        ensures { result ≡ question_number self }
+    {
+        self as u8
     }
 }

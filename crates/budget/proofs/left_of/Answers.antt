@@ -1,17 +1,13 @@
 -- `left_of` meets its contract.
 -- Assumes nothing.
-use mathlib.Core.Path.{sym, ap}
+use mathlib.Core.Path.{sym, ap, ◌∙◌}
 use Rattle.budget.specs.Outcome.{left_of}
 use Rattle.budget.proofs.left_of.Goals as goal
 
-pub returns-in-Covered : goal.returns-in-Covered
+pub returns-in-Ok : goal.returns-in-Ok
 unfolding left_of
-returns-in-Covered c = sym (ap left_of c.in-Covered.is)
+returns-in-Ok c = sym (ap left_of c.in-Ok.is)
 
-pub returns-in-Refused : goal.returns-in-Refused
+pub returns-in-Err : goal.returns-in-Err
 unfolding left_of
-returns-in-Refused c = sym (ap left_of c.in-Refused.is)
-
-pub returns-in-NoRoom : goal.returns-in-NoRoom
-unfolding left_of
-returns-in-NoRoom c = sym (ap left_of c.in-NoRoom.is)
+returns-in-Err c = c.left.ensures ∙ sym (ap left_of c.in-Err.is)

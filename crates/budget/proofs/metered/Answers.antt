@@ -5,10 +5,10 @@ use Rattle.model.specs.Charges.{in_stage}
 use Rattle.budget.specs.Outcome.{as_spent}
 use Rattle.budget.proofs.metered.Goals as goal
 
-pub returns-in-Covered : goal.returns-in-Covered
+pub returns-in-Ok : goal.returns-in-Ok
 unfolding in_stage as_spent
-returns-in-Covered c = sym (ap (in_stage c.args.stage c.args.resources) c.in-Covered.is)
+returns-in-Ok c = sym (ap (in_stage c.args.stage c.args.resources) c.in-Ok.is)
 
-pub returns-in-Refused : goal.returns-in-Refused
+pub returns-in-Err : goal.returns-in-Err
 unfolding in_stage as_spent
-returns-in-Refused c = sym (ap (in_stage c.args.stage c.args.resources) c.in-Refused.is)
+returns-in-Err c = sym (ap (in_stage c.args.stage c.args.resources) c.in-Err.is)
