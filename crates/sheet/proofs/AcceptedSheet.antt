@@ -11,21 +11,22 @@ use lib.ListN.{length}
 use borrow.Author.Tests.{eqb-true}
 use Rattle.model.specs.Sheet.{limits, within_limits, sheet_length, sums_match, kinds_named, ask, sheet_refusal}
 use Rattle.model.specs.Sheet.{code_count, range_count, layout_count, slot_kind_count, first_range, ranges_of, layout_start, layout_length}
+use Rattle.model.specs.declared.Question.{Question}
 use Rattle.sheet.specs.Measured.{Measured, Accepted}
 use Rattle.sheet.specs.declared.Sizes.{Sizes}
 use Rattle.model.proofs.Tests.{both_left, both_right}
 use Rattle.sheet.proofs.SizeNames.{counted}
 use Rattle.sheet.proofs.Sums.{sum_part}
 
-passed : (b : Bool) (number : ℕ) (next : Option ℕ) → ask b number next ≡ none → b ≡ true
+passed : (b : Bool) (question : Question) (next : Option Question) → ask b question next ≡ none → b ≡ true
 unfolding ask
-passed true number next e = refl
-passed false number next e = let z : ◌≡◌ {A = ℕ} 0 1 = cc in absurd (omega arith)
+passed true question next e = refl
+passed false question next e = absurd (cc)
 
-after : (b : Bool) (number : ℕ) (next : Option ℕ) → ask b number next ≡ none → next ≡ none
+after : (b : Bool) (question : Question) (next : Option Question) → ask b question next ≡ none → next ≡ none
 unfolding ask
-after true number next e = e
-after false number next e = let z : ◌≡◌ {A = ℕ} 0 1 = cc in absurd (omega arith)
+after true question next e = e
+after false question next e = absurd (cc)
 
 -- what each question has answered
 pub record Asked (sheet : List ℕ) : Type 0 where

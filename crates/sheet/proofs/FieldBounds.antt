@@ -1,22 +1,12 @@
 -- Each field lies inside the sheet.
 -- Assumes nothing.
-use mathlib.Core.Path.{◌≡◌}
 use mathlib.Core.List.{List}
 use Prim.Native.Nat.{ℕ, ◌+◌, ◌*◌, ◌≤◌, ◌<◌}
 use native.Mathlib.Omega.{arith}
 use lib.ListN.{length}
-use borrow.Author.Tests.{le-ltb}
-use Rattle.model.specs.Bytes.{byte, u16}
-use Rattle.model.specs.Sheet.{instruction, code_at, layout_length}
-use Rattle.sheet.specs.Sizes.{sizes_of}
 use Rattle.sheet.specs.Measured.{Measured}
 use Rattle.sheet.specs.declared.Sizes.{Sizes}
 use Rattle.sheet.proofs.SheetLength.{laid}
-
-pub instruction_is : (sheet : List ℕ) (pc : ℕ) {op flags a b c : ℕ} → op ≡ byte sheet (40 + 8 * pc) → flags ≡ byte sheet (40 + 8 * pc + 1) → a ≡ u16 sheet (40 + 8 * pc + 2)
-    → b ≡ u16 sheet (40 + 8 * pc + 4) → c ≡ u16 sheet (40 + 8 * pc + 6) → record { op = op; flags = flags; a = a; b = b; c = c } ≡ instruction sheet pc
-unfolding instruction code_at
-instruction_is sheet pc eo ef ea eb ec = cc
 
 -- each array ends within the sheet, so that each of its entries lies in it
 pub record ArraysInside (whole : ℕ) (s : Sizes) : Type 0 where
@@ -42,7 +32,3 @@ module _ {sheet : List ℕ} {sizes : Sizes} (m : Measured sheet sizes) where
 
   pub code_inside : (i : ℕ) → i < sizes.code_count → 40 + 8 * i + 8 ≤ length sheet
   code_inside i h = omega (arith, arrays_inside.code)
-
-  pub layout_length_past : (i : ℕ) → sizes.layout_count ≤ i → 0 ≡ layout_length sheet i
-  unfolding sizes_of layout_length
-  layout_length_past i h = rw (le-ltb i _ (rw m.are at h))

@@ -1,13 +1,79 @@
-// Little-endian numbers in a slice of bytes. Each compiles to one load.
-ghost use Rattle.std.specs.Prelude.{◌≡◌, ◌+◌, ◌*◌, ◌<◌, ◌≤◌, length};
+// Little-endian numbers in a slice of bytes. Each read compiles to one load.
+ghost use Rattle.std.specs.Prelude.{◌≡◌, ◌+◌, ◌*◌, ◌<◌, ◌≤◌, List, ℕ, length};
 ghost use Rattle.model.specs.Bytes.{byte, u16, u32, u64};
 
-// The byte at a place.
-pub fn byte_at(bytes: &[u8], at: usize) -> u8
-    requires { at < length bytes.now }
-    ensures { result ≡ byte bytes.now at }
+// A number of WIDTH bytes, the lowest first.
+pub trait Number {
+    const WIDTH: usize;
+
+    ghost WIDTH: { ℕ };
+
+    // The number at a place.
+    ghost number: { List ℕ → ℕ → Self };
+
+    fn read(bytes: &[u8], at: usize) -> Self
+        requires { at + WIDTH ≤ length bytes.now }
+        ensures { result ≡ number bytes.now at };
+}
+
+impl Number for u8 {
+    const WIDTH: usize = 1;
+
+    ghost WIDTH = { 1 };
+
+    ghost number = { byte };
+
+    #[tactic(auto, unfolding(model::specs::Bytes::byte))]
+    fn read(bytes: &[u8], at: usize) -> u8 {
+        bytes[at]
+    }
+}
+
+impl Number for u16 {
+    const WIDTH: usize = 2;
+
+    ghost WIDTH = { 2 };
+
+    ghost number = { u16 };
+
+    #[tactic(auto, unfolding(model::specs::Bytes::u16))]
+    fn read(bytes: &[u8], at: usize) -> u16 {
+        u16_of(u8::read(bytes, at), u8::read(bytes, at + 1))
+    }
+}
+
+impl Number for u32 {
+    const WIDTH: usize = 4;
+
+    ghost WIDTH = { 4 };
+
+    ghost number = { u32 };
+
+    #[tactic(auto, unfolding(model::specs::Bytes::u32))]
+    fn read(bytes: &[u8], at: usize) -> u32 {
+        u32_of(u16::read(bytes, at), u16::read(bytes, at + 2))
+    }
+}
+
+impl Number for u64 {
+    const WIDTH: usize = 8;
+
+    ghost WIDTH = { 8 };
+
+    ghost number = { u64 };
+
+    #[tactic(auto, unfolding(model::specs::Bytes::u64))]
+    fn read(bytes: &[u8], at: usize) -> u64 {
+        u64_of(u32::read(bytes, at), u32::read(bytes, at + 4))
+    }
+}
+
+// Element i of an array that begins at a place.
+pub fn element<T: Number>(bytes: &[u8], at: usize, i: usize) -> T
+    requires { at + T.WIDTH * i + T.WIDTH ≤ length bytes.now }
+    ensures { result ≡ T.number bytes.now (at + T.WIDTH * i) }
 {
-    bytes[at]
+    T::read(bytes, at + T::WIDTH * i)
 }
 
 // A byte at 16 bits, with its bound, so that no proof has to look for the element that it came from.
@@ -17,6 +83,8 @@ fn wide_byte(x: u8) -> u16
     x as u16
 }
 
+// Three functions, since each joins halves of another type, and programs that read no slice call them by these names: one that takes the
+// type would be no plainer.
 // 16 bits from two bytes.
 pub fn u16_of(low: u8, high: u8) -> u16
     ensures { result ≡ low + 256 * high }
@@ -36,60 +104,4 @@ pub fn u64_of(low: u32, high: u32) -> u64
     ensures { result ≡ low + 4294967296 * high }
 {
     low as u64 + 4294967296 * high as u64
-}
-
-// The 16 bits at a place.
-pub fn u16_at(bytes: &[u8], at: usize) -> u16
-    requires { at + 2 ≤ length bytes.now }
-    ensures { result ≡ u16 bytes.now at }
-{
-    u16_of(byte_at(bytes, at), byte_at(bytes, at + 1))
-}
-
-// The 32 bits at a place.
-pub fn u32_at(bytes: &[u8], at: usize) -> u32
-    requires { at + 4 ≤ length bytes.now }
-    ensures { result ≡ u32 bytes.now at }
-{
-    u32_of(u16_at(bytes, at), u16_at(bytes, at + 2))
-}
-
-// The 64 bits at a place.
-pub fn u64_at(bytes: &[u8], at: usize) -> u64
-    requires { at + 8 ≤ length bytes.now }
-    ensures { result ≡ u64 bytes.now at }
-{
-    u64_of(u32_at(bytes, at), u32_at(bytes, at + 4))
-}
-
-// Element i of an array of bytes.
-pub fn byte_in(bytes: &[u8], at: usize, i: usize) -> u8
-    requires { at + i < length bytes.now }
-    ensures { result ≡ byte bytes.now (at + i) }
-{
-    byte_at(bytes, at + i)
-}
-
-// Element i of an array of 16-bit numbers.
-pub fn u16_in(bytes: &[u8], at: usize, i: usize) -> u16
-    requires { at + 2 * i + 2 ≤ length bytes.now }
-    ensures { result ≡ u16 bytes.now (at + 2 * i) }
-{
-    u16_at(bytes, at + 2 * i)
-}
-
-// Element i of an array of 32-bit numbers.
-pub fn u32_in(bytes: &[u8], at: usize, i: usize) -> u32
-    requires { at + 4 * i + 4 ≤ length bytes.now }
-    ensures { result ≡ u32 bytes.now (at + 4 * i) }
-{
-    u32_at(bytes, at + 4 * i)
-}
-
-// Element i of an array of 64-bit numbers.
-pub fn u64_in(bytes: &[u8], at: usize, i: usize) -> u64
-    requires { at + 8 * i + 8 ≤ length bytes.now }
-    ensures { result ≡ u64 bytes.now (at + 8 * i) }
-{
-    u64_at(bytes, at + 8 * i)
 }

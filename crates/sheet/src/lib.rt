@@ -4,9 +4,7 @@
 mod bytes;
 mod head;
 
-pub use bytes::{
-    byte_at, byte_in, u16_at, u16_in, u16_of, u32_at, u32_in, u32_of, u64_at, u64_in, u64_of,
-};
+pub use bytes::{Number, element, u16_of, u32_of, u64_of};
 pub use head::size_at;
 
 // Where each array of a sheet begins; the code begins at 40.

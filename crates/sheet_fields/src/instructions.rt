@@ -1,10 +1,12 @@
 // What a sheet says of each instruction: its code, its note, and the slots that it writes.
+#![tactic(auto, using(sheet::proofs::FieldBounds::arrays_inside), unfolding(sheet::specs::Sizes::sizes_of, sheet::specs::Sizes::places_of, model::specs::Sheet::note_kind, model::specs::Sheet::note_a, model::specs::Sheet::note_b, model::specs::Sheet::write_count, model::specs::Sheet::range_start, model::specs::Sheet::range_length, model::specs::Sheet::ranges_of, model::specs::Sheet::erred, model::specs::Sheet::instruction, model::specs::Sheet::code_at))]
+
 ghost use Rattle.std.specs.Prelude.{◌≡◌, ◌+◌, ◌*◌, ◌<◌, ◌≤◌, length};
 ghost use Rattle.model.specs.Sheet.{instruction, note_kind, note_a, note_b, write_count, ranges_of, range_start, range_length};
 ghost use Rattle.sheet.specs.Measured.{Measured};
 
 use model::Instruction;
-use sheet::{Sizes, byte_at, byte_in, u16_at, u16_in, u32_in};
+use sheet::{Number, Sizes, element};
 
 // The instruction at pc: op, flags, a, b, c.
 pub fn instruction_at(sheet: &[u8], pc: usize) -> Instruction
@@ -13,11 +15,11 @@ pub fn instruction_at(sheet: &[u8], pc: usize) -> Instruction
 {
     let at = 40 + 8 * pc;
     Instruction {
-        op: byte_at(sheet, at),
-        flags: byte_at(sheet, at + 1),
-        a: u16_at(sheet, at + 2),
-        b: u16_at(sheet, at + 4),
-        c: u16_at(sheet, at + 6),
+        op: u8::read(sheet, at),
+        flags: u8::read(sheet, at + 1),
+        a: u16::read(sheet, at + 2),
+        b: u16::read(sheet, at + 4),
+        c: u16::read(sheet, at + 6),
     }
 }
 
@@ -26,7 +28,7 @@ pub fn note_kind_at(sheet: &[u8], sizes: Sizes, pc: usize) -> u8
     requires { Measured sheet.now sizes × (pc < sizes.code_count) }
     ensures { result ≡ note_kind sheet.now pc }
 {
-    byte_in(sheet, sizes.places.note_kinds, pc)
+    element(sheet, sizes.places.note_kinds, pc)
 }
 
 // The layout A of the note at pc.
@@ -34,7 +36,7 @@ pub fn note_a_at(sheet: &[u8], sizes: Sizes, pc: usize) -> u16
     requires { Measured sheet.now sizes × (pc < sizes.code_count) }
     ensures { result ≡ note_a sheet.now pc }
 {
-    u16_in(sheet, sizes.places.note_as, pc)
+    element(sheet, sizes.places.note_as, pc)
 }
 
 // The layout B of the note at pc.
@@ -42,7 +44,7 @@ pub fn note_b_at(sheet: &[u8], sizes: Sizes, pc: usize) -> u16
     requires { Measured sheet.now sizes × (pc < sizes.code_count) }
     ensures { result ≡ note_b sheet.now pc }
 {
-    u16_in(sheet, sizes.places.note_bs, pc)
+    element(sheet, sizes.places.note_bs, pc)
 }
 
 // The write count at pc; 65,535 says that the effect visitor erred.
@@ -50,7 +52,7 @@ pub fn write_count_at(sheet: &[u8], sizes: Sizes, pc: usize) -> u16
     requires { Measured sheet.now sizes × (pc < sizes.code_count) }
     ensures { result ≡ write_count sheet.now pc }
 {
-    u16_in(sheet, sizes.places.write_counts, pc)
+    element(sheet, sizes.places.write_counts, pc)
 }
 
 // How many ranges the instruction at pc takes: none where the effect visitor erred.
@@ -67,7 +69,7 @@ pub fn range_start_at(sheet: &[u8], sizes: Sizes, i: usize) -> u16
     requires { Measured sheet.now sizes × (i < sizes.range_count) }
     ensures { result ≡ range_start sheet.now i }
 {
-    u16_in(sheet, sizes.places.range_starts, i)
+    element(sheet, sizes.places.range_starts, i)
 }
 
 // How many slots write range i has.
@@ -75,5 +77,5 @@ pub fn range_length_at(sheet: &[u8], sizes: Sizes, i: usize) -> u32
     requires { Measured sheet.now sizes × (i < sizes.range_count) }
     ensures { result ≡ range_length sheet.now i }
 {
-    u32_in(sheet, sizes.places.range_lengths, i)
+    element(sheet, sizes.places.range_lengths, i)
 }

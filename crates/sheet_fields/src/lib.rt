@@ -1,5 +1,5 @@
-// What a sheet says of each instruction: its code, its note, and the slots that it writes.
-// What a sheet says of each constant, parameter and layout.
+// What a sheet says: a reader for each field. They stay apart, since each promises its own field's definition, by the field's name; one
+// function that takes the field would be no plainer.
 #![tactic(auto)]
 
 mod instructions;
@@ -11,5 +11,5 @@ pub use instructions::{
 };
 pub use pools::{
     constant_bits_at, constant_kind_at, layout_length_at, param_a_at, param_b_at, param_kind_at,
-    param_width_at, slot_kind_at,
+    param_width_at, slot_kind_at, slot_kinds,
 };

@@ -28,23 +28,16 @@ use Rattle.sheet_layouts.proofs.LowestSearch.{past}
 
 -- ---- the table is filled
 
--- one number in every place
-pub classes_filled : {v : ℕ} {old out : List ℕ} {i : ℕ} → Turned (λ j. v) old out i → length out ≤ i → out ≡ replicate (length old) v
-classes_filled {v} {old} {out} {i} t h =
-    t.is
-    ∙ front_whole (λ j. v) i 0 old (replicate (length old) v) (omega (arith, t.long, t.within)) (length-replicate (length old) v)
-    (λ j l. get_or-replicate (length old) j v 0 (omega (arith, length-replicate (length old) v)))
-
 front_kept : (f : ℕ → ℕ) (count : ℕ) (old : List ℕ) (i : ℕ) → count ≤ i → get_or (front f count old) i 0 ≡ get_or old i 0
 unfolding front
 front_kept f zero old i h = refl
 front_kept f (suc n) old i h = get_or-set_other (front f n old) n i (f n) 0 (λ e. omega arith) ∙ front_kept f n old i (omega arith)
 
 -- the class of y in every place, and then each of the first y its own
-pub all_classes : (sheet old : List ℕ) {y v i : ℕ} {from out : List ℕ} → ((j : ℕ) → y ≤ j → lowest sheet y ≡ lowest sheet j) → v ≡ lowest sheet y
+pub all_classes : (sheet old : List ℕ) {y v i : ℕ} {from out : List ℕ} → y ≡ layout_count sheet → v ≡ lowest sheet y
     → from ≡ replicate (length old) v → Turned (lowest sheet) from out i → i ≡ y → out ≡ layout_classes sheet old
 unfolding layout_classes
-all_classes sheet old {y} {v} {i} {from} {out} same is all t e = sym (front_whole (lowest sheet) (length old) 0 old out refl long at)
+all_classes sheet old {y} {v} {i} {from} {out} count is all t e = sym (front_whole (lowest sheet) (length old) 0 old out refl long at)
   where
     from_long : length from ≡ length old
     from_long = rw all (length-replicate (length old) v)
@@ -59,7 +52,7 @@ all_classes sheet old {y} {v} {i} {from} {out} same is all t e = sym (front_whol
         go true k = rw t.is (get_d_front (lowest sheet) i from j 0 (ltb-true j i k) t.within)
         go false k =
             let n = ltb-false j i k in
-            rw (t.is, front_kept (lowest sheet) i from j n, all, get_or-replicate (length old) j v 0 (omega (arith, long))) (is ∙ same j (omega arith))
+            rw (t.is, front_kept (lowest sheet) i from j n, all, get_or-replicate (length old) j v 0 (omega (arith, long))) (is ∙ rw count (past sheet j (omega arith)))
 
 -- a class is below 65,536
 pub class_fits : {sheet : List ℕ} {sizes : Sizes} {starts : List ℕ} → Readable sheet sizes starts → (i : ℕ) {class : ℕ} → i ≤ sizes.layout_count → class ≡ lowest sheet i → class < 65536

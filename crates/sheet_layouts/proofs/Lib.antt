@@ -1,6 +1,3 @@
--- Equal layouts, by what is read of them
-pub mod Content
-pub mod Layouts
 -- The search for equal layouts
 pub mod LowestSearch
 -- For other crates to cite: equal layouts have one lowest number, and one class

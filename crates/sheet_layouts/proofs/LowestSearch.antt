@@ -1,24 +1,23 @@
--- The lowest layout of equal content: what a search over the layouts, and over the slot kinds of each, finds.
+-- The lowest layout of equal content: what a search over the layouts finds.
 -- Assumes nothing.
 use mathlib.Core.Path.{◌≡◌, refl, sym, ap, ◌∙◌}
 use mathlib.Core.Bool.{Bool, true, false}
 use mathlib.Core.Logic.{◌⊎◌, inl, inr}
 use mathlib.Core.List.{List, []}
-use Prim.Native.Nat.{ℕ, zero, suc, ◌+◌, ◌-◌, ◌≤◌, ◌<◌}
-use native.Mathlib.Nat.{add_assoc, eq-or-lt_of_le, eq-zero-or-pos}
+use Prim.Native.Nat.{ℕ, zero, suc, ◌+◌, ◌-◌, ◌≤◌, ◌<◌, min}
+use native.Mathlib.Nat.{eq-or-lt_of_le}
 use native.Mathlib.Omega.{arith}
-use lib.ListN.{length, get_or, take, drop}
-use borrow.Author.Tests.{lt-ltb, le-ltb}
-use Rattle.model.specs.Bytes.{byte}
-use Rattle.model.specs.Sheet.{layout, layout_count, layout_length, layout_start, slot_kinds_at}
+use lib.Dec.{ltb}
+use lib.ListN.{length, get_or}
+use lib.Seq.{ext_get_or}
+use borrow.Author.Tests.{ltb-true, ltb-false, le-ltb}
+use Rattle.model.specs.Sheet.{layout, layout_count, layout_length}
 use Rattle.model.specs.Fact.{equal_content, equal_layouts}
 use Rattle.model.specs.Listing.{lowest_from, lowest}
+use Rattle.model.proofs.Equality.{content_self, content_path}
+use Rattle.sheet.specs.Measured.{Accepted}
 use Rattle.sheet.specs.declared.Sizes.{Sizes}
 use Rattle.sheet.proofs.SizeNames.{counted}
-use Rattle.sheet.proofs.AcceptedSheet.{layout_fits}
-use Rattle.sheet_layouts.proofs.Content.{parts_differ, parts_same}
-use Rattle.sheet_layouts.proofs.Layouts.{named, layout_inside, both_empty, same_content}
-use Rattle.sheet_layouts.specs.Readable.{Readable, start_of}
 
 -- ---- the layouts in order
 
@@ -59,7 +58,7 @@ module _ (sheet : List ℕ) (i : ℕ) where
 -- ---- from y up
 
 module _ (sheet : List ℕ) where
-  empty_past : (i : ℕ) → layout_count sheet ≤ i → layout sheet i ≡ []
+  pub empty_past : (i : ℕ) → layout_count sheet ≤ i → layout sheet i ≡ []
   unfolding layout layout_length
   empty_past i h = rw (le-ltb i (layout_count sheet) h)
 
@@ -87,61 +86,37 @@ module _ (sheet : List ℕ) where
       go (inl e) = rw e
       go (inr l) = sym (longer i h (layout_count sheet) (i - layout_count sheet - 1) 0 i (omega arith) (omega arith))
 
--- ---- the slot kinds of one
+-- ---- as the code searches
 
--- the first n slot kinds from a are those from b
-abbrev pub Agree : List ℕ → ℕ → ℕ → ℕ → Type 0
-Agree sheet a b n = (k : ℕ) → k < n → byte sheet (slot_kinds_at sheet + (a + k)) ≡ byte sheet (slot_kinds_at sheet + (b + k))
+-- the first k slot kinds are alike
+abbrev pub Alike : List ℕ → List ℕ → ℕ → Type 0
+Alike own other k = (m : ℕ) → m < k → get_or other m 0 ≡ get_or own m 0
 
-module _ {sheet : List ℕ} {sizes : Sizes} {starts : List ℕ} (r : Readable sheet sizes starts) where
-  -- the same, by the number of layouts that was read
-  pub past_count : (i : ℕ) → sizes.layout_count ≤ i → lowest sheet sizes.layout_count ≡ lowest sheet i
-  past_count i h = let n = counted r.accepted.are in ap (lowest sheet) n.layout_count_is ∙ past sheet i (omega arith)
+module _ (sheet : List ℕ) (i j : ℕ) {own other : List ℕ} (its : other ≡ layout sheet j) (is : own ≡ layout sheet i) where
+  -- a length or a slot kind differs
+  pub unlike : (other ≡ own → ⊥) → equal_layouts sheet j i ≡ false
+  unfolding equal_layouts
+  unlike apart = go (equal_content (layout sheet j) (layout sheet i)) refl
+    where
+      go : (b : Bool) → equal_content (layout sheet j) (layout sheet i) ≡ b → b ≡ false
+      go true e = absurd (apart (its ∙ content_path (layout sheet j) (layout sheet i) e ∙ sym is))
+      go false e = refl
 
-  pub starts_long : sizes.layout_count ≤ length starts
-  starts_long = let n = counted r.accepted.are in omega (arith, r.begins.long)
+  -- none does
+  pub same : length other ≡ length own → Alike own other (length own) → equal_layouts sheet j i ≡ true
+  unfolding equal_layouts
+  same long alike =
+      let e : other ≡ own = ext_get_or 0 other own long (λ m h. alike m (omega arith)) in
+      rw (← its, ← is, e) (content_self own)
 
-  start_is : (i : ℕ) → i < sizes.layout_count → start_of starts sizes.layout_count i ≡ layout_start sheet i
-  unfolding start_of
-  start_is i h = let n = counted r.accepted.are in rw (lt-ltb i sizes.layout_count h) (r.begins.at i (omega arith))
-
-  module _ (i j count a b : ℕ) (within : i ≤ sizes.layout_count) (below : j < i) (li : count ≡ layout_length sheet i) (lj : count ≡ layout_length sheet j)
-      (ea : a ≡ start_of starts sizes.layout_count j) (eb : b ≡ start_of starts sizes.layout_count i) where
-    -- a layout that is not empty is one of the y
-    inside : (k : ℕ) → k < count → i < sizes.layout_count
-    inside k h = named r.accepted i li (λ e. omega arith)
-
-    pub first_inside : (k : ℕ) → k < count → a + k < sizes.slot_kind_count
-    first_inside k h = omega (arith, layout_fits r.accepted j (omega arith), start_is j (omega arith))
-
-    pub second_inside : (k : ℕ) → k < count → b + k < sizes.slot_kind_count
-    second_inside k h = omega (arith, layout_fits r.accepted i (inside k h), start_is i (inside k h))
-
-    same : (k : ℕ) → k < count → {t : Bool} → t ≡ equal_content (take count (drop (slot_kinds_at sheet + a) sheet)) (take count (drop (slot_kinds_at sheet + b) sheet)) → t ≡ equal_layouts sheet j i
-    same k h e =
-        same_content r.accepted j i lj li refl (ap (λ (x : ℕ). slot_kinds_at sheet + x) (ea ∙ start_is j (omega arith)))
-        (ap (λ (x : ℕ). slot_kinds_at sheet + x) (eb ∙ start_is i (inside k h))) e
-
-    pub kinds_differ : (k x z : ℕ) → k < count → x ≡ byte sheet (slot_kinds_at sheet + (a + k)) → z ≡ byte sheet (slot_kinds_at sheet + (b + k)) → (x ≡ z → ⊥)
-        → equal_layouts sheet j i ≡ false
-    unfolding byte
-    kinds_differ k x z h ex ez apart =
-        sym (same k h (sym (parts_differ sheet (slot_kinds_at sheet + a) (slot_kinds_at sheet + b) count k h (λ e. apart (ex ∙ sym (at a) ∙ e ∙ at b ∙ sym ez)))))
-      where
-        at : (c : ℕ) → get_or sheet (slot_kinds_at sheet + c + k) 0 ≡ get_or sheet (slot_kinds_at sheet + (c + k)) 0
-        at c = rw add_assoc
-
-    pub kinds_agree : Agree sheet a b count → equal_layouts sheet j i ≡ true
-    unfolding byte
-    kinds_agree all = go (eq-zero-or-pos count)
-      where
-        at : (c k : ℕ) → get_or sheet (slot_kinds_at sheet + c + k) 0 ≡ get_or sheet (slot_kinds_at sheet + (c + k)) 0
-        at c k = rw add_assoc
-
-        go : (count ≡ 0) ⊎ (0 < count) → equal_layouts sheet j i ≡ true
-        go (inl e) = sym (both_empty r.accepted j i lj li refl e)
-        go (inr h) =
-            sym (same 0 h (sym (parts_same sheet (slot_kinds_at sheet + a) (slot_kinds_at sheet + b) count
-            (omega (arith, layout_inside r.accepted j (omega arith), start_is j (omega arith)))
-            (omega (arith, layout_inside r.accepted i (inside 0 h), start_is i (inside 0 h)))
-            (λ k l. at a k ∙ all k l ∙ sym (at b k)))))
+-- a number from y up finds what y does, by the number of layouts that was read
+pub capped : {sheet : List ℕ} {sizes : Sizes} → Accepted sheet sizes → (i : ℕ) {n : ℕ} → n ≡ min i sizes.layout_count → lowest sheet n ≡ lowest sheet i
+capped {sheet} {sizes} a i {n} e = go (ltb i sizes.layout_count) refl
+  where
+    go : (b : Bool) → ltb i sizes.layout_count ≡ b → lowest sheet n ≡ lowest sheet i
+    go true t = let h = ltb-true i sizes.layout_count t in let p : n ≡ i = omega arith in rw p
+    go false t =
+        let h = ltb-false i sizes.layout_count t in
+        let k = counted a.are in
+        let p : n ≡ layout_count sheet = omega arith in
+        rw p (past sheet i (omega arith))

@@ -1,75 +1,48 @@
 // "with the lowest layout number of equal content": of one layout, and once a call of all, to be read as often as needed
 #![tactic(auto)]
 
-ghost use Rattle.std.specs.Prelude.{◌≡◌, ◌≤◌, ◌<◌, length, replicate};
+ghost use Rattle.std.specs.Prelude.{◌≡◌, ◌<◌, length};
 ghost use Rattle.model.specs.Listing.{lowest};
+ghost use Rattle.model.specs.Sheet.{layout};
 ghost use Rattle.sheet_layouts.specs.Classes.{layout_classes, class_of};
-ghost use Rattle.sheet_layouts.specs.Readable.{Readable, start_of};
+ghost use Rattle.sheet_layouts.specs.Readable.{Readable};
 
 use sheet::Sizes;
-use sheet_fields::{layout_length_at, slot_kind_at};
+use sheet_fields::{layout_length_at, slot_kinds};
 
-// Where the slot kinds of layout i begin among the q. starts is what layout_starts has filled; from y up there are none.
-fn start_of(starts: &[u16], y: usize, i: usize) -> usize
-    requires { y ≤ length starts.now }
-    ensures { result ≡ start_of starts.now y i }
+// The slot kinds of layout i; none from y up. starts is what layout_starts has filled.
+fn content<'a>(sheet: &'a [u8], sizes: Sizes, starts: &[u16], i: usize) -> &'a [u8]
+    requires { Readable sheet.now sizes starts.now }
+    ensures { result.now ≡ layout sheet.now i }
 {
-    if i < y {
-        return starts[i] as usize;
+    if sizes.layout_count <= i {
+        return &sheet[..0];
     }
-    0
-}
-
-// The lowest layout with the content of layout i. A slot kind that differs goes on with the next layout.
-fn lowest_of(sheet: &[u8], sizes: Sizes, starts: &[u16], i: usize) -> usize
-    requires { Readable sheet.now sizes starts.now × (i ≤ sizes.layout_count) }
-    ensures { result ≡ lowest sheet.now i }
-{
-    let y = sizes.layout_count;
     let count = layout_length_at(sheet, sizes, i) as usize;
-    let b = start_of(starts, y, i);
-    let mut j = 0;
-    'outer: while j < i {
-        if layout_length_at(sheet, sizes, j) as usize != count {
-            j += 1;
-            continue 'outer;
-        }
-        let a = start_of(starts, y, j);
-        let mut k = 0;
-        while k < count {
-            if slot_kind_at(sheet, sizes, a + k) != slot_kind_at(sheet, sizes, b + k) {
-                j += 1;
-                continue 'outer;
-            }
-            k += 1;
-        }
-        return j;
-    }
-    i
+    slot_kinds(sheet, sizes, starts[i] as usize, count)
 }
 
-// The lowest layout with the content of layout i, for any number. From y up a layout is empty.
+// The lowest layout with the content of layout i, for any number. From y up a layout is empty. Slices have `==`; that a slot kind which differs
+// goes on with the next layout by label is the form which document 01 names for this place.
 pub fn lowest(sheet: &[u8], sizes: Sizes, starts: &[u16], i: u64) -> u64
     requires { Readable sheet.now sizes starts.now }
     ensures { result ≡ lowest sheet.now i }
 {
-    let n = i as usize;
-    let y = sizes.layout_count;
-    if n < y {
-        return lowest_of(sheet, sizes, starts, n) as u64;
+    let n = (i as usize).min(sizes.layout_count);
+    let own = content(sheet, sizes, starts, n);
+    'outer: for j in 0..n {
+        let other = content(sheet, sizes, starts, j);
+        if other.len() != own.len() {
+            continue 'outer;
+        }
+        for k in 0..own.len() {
+            if other[k] != own[k] {
+                continue 'outer;
+            }
+        }
+        return j as u64;
     }
-    lowest_of(sheet, sizes, starts, y) as u64
-}
-
-// One class in every place.
-fn fill(classes: &mut [u16], class: u16)
-    ensures { classes.new ≡ replicate (length classes.old) class }
-{
-    let mut i = 0;
-    while i < classes.len() {
-        classes[i] = class;
-        i += 1;
-    }
+    n as u64
 }
 
 // The class of every layout: the lowest number of equal content. From y up a layout is empty, and its class is that of y.
@@ -78,11 +51,9 @@ pub fn layout_classes(sheet: &[u8], sizes: Sizes, starts: &[u16], classes: &mut 
     ensures { classes.new ≡ layout_classes sheet.now classes.old }
 {
     let y = sizes.layout_count;
-    fill(classes, lowest_of(sheet, sizes, starts, y) as u16);
-    let mut i = 0;
-    while i < y {
-        classes[i] = lowest_of(sheet, sizes, starts, i) as u16;
-        i += 1;
+    classes.fill(lowest(sheet, sizes, starts, y as u64) as u16);
+    for i in 0..y {
+        classes[i] = lowest(sheet, sizes, starts, i as u64) as u16;
     }
 }
 

@@ -12,12 +12,10 @@ pub fn within_limits(sheet: &[u8]) -> bool
     requires { 40 ≤ length sheet.now }
     ensures { result ≡ within_limits sheet.now 0 limits }
 {
-    let mut j = 0;
-    while j < 10 {
+    for j in 0..10 {
         if LIMITS[j] < size_at(sheet, j) {
             return false;
         }
-        j += 1;
     }
     true
 }

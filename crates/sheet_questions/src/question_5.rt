@@ -1,8 +1,8 @@
 // Question 5: is every kind byte named and every used layout number below y? Each loop is one pass without an early end, which compiles to
 // a loop over several entries at a time.
-ghost use Rattle.std.specs.Prelude.{◌≡◌, ◌+◌, ◌<◌};
+ghost use Rattle.std.specs.Prelude.{◌≡◌, ◌<◌, ℕ, Bool};
 ghost use Rattle.model.specs.Count.{every};
-ghost use Rattle.model.specs.Sheet.{code_count, constant_count, param_count, slot_kind_count, layouts_used, kinds_named};
+ghost use Rattle.model.specs.Sheet.{layouts_used, kinds_named};
 ghost use Rattle.model.specs.Sheet.{note_named, constant_named, param_named, slot_kind_named};
 ghost use Rattle.sheet.specs.Measured.{Measured};
 
@@ -13,6 +13,7 @@ use sheet_fields::{
 };
 
 // "kind 1 uses A (key) and B (value); the other nonzero kinds use A only. Unused ones are ignored."
+#[tactic(auto, unfolding(model::specs::Sheet::layouts_used))]
 fn layouts_used(count: usize, kind: u8, a: u16, b: u16) -> bool
     ensures { result ≡ layouts_used count kind a b }
 {
@@ -31,6 +32,7 @@ fn note_named(sheet: &[u8], sizes: Sizes, pc: usize) -> bool
 }
 
 // Question 5 of constant i.
+#[tactic(auto, unfolding(model::specs::Sheet::constant_named))]
 fn constant_named(sheet: &[u8], sizes: Sizes, i: usize) -> bool
     requires { Measured sheet.now sizes × (i < sizes.constant_count) }
     ensures { result ≡ constant_named sheet.now i }
@@ -50,6 +52,7 @@ fn param_named(sheet: &[u8], sizes: Sizes, i: usize) -> bool
 }
 
 // Question 5 of slot kind i.
+#[tactic(auto, unfolding(model::specs::Sheet::slot_kind_named))]
 fn slot_kind_named(sheet: &[u8], sizes: Sizes, i: usize) -> bool
     requires { Measured sheet.now sizes × (i < sizes.slot_kind_count) }
     ensures { result ≡ slot_kind_named sheet.now i }
@@ -57,64 +60,16 @@ fn slot_kind_named(sheet: &[u8], sizes: Sizes, i: usize) -> bool
     slot_kind_at(sheet, sizes, i) <= 5
 }
 
-// Question 5 of all notes.
-fn notes_named(sheet: &[u8], sizes: Sizes) -> bool
-    requires { Measured sheet.now sizes }
-    ensures { result ≡ every (note_named sheet.now) (code_count sheet.now) }
+// Whether each number below count is named: one pass without an early end.
+fn all_named<F: Fn(usize) -> bool>(count: usize, named: F) -> bool
+    requires { (i : ℕ) → i < count → F.pre named i }
+    ensures { (f : ℕ → Bool) → ((i : ℕ) (b : Bool) → i < count → F.post named i b → b ≡ f i) → result ≡ every f count }
 {
-    let count = sizes.code_count;
-    let mut named = true;
-    let mut i = 0;
-    while i < count {
-        named = named & note_named(sheet, sizes, i);
-        i += 1;
+    let mut all = true;
+    for i in 0..count {
+        all = all & named(i);
     }
-    named
-}
-
-// Question 5 of all constants.
-fn constants_named(sheet: &[u8], sizes: Sizes) -> bool
-    requires { Measured sheet.now sizes }
-    ensures { result ≡ every (constant_named sheet.now) (constant_count sheet.now) }
-{
-    let count = sizes.constant_count;
-    let mut named = true;
-    let mut i = 0;
-    while i < count {
-        named = named & constant_named(sheet, sizes, i);
-        i += 1;
-    }
-    named
-}
-
-// Question 5 of all parameters.
-fn params_named(sheet: &[u8], sizes: Sizes) -> bool
-    requires { Measured sheet.now sizes }
-    ensures { result ≡ every (param_named sheet.now) (param_count sheet.now) }
-{
-    let count = sizes.param_count;
-    let mut named = true;
-    let mut i = 0;
-    while i < count {
-        named = named & param_named(sheet, sizes, i);
-        i += 1;
-    }
-    named
-}
-
-// Question 5 of all slot kinds.
-fn slot_kinds_named(sheet: &[u8], sizes: Sizes) -> bool
-    requires { Measured sheet.now sizes }
-    ensures { result ≡ every (slot_kind_named sheet.now) (slot_kind_count sheet.now) }
-{
-    let count = sizes.slot_kind_count;
-    let mut named = true;
-    let mut i = 0;
-    while i < count {
-        named = named & slot_kind_named(sheet, sizes, i);
-        i += 1;
-    }
-    named
+    all
 }
 
 // "Is every kind byte named and every used layout number below y?"
@@ -122,9 +77,9 @@ pub fn kinds_named(sheet: &[u8], sizes: Sizes) -> bool
     requires { Measured sheet.now sizes }
     ensures { result ≡ kinds_named sheet.now }
 {
-    let notes = notes_named(sheet, sizes);
-    let constants = constants_named(sheet, sizes);
-    let params = params_named(sheet, sizes);
-    let slots = slot_kinds_named(sheet, sizes);
-    notes & constants & params & slots
+    let notes = all_named(sizes.code_count, |pc| note_named(sheet, sizes, pc));
+    let constants = all_named(sizes.constant_count, |i| constant_named(sheet, sizes, i));
+    let params = all_named(sizes.param_count, |i| param_named(sheet, sizes, i));
+    let slot_kinds = all_named(sizes.slot_kind_count, |i| slot_kind_named(sheet, sizes, i));
+    notes & constants & params & slot_kinds
 }

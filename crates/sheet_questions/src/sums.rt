@@ -1,37 +1,21 @@
 // Question 4: the sums of the write counts and of the layout lengths.
-ghost use Rattle.std.specs.Prelude.{◌≡◌};
-ghost use Rattle.model.specs.Sheet.{code_count, layout_count, first_range, layout_start, sums_match};
+ghost use Rattle.std.specs.Prelude.{◌≡◌, ◌≤◌, ◌<◌, ℕ};
+ghost use Rattle.model.specs.Count.{sum};
+ghost use Rattle.model.specs.Sheet.{sums_match};
 ghost use Rattle.sheet.specs.Measured.{Measured};
 
 use sheet::Sizes;
 use sheet_fields::{layout_length_at, ranges_of};
 
-// How many ranges all instructions take.
-fn ranges_taken(sheet: &[u8], sizes: Sizes) -> usize
-    requires { Measured sheet.now sizes }
-    ensures { result ≡ first_range sheet.now (code_count sheet.now) }
+// The sum of what part gives of each number below count. The bound keeps it far from wrapping.
+fn total<F: Fn(usize) -> u16>(count: usize, part: F) -> usize
+    requires few { count ≤ 65536 }
+    requires callable { (i : ℕ) → i < count → F.pre part i }
+    ensures { (f : ℕ → ℕ) → ((i n : ℕ) → i < count → F.post part i n → n ≡ f i) → result ≡ sum f count }
 {
-    let n = sizes.code_count;
-    let mut sum: usize = 0;
-    let mut pc = 0;
-    while pc < n {
-        sum += ranges_of(sheet, sizes, pc) as usize;
-        pc += 1;
-    }
-    sum
-}
-
-// How many slot kinds all layouts have.
-fn slot_kinds_taken(sheet: &[u8], sizes: Sizes) -> usize
-    requires { Measured sheet.now sizes }
-    ensures { result ≡ layout_start sheet.now (layout_count sheet.now) }
-{
-    let y = sizes.layout_count;
-    let mut sum: usize = 0;
-    let mut i = 0;
-    while i < y {
-        sum += layout_length_at(sheet, sizes, i) as usize;
-        i += 1;
+    let mut sum = 0;
+    for i in 0..count {
+        sum += part(i) as usize;
     }
     sum
 }
@@ -41,8 +25,10 @@ pub fn sums_match(sheet: &[u8], sizes: Sizes) -> bool
     requires { Measured sheet.now sizes }
     ensures { result ≡ sums_match sheet.now }
 {
-    if ranges_taken(sheet, sizes) != sizes.range_count {
+    let ranges = total(sizes.code_count, |pc| ranges_of(sheet, sizes, pc));
+    if ranges != sizes.range_count {
         return false;
     }
-    slot_kinds_taken(sheet, sizes) == sizes.slot_kind_count
+    let slot_kinds = total(sizes.layout_count, |i| layout_length_at(sheet, sizes, i));
+    slot_kinds == sizes.slot_kind_count
 }

@@ -1,33 +1,28 @@
 -- `sheet_layouts::layout_classes` meets its contract. The loop's invariant: the first i places have their classes, and the others that of y.
 -- Assumes nothing.
 use native.Mathlib.Omega.{arith}
+use Rattle.std.proofs.Common.{rules}
 use Rattle.memory.proofs.StoreLoops.{turned_none, turn}
-use Rattle.sheet_layouts.proofs.LowestSearch.{past_count}
+use Rattle.sheet.proofs.SizeNames.{counted}
 use Rattle.sheet_layouts.proofs.Classes.{all_classes, class_fits}
 use Rattle.sheet_layouts.proofs.layout_classes.Goals as goal
 
-pub lowest_of-requires : goal.lowest_of-requires
-lowest_of-requires c = (c.requires.0, omega arith)
-
-pub overflow_cast-lowest_of : goal.overflow_cast-lowest_of
-overflow_cast-lowest_of c = omega (arith, class_fits c.requires.0 _ (omega arith) c.lowest_of.ensures)
+pub overflow_cast-lowest : goal.overflow_cast-lowest
+overflow_cast-lowest c = omega (arith, class_fits c.requires.0 _ (omega arith) c.lowest.ensures)
 
 pub loop-i-init : goal.loop-i-init
-loop-i-init c = (omega arith, omega arith, turned_none _ _)
-
-pub lowest_of-requires-in-loop-i : goal.lowest_of-requires-in-loop-i
-lowest_of-requires-in-loop-i c = (c.requires.0, omega arith)
+loop-i-init c = (omega (arith, c.fill.ensures.len), turned_none _ _)
 
 pub overflow_cast-classes : goal.overflow_cast-classes
-overflow_cast-classes c = omega (arith, class_fits c.requires.0 _ (omega arith) c.lowest_of-in-loop-i.ensures)
+overflow_cast-classes c = omega (arith, class_fits c.requires.0 _ (omega arith) c.lowest-in-loop-i.ensures)
 
 pub loop-i-preserved : goal.loop-i-preserved
 loop-i-preserved c =
     let q = c.loop-i.invariant in
-    (omega arith, q.1, turn q.2 (omega arith) c.lowest_of-in-loop-i.ensures)
+    (q.0, turn q.1 (omega (arith, q.1.long)) c.lowest-in-loop-i.ensures)
 
 pub returns : goal.returns
 returns c =
     let q = c.loop-i.invariant in
-    all_classes c.args.sheet.now c.args.classes.now (past_count c.requires.0)
-    c.lowest_of.ensures c.fill.ensures q.2 (omega arith)
+    all_classes c.args.sheet.now c.args.classes.now (counted c.requires.0.accepted.are).layout_count_is
+    c.lowest.ensures (c.fill.ensures.after (λ y s. search rules)) q.1 (omega arith)

@@ -1,13 +1,10 @@
 -- `sheet_layouts::layout_classes` meets its contract. The loop's invariant: the first i places have their classes, and the others that of y.
 -- Assumes nothing.
-use Prim.Native.Nat.{◌-◌, ◌≤◌, ◌<◌}
+use Prim.Native.Nat.{◌<◌}
 use lib.ListN.{length}
 use Rattle.model.specs.Listing.{lowest}
 use Rattle.memory.proofs.StoreLoops.{Turned}
 use Rattle.sheet_layouts.proofs.layout_classes.Given as goal
 
 abbrev pub invariant-loop-i : goal.invariant-loop-i
-invariant-loop-i l = (l.i ≤ l.y) × (l.y < length l.initial.classes) × Turned (lowest l.sheet) l.initial.classes l.classes l.i
-
-abbrev pub decreases-loop-i : goal.decreases-loop-i
-decreases-loop-i l = l.y - l.i
+invariant-loop-i l = (l.y < length l.initial.classes) × Turned (lowest l.sheet) l.initial.classes l.classes l.i

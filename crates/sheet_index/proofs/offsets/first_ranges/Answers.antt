@@ -1,32 +1,27 @@
 -- `sheet_index::offsets::first_ranges` meets its contract. Assumes nothing.
-use Rattle.model.specs.Sheet.{first_range}
-use Rattle.sheet_index.specs.Tables.{first_ranges}
-use Rattle.sheet.proofs.SizeNames.{counted}
-use Rattle.sheet.proofs.SizeLimits.{limited}
-use Rattle.sheet.proofs.AcceptedSheet.{measured, ranges_fit}
-use Rattle.sheet_index.proofs.PrefixSums.{summed_none, summed_more, summed_all}
 use native.Mathlib.Omega.{arith}
+use Rattle.std.proofs.Common.{rules}
+use Rattle.std.proofs.iter.Serving.{serving}
+use Rattle.model.specs.Sheet.{ranges_of, first_range}
+use Rattle.sheet.proofs.AcceptedSheet.{measured, ranges_all}
+use Rattle.sheet.proofs.SizeLimits.{limited}
+use Rattle.sheet.proofs.SizeNames.{counted}
+use Rattle.sheet_index.specs.Tables.{first_ranges}
 use Rattle.sheet_index.proofs.offsets.first_ranges.Goals as goal
 
-pub loop-pc-init : goal.loop-pc-init
-loop-pc-init c = summed_none _ _ _ c.requires.1
+pub sums_before-requires-clause-callable : goal.sums_before-requires-clause-callable
+sums_before-requires-clause-callable c = let m = measured c.requires.0 in grind (serving, m)
 
-pub ranges_of-sum-requires : goal.ranges_of-sum-requires
-ranges_of-sum-requires c = (measured c.requires.0, c.loop-pc-test.true)
-
-pub overflow_add-sum : goal.overflow_add-sum
+pub sums_before-requires-clause-fits : goal.sums_before-requires-clause-fits
 unfolding first_range
-overflow_add-sum c =
+sums_before-requires-clause-fits c =
     let a = c.requires.0 in
+    let n = counted a.are in
     let l = limited (measured a) in
-    omega (arith, ranges_fit a _ c.loop-pc-test.true)
-
-pub loop-pc-preserved : goal.loop-pc-preserved
-loop-pc-preserved c = summed_more c.loop-pc.invariant c.loop-pc-test.true c.ranges_of-sum.ensures
-
-pub shape_of-out : goal.shape_of-out
-shape_of-out c = c.loop-pc.invariant.long
+    (ranges_of c.args.sheet.now, (λ i n below said. search rules), rw n.code_count_is (omega (arith, ranges_all a)))
 
 pub returns : goal.returns
 unfolding first_ranges first_range
-returns c = summed_all c.loop-pc.invariant c.loop-pc-test.false (counted c.requires.0.are).code_count_is
+returns c =
+    let n = counted c.requires.0.are in
+    rw (c.sums_before.ensures (ranges_of c.args.sheet.now) (λ i n below said. search rules), n.code_count_is)

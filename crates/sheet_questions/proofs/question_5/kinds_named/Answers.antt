@@ -1,19 +1,21 @@
--- `sheet_questions::kinds_named` meets its contract. Assumes nothing.
-use Rattle.model.specs.Sheet.{kinds_named}
+-- `sheet_questions::question_5::kinds_named` meets its contract. Assumes nothing.
+use Rattle.std.proofs.Common.{rules}
+use Rattle.model.specs.Sheet.{kinds_named, note_named, constant_named, param_named, slot_kind_named}
+use Rattle.sheet.proofs.SizeNames.{counted}
 use Rattle.sheet_questions.proofs.question_5.kinds_named.Goals as goal
-
-pub notes_named-notes-requires : goal.notes_named-notes-requires
-notes_named-notes-requires c = c.requires
-
-pub constants_named-constants-requires : goal.constants_named-constants-requires
-constants_named-constants-requires c = c.requires
-
-pub params_named-params-requires : goal.params_named-params-requires
-params_named-params-requires c = c.requires
-
-pub slot_kinds_named-slots-requires : goal.slot_kinds_named-slots-requires
-slot_kinds_named-slots-requires c = c.requires
 
 pub returns : goal.returns
 unfolding kinds_named
-returns c = rw (c.notes_named-notes.ensures, c.constants_named-constants.ensures, c.params_named-params.ensures, c.slot_kinds_named-slots.ensures)
+returns c =
+    let sheet = c.args.sheet.now in
+    let n = counted c.requires.are in
+    rw (
+      c.all_named-notes.ensures (note_named sheet) (λ i b below said. search rules),
+      c.all_named-constants.ensures (constant_named sheet) (λ i b below said. search rules),
+      c.all_named-params.ensures (param_named sheet) (λ i b below said. search rules),
+      c.all_named-slot_kinds.ensures (slot_kind_named sheet) (λ i b below said. search rules),
+      n.code_count_is,
+      n.constant_count_is,
+      n.param_count_is,
+      n.slot_kind_count_is,
+    )

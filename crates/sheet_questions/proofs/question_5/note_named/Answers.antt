@@ -1,16 +1,7 @@
--- `sheet_questions::note_named` meets its contract. Assumes nothing.
+-- `sheet_questions::question_5::note_named` meets its contract. Assumes nothing.
 use Rattle.model.specs.Sheet.{note_named}
 use Rattle.sheet.proofs.SizeNames.{counted}
 use Rattle.sheet_questions.proofs.question_5.note_named.Goals as goal
-
-pub note_kind_at-kind-requires : goal.note_kind_at-kind-requires
-note_kind_at-kind-requires c = c.requires
-
-pub note_a_at-a-requires : goal.note_a_at-a-requires
-note_a_at-a-requires c = c.requires
-
-pub note_b_at-b-requires : goal.note_b_at-b-requires
-note_b_at-b-requires c = c.requires
 
 pub returns : goal.returns
 unfolding note_named

@@ -1,4 +1,4 @@
--- `sheet_questions::whole::check_sheet` meets its contract. Assumes nothing.
+-- `sheet_questions::sheet_check::check_sheet` meets its contract. Assumes nothing.
 use mathlib.Core.Path.{sym, ◌∙◌}
 use Rattle.sheet_questions.proofs.FirstRefusal.{refused_1, refused_2, refused_3}
 use Rattle.sheet.proofs.SizeLimits.{limited_by}

@@ -1,23 +1,34 @@
 -- `sheet_questions::sums::sums_match` meets its contract. Assumes nothing.
-use Rattle.model.specs.Sheet.{sums_match}
-use Rattle.sheet.proofs.SizeNames.{counted}
+use native.Mathlib.Omega.{arith}
 use borrow.Author.Tests.{eq-eqb, ne_eqb}
+use Rattle.std.proofs.Common.{rules}
+use Rattle.model.specs.Sheet.{sums_match, first_range, layout_start, ranges_of, layout_length}
+use Rattle.sheet.proofs.SizeLimits.{limited}
+use Rattle.sheet.proofs.SizeNames.{counted}
 use Rattle.sheet_questions.proofs.sums.sums_match.Goals as goal
 
-pub ranges_taken-requires : goal.ranges_taken-requires
-ranges_taken-requires c = c.requires
+pub total-ranges-requires-clause-few : goal.total-ranges-requires-clause-few
+total-ranges-requires-clause-few c = let l = limited c.requires in omega arith
 
-pub returns-then-ranges_taken-sizes : goal.returns-then-ranges_taken-sizes
-unfolding sums_match
-returns-then-ranges_taken-sizes c =
+pub returns-then-ranges-sizes : goal.returns-then-ranges-sizes
+unfolding sums_match first_range
+returns-then-ranges-sizes c =
     let n = counted c.requires.are in
-    rw (← c.ranges_taken.ensures, ← n.range_count_is, ne_eqb _ _ c.if-ranges_taken-sizes.true)
+    rw (← n.code_count_is, ← n.range_count_is, ← c.total-ranges.ensures (ranges_of c.args.sheet.now) (λ pc r below said. search rules), ne_eqb _ _ c.if-ranges-sizes.true)
 
-pub slot_kinds_taken-requires : goal.slot_kinds_taken-requires
-slot_kinds_taken-requires c = c.requires
+pub total-slot_kinds-requires-clause-few : goal.total-slot_kinds-requires-clause-few
+total-slot_kinds-requires-clause-few c = let l = limited c.requires in omega arith
 
 pub returns : goal.returns
-unfolding sums_match
+unfolding sums_match first_range layout_start
 returns c =
     let n = counted c.requires.are in
-    rw (← c.ranges_taken.ensures, ← n.range_count_is, eq-eqb _ _ c.if-ranges_taken-sizes.false, ← c.slot_kinds_taken.ensures, ← n.slot_kind_count_is)
+    rw (
+      ← n.code_count_is,
+      ← n.range_count_is,
+      ← n.layout_count_is,
+      ← n.slot_kind_count_is,
+      ← c.total-ranges.ensures (ranges_of c.args.sheet.now) (λ pc r below said. search rules),
+      ← c.total-slot_kinds.ensures (layout_length c.args.sheet.now) (λ i r below said. search rules),
+      eq-eqb _ _ c.if-ranges-sizes.false,
+    )
