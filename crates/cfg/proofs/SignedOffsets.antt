@@ -2,11 +2,10 @@
 -- Assumes nothing.
 use mathlib.Core.Path.{◌≡◌, refl, ◌∙◌}
 use mathlib.Core.Bool.{Bool, true, false, cond}
-use Prim.Native.Nat.{ℕ, suc, ◌+◌, ◌-◌, ◌^◌, ◌<◌}
+use Prim.Native.Nat.{ℕ, suc, ◌-◌, ◌^◌, ◌<◌}
 use native.Mathlib.Omega.{arith}
-use borrow.Author.Tests.{lt-ltb}
 use lib.Dec.{ltb}
-use lib.IntN.{ℤ, pos, negsuc, ◌+ℤ◌, ◌-ℤ◌}
+use lib.IntN.{ℤ, pos, negsuc, ◌+ℤ◌}
 use lib.Signed.{mag}
 use mir.Syntax.{Width, w64}
 use mir.Val.{SFits, sel, to_z, of_z, bits, hbits}
@@ -16,27 +15,11 @@ sel_cond : (b : Bool) (y z : ℤ) → sel b y z ≡ cond b y z
 sel_cond true y z = refl
 sel_cond false y z = refl
 
--- the bits x, read as signed
-pub signed_read : (w : Width) (x : ℕ) → to_z w x ≡ cond (ltb x (2 ^ hbits w)) (pos x) (negsuc (2 ^ bits w - suc x))
-signed_read w x = sel_cond (ltb x (2 ^ hbits w)) (pos x) (negsuc (2 ^ bits w - suc x))
-
--- ---- bits of the upper half, less the whole: the code finds the number that they stand for at 64 bits, and takes it back to its width
-
-module _ (w : Width) (m x : ℕ) (low : x < suc m) (small : m < 4294967296) (half : suc m - suc x < 2 ^ hbits w) where
-  abbrev difference : ℤ
-  difference = to_z w64 x -ℤ pos (suc m)
-
-  is : difference ≡ negsuc (suc m - suc x)
-  is = rw (to_z_pos w64 x (omega arith), lt-ltb x (suc m) low)
-
-  pub difference_fits : SFits w64 difference
-  difference_fits = rw is record { sfits = omega arith }
-
-  pub narrow_fits : SFits w (to_z w64 (of_z w64 difference))
-  narrow_fits = rw (to_z-of_z w64 difference difference_fits, is) record { sfits = half }
-
-  pub narrow_is : to_z w (of_z w (to_z w64 (of_z w64 difference))) ≡ negsuc (suc m - suc x)
-  narrow_is = to_z-of_z w _ narrow_fits ∙ to_z-of_z w64 difference difference_fits ∙ is
+-- the bits x, read as signed, pass from call to call as bits
+pub read_signed : (w : Width) (x : ℕ) (r : ℤ) → mag r < 2 ^ hbits w → r ≡ to_z w x
+    → to_z w (of_z w r) ≡ cond (ltb x (2 ^ hbits w)) (pos x) (negsuc (2 ^ bits w - suc x))
+read_signed w x r f e =
+    to_z-of_z w r record { sfits = f } ∙ e ∙ sel_cond (ltb x (2 ^ hbits w)) (pos x) (negsuc (2 ^ bits w - suc x))
 
 -- ---- the sum of a small number and an offset of the width w
 
@@ -52,7 +35,7 @@ module _ (w : Width) (p : ℕ) (z : ℤ) (f : SFits w z) (hp : p < 65536) (hz : 
   abbrev sum : ℤ
   sum = to_z w64 p +ℤ to_z w64 (of_z w64 (to_z w (of_z w z)))
 
-  pub wide_fits : SFits w64 (to_z w (of_z w z))
+  wide_fits : SFits w64 (to_z w (of_z w z))
   wide_fits = rw (to_z-of_z w z f) record { sfits = omega arith }
 
   plain : sum ≡ pos p +ℤ z

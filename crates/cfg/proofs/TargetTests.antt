@@ -1,15 +1,15 @@
 -- What a target adds to the successors, by the tests of the code.
 -- Assumes nothing.
 use mathlib.Core.Path.{◌≡◌, refl, sym, ap, ◌∙◌}
-use mathlib.Core.Bool.{true, false}
 use mathlib.Core.Logic.{◌≢◌}
 use mathlib.Core.List.{List, [], ◌∷◌}
 use Prim.Native.Nat.{ℕ, ◌≤◌, ◌<◌}
 use native.Mathlib.Omega.{arith}
-use borrow.Author.Tests.{eq-eqb, ne_eqb, lt-ltb, le-ltb, ltb-true}
+use borrow.Author.Tests.{eq-eqb, ne_eqb, lt-ltb, le-ltb}
 use lib.IntN.{ℤ, pos, negsuc, nat_abs}
-use lib.Signed.{lt_z}
 use lib.ListN.{get_or}
+use lib.Signed.{mag}
+use Rattle.std.specs.Int.{FitsUnsignedBits}
 use Rattle.model.specs.Successors.{contains, push, push_valid, as_record}
 use Rattle.model.specs.declared.InstructionSuccessors.{InstructionSuccessors}
 
@@ -44,17 +44,26 @@ module _ (s : InstructionSuccessors) (pc : ℕ) where
 -- ---- "Targets outside 0..n−1 are dropped"
 
 module _ (n : ℕ) (targets : List ℕ) where
-  pub below_zero : (z : ℤ) → lt_z z (pos 0) ≡ true → push_valid n targets z ≡ targets
-  unfolding push_valid
-  below_zero (pos k) e = absurd (omega (arith, ltb-true k 0 e))
-  below_zero (negsuc k) e = refl
-
   pub past_end : (z : ℤ) → n ≤ nat_abs z → push_valid n targets z ≡ targets
   unfolding push_valid
   past_end (pos k) h = rw (le-ltb k n h)
   past_end (negsuc k) h = refl
 
-  pub valid_inside : (z : ℤ) → lt_z z (pos 0) ≡ false → nat_abs z < n → push_valid n targets z ≡ push targets (nat_abs z)
+  pub inside : (k : ℕ) → k < n → push_valid n targets (pos k) ≡ push targets k
   unfolding push_valid
-  valid_inside (pos k) e h = rw (lt-ltb k n h)
-  valid_inside (negsuc k) e h = absurd (let z : ◌≡◌ {A = ℕ} 0 1 = cc in omega arith)
+  inside k h = rw (lt-ltb k n h)
+
+  -- ---- and of a target as std's conversion tells it
+
+  pub target_inside : (z : ℤ) (pc : ℕ) → FitsUnsignedBits 64 z × pc ≡ nat_abs z → pc < n → push targets pc ≡ push_valid n targets z
+  unfolding push_valid
+  target_inside (pos k) pc (f, e) h = rw (lt-ltb k n (rw e at h), e)
+  target_inside (negsuc k) pc (f, e) h = absurd f
+
+  pub target_past_end : (z : ℤ) (pc : ℕ) → FitsUnsignedBits 64 z × pc ≡ nat_abs z → n ≤ pc → targets ≡ push_valid n targets z
+  target_past_end z pc (f, e) h = sym (past_end z (rw e at h))
+
+  pub target_negative : (z : ℤ) → (FitsUnsignedBits 64 z → ⊥) → mag z < 9223372036854775808 → targets ≡ push_valid n targets z
+  unfolding push_valid
+  target_negative (pos k) h f = absurd (h (omega (arith, f)))
+  target_negative (negsuc k) h f = refl

@@ -1,2 +1,0 @@
--- The ways in which an instruction goes on, in the words of crate model
-pub mod Flow

@@ -134,13 +134,3 @@ fact_nowhere (x ∷ xs) [] slot b = refl
 fact_nowhere (x ∷ xs) (f ∷ fs) slot b =
     rw (ne_eqb slot x (λ q. b 0 (omega arith) (sym q)))
     (fact_nowhere xs fs slot (λ i m q. b (suc i) (omega arith) q))
-
-module _ {xs : List ℕ} {slot at : ℕ} (b : Bound xs slot at) (row : Row) where
-  pub fact_found : length row ≡ length xs → at < length xs → get_or xs at 0 ≡ slot → fact_for xs row slot ≡ get_or row at unknown
-  fact_found n l e = fact_at xs row slot at n l e (λ i m q. omega (arith, b.below i m))
-
-  pub fact_past : length xs ≤ at → fact_for xs row slot ≡ unknown
-  fact_past h = fact_nowhere xs row slot (none_past b h)
-
-  pub fact_between : ascends xs ≡ true → at < length xs → (get_or xs at 0 ≡ slot → ⊥) → fact_for xs row slot ≡ unknown
-  fact_between h l other = fact_nowhere xs row slot (none_between b h l other)

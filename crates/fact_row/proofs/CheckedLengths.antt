@@ -2,34 +2,12 @@
 -- Assumes nothing.
 use mathlib.Core.Path.{◌≡◌, refl}
 use mathlib.Core.Bool.{Bool, true, false, cond}
-use mathlib.Core.Logic.{◌≢◌}
-use Prim.Native.Nat.{ℕ, zero, suc, ◌≤◌, ◌<◌}
+use Prim.Native.Nat.{ℕ, zero, suc, ◌≤◌}
 use native.Mathlib.Omega.{arith}
 use lib.Dec.{leb}
-use borrow.Author.Tests.{le-leb, lt-leb, leb-true}
+use borrow.Author.Tests.{leb-true}
 use Rattle.model.specs.Fact.{Fact, unknown, conflict, known, value}
-use Rattle.model.specs.Tables.{fact_of}
 use Rattle.model.specs.Transfer.{checked, checked_from}
-
--- by the kind of the length's cell
-pub checked_unknown : (k v : ℕ) → k ≡ 0 → unknown ≡ checked_from (fact_of k v)
-unfolding fact_of checked_from
-checked_unknown k v e = rw e
-
-pub checked_other : (k v : ℕ) → k ≢ 0 → k ≢ 2 → conflict ≡ checked_from (fact_of k v)
-unfolding fact_of checked_from
-checked_other zero v h l = absurd (h refl)
-checked_other (suc zero) v h l = refl
-checked_other (suc (suc zero)) v h l = absurd (l refl)
-checked_other (suc (suc (suc k))) v h l = refl
-
-pub checked_over : (k v : ℕ) → k ≡ 2 → 65535 < v → conflict ≡ checked_from (fact_of k v)
-unfolding fact_of checked_from
-checked_over k v e h = rw (e, lt-leb v 65535 h)
-
-pub checked_in : (k v : ℕ) → k ≡ 2 → v ≤ 65535 → known 0 v ≡ checked_from (fact_of k v)
-unfolding fact_of checked_from checked
-checked_in k v e h = rw (e, le-leb v 65535 h)
 
 -- ---- a fact that is one already
 

@@ -1,14 +1,12 @@
 -- Where a slot stands, as `model` says it, and what is stored there.
 -- Assumes nothing.
-use Rattle.std.specs.Prelude.{List, ℕ, set}
+use Rattle.std.specs.Prelude.{List, ℕ, set, Option as Choice, Some, None}
 use Rattle.std.proofs.Math.Option.{Option, none, some}
-use Rattle.fact_row.specs.declared.Place.{Place}
-use Rattle.fact_row.specs.declared.Place.TheVariants.{At, Untracked}
 
 -- the place that is answered
-abbrev pub placed : Place → Option ℕ
-placed (At j) = some j
-placed Untracked = none
+abbrev pub placed : Choice ℕ → Option ℕ
+placed (Some j) = some j
+placed None = none
 
 -- a list with another number at a place, if there is one
 unfoldable pub set_at : Option ℕ → List ℕ → ℕ → List ℕ

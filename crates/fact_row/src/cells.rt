@@ -1,26 +1,12 @@
-// Facts as cells: "Kind 0 Unknown .., value 0", Conflict, the containers' known facts, and IndexCheck's fact from a length.
+// Facts as cells: the containers' known facts, and IndexCheck's fact from a length. A kind is a number, as it lies in the lent tables.
 ghost use Rattle.std.specs.Prelude.{◌≡◌};
-ghost use Rattle.model.specs.Fact.{unknown, conflict};
 ghost use Rattle.model.specs.Tables.{fact_in, cell_of};
 ghost use Rattle.model.specs.Transfer.{checked_from, map_fact, queue_fact};
 
 use model::FactCell;
 
-// "Kind 0 Unknown .., value 0"
-pub fn unknown_cell() -> FactCell
-    ensures { result ≡ cell_of unknown }
-{
-    FactCell { kind: 0, value: 0 }
-}
-
-// "1 Conflict, value 0"
-pub fn conflict_cell() -> FactCell
-    ensures { result ≡ cell_of conflict }
-{
-    FactCell { kind: 1, value: 0 }
-}
-
 // "Containers: 2 map ..; value A × 65,536 + B"
+#[tactic(auto, unfolding(model::specs::Fact::kind, model::specs::Fact::value, model::specs::Tables::cell_of, model::specs::Transfer::map_fact))]
 pub fn map_cell(key_layout: u16, val_layout: u16) -> FactCell
     ensures { result ≡ cell_of (map_fact key_layout val_layout) }
 {
@@ -31,6 +17,7 @@ pub fn map_cell(key_layout: u16, val_layout: u16) -> FactCell
 }
 
 // "4 queue", "B 0 for a queue"
+#[tactic(auto, unfolding(model::specs::Fact::kind, model::specs::Fact::value, model::specs::Tables::cell_of, model::specs::Transfer::queue_fact))]
 pub fn queue_cell(elem_layout: u16) -> FactCell
     ensures { result ≡ cell_of (queue_fact elem_layout) }
 {
@@ -41,20 +28,16 @@ pub fn queue_cell(elem_layout: u16) -> FactCell
 }
 
 // IndexCheck's fact from the length's: 0 to 65,535 is Checked, any other number and Conflict are Conflict, Unknown is Unknown.
+#[tactic(auto, unfolding(model::specs::Fact::kind, model::specs::Fact::value, model::specs::Tables::cell_of, model::specs::Tables::fact_in, model::specs::Tables::fact_of, model::specs::Transfer::checked_from, model::specs::Transfer::checked))]
 pub fn checked_cell(length: FactCell) -> FactCell
     ensures { result ≡ cell_of (checked_from (fact_in length)) }
 {
-    if length.kind == 0 {
-        return unknown_cell();
-    }
-    if length.kind != 2 {
-        return conflict_cell();
-    }
-    if 65535 < length.value {
-        return conflict_cell();
-    }
-    FactCell {
-        kind: 2,
-        value: length.value,
+    match length.kind {
+        0 => FactCell::UNKNOWN,
+        2 if length.value <= 65535 => FactCell {
+            kind: 2,
+            value: length.value,
+        },
+        _ => FactCell::CONFLICT,
     }
 }

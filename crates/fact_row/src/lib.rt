@@ -4,13 +4,9 @@
 mod bound;
 mod cells;
 mod notes;
+mod row;
 
-pub use bound::{fact_for_tracked_source, find, lower_bound, set_fact, wide};
-pub use cells::{checked_cell, conflict_cell, map_cell, queue_cell, unknown_cell};
+pub use bound::{find, lower_bound, set_fact, wide};
+pub use cells::{checked_cell, map_cell, queue_cell};
 pub use notes::instruction_fact;
-
-#[derive(Clone, Copy)]
-pub enum Place {
-    At(usize),
-    Untracked,
-}
+pub use row::TrackedRow;

@@ -1,7 +1,7 @@
 -- The join of two cells, by the tests of the code.
 -- Assumes nothing.
 use mathlib.Core.Path.{◌≡◌, refl, sym, ap, ◌∙◌}
-use mathlib.Core.Logic.{◌≢◌}
+use mathlib.Core.Logic.{◌≢◌, ◌⊎◌, inl, inr}
 use mathlib.Core.Bool.{Bool, true, false, cond}
 use mathlib.Core.List.{List}
 use Prim.Native.Nat.{ℕ, zero, suc}
@@ -20,27 +20,23 @@ module _ (equal : Bool) (ov nv : ℕ) where
   abbrev merged : ℕ → ℕ → FactCell
   merged ok nk = cell_of (join (λ k v l w. equal) (fact_of ok ov) (fact_of nk nv))
 
-  pub old_conflict : (ok nk : ℕ) → ok ≡ 1 → cell_joined 1 0 ≡ merged ok nk
+  -- either is Conflict
+  pub conflicts : (ok nk : ℕ) → (ok ≡ 1) ⊎ ((ok ≢ 1) × (nk ≡ 1)) → cell_joined 1 0 ≡ merged ok nk
   unfolding fact_of join cell_of kind value
-  old_conflict ok nk e = rw e
+  conflicts ok nk (inl e) = rw e
+  conflicts zero nk (inr (h, e)) = rw e
+  conflicts (suc zero) nk (inr (h, e)) = refl
+  conflicts (suc (suc k)) nk (inr (h, e)) = rw e
 
-  pub new_conflict : (ok nk : ℕ) → nk ≡ 1 → cell_joined 1 0 ≡ merged ok nk
+  -- else either is Unknown
+  pub unknowns : (ok nk : ℕ) → (ok ≢ 1) × (nk ≢ 1) → (ok ≡ 0) ⊎ ((ok ≢ 0) × (nk ≡ 0)) → cell_joined 0 0 ≡ merged ok nk
   unfolding fact_of join cell_of kind value
-  new_conflict zero nk e = rw e
-  new_conflict (suc zero) nk e = refl
-  new_conflict (suc (suc k)) nk e = rw e
-
-  pub old_unknown : (ok nk : ℕ) → nk ≢ 1 → ok ≡ 0 → cell_joined 0 0 ≡ merged ok nk
-  unfolding fact_of join cell_of kind value
-  old_unknown ok zero h e = rw e
-  old_unknown ok (suc zero) h e = absurd (h refl)
-  old_unknown ok (suc (suc l)) h e = rw e
-
-  pub new_unknown : (ok nk : ℕ) → ok ≢ 1 → nk ≡ 0 → cell_joined 0 0 ≡ merged ok nk
-  unfolding fact_of join cell_of kind value
-  new_unknown zero nk h e = rw e
-  new_unknown (suc zero) nk h e = absurd (h refl)
-  new_unknown (suc (suc k)) nk h e = rw e
+  unknowns ok zero h (inl e) = rw e
+  unknowns ok (suc zero) h (inl e) = absurd (h.1 refl)
+  unknowns ok (suc (suc l)) h (inl e) = rw e
+  unknowns zero nk h (inr e) = rw e.1
+  unknowns (suc zero) nk h (inr e) = absurd (h.0 refl)
+  unknowns (suc (suc k)) nk h (inr e) = rw e.1
 
   both_known : (ok nk : ℕ) → ok ≢ 1 → nk ≢ 1 → ok ≢ 0 → nk ≢ 0 → cond equal (cell_joined ok ov) (cell_joined 1 0) ≡ merged ok nk
   unfolding fact_of join cell_of kind value
@@ -54,11 +50,13 @@ module _ (equal : Bool) (ov nv : ℕ) where
       by true = refl
       by false = refl
 
-  pub equal_stays : (ok nk : ℕ) → ok ≢ 1 → nk ≢ 1 → ok ≢ 0 → nk ≢ 0 → equal ≡ true → cell_joined ok ov ≡ merged ok nk
-  equal_stays ok nk a b c d e = ap (λ (t : Bool). cond t (cell_joined ok ov) (cell_joined 1 0)) (sym e) ∙ both_known ok nk a b c d
+  -- both are known
+  module _ (ok nk : ℕ) (a : (ok ≢ 1) × (nk ≢ 1)) (b : (ok ≢ 0) × (nk ≢ 0)) where
+    pub equal_stays : equal ≡ true → cell_joined ok ov ≡ merged ok nk
+    equal_stays e = ap (λ (t : Bool). cond t (cell_joined ok ov) (cell_joined 1 0)) (sym e) ∙ both_known ok nk a.0 a.1 b.0 b.1
 
-  pub different_conflict : (ok nk : ℕ) → ok ≢ 1 → nk ≢ 1 → ok ≢ 0 → nk ≢ 0 → equal ≡ false → cell_joined 1 0 ≡ merged ok nk
-  different_conflict ok nk a b c d e = ap (λ (t : Bool). cond t (cell_joined ok ov) (cell_joined 1 0)) (sym e) ∙ both_known ok nk a b c d
+    pub different_conflict : equal ≡ false → cell_joined 1 0 ≡ merged ok nk
+    different_conflict e = ap (λ (t : Bool). cond t (cell_joined ok ov) (cell_joined 1 0)) (sym e) ∙ both_known ok nk a.0 a.1 b.0 b.1
 
 -- ---- from the answer to the rule
 

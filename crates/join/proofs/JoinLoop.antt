@@ -2,7 +2,7 @@
 -- Assumes nothing.
 use mathlib.Core.Path.{◌≡◌, refl, sym, ap, ◌∙◌}
 use mathlib.Core.Logic.{◌≢◌}
-use mathlib.Core.Bool.{Bool, true, false, ◌||◌}
+use mathlib.Core.Bool.{Bool, true, false, ◌||◌, or-true, or-false}
 use mathlib.Core.List.{List, ◌++◌, map}
 use Prim.Native.Nat.{ℕ, ◌+◌, ◌≤◌, ◌<◌}
 use native.Mathlib.Numerals.{add-one}
@@ -17,8 +17,7 @@ use Rattle.join.proofs.CellJoins.{cell_joined}
 use Rattle.join.proofs.Prefixes.{fill_get, fill_set, fill_done}
 use Rattle.join.proofs.CellChanges.{kept, same_kind, other_kind}
 use Rattle.model.proofs.Facts.{length_facts_lem, lies_kinds, lies_values}
-use Rattle.join.proofs.JoinedPlaces.{facts_of-get, or-false, joined, join_at, changed_to, joined_length, joined_get, changed_to-suc}
-use mathlib.Core.Bool.{or-true}
+use Rattle.join.proofs.JoinedPlaces.{facts_of-get, joined, join_at, changed_to, joined_length, joined_get, changed_to-suc}
 
 pub record Partly (same : ℕ → ℕ → ℕ → ℕ → Bool) (ok ov nk nv kinds values : List ℕ) (changed : Bool) (i : ℕ) : Type 0 where
   pub within : i ≤ length ok

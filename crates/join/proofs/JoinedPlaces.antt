@@ -1,7 +1,7 @@
 -- The joined row, place by place.
 -- Assumes nothing.
-use mathlib.Core.Path.{◌≡◌, refl, ap, ◌∙◌}
-use mathlib.Core.Bool.{Bool, true, false, ◌||◌}
+use mathlib.Core.Path.{◌≡◌, refl, sym, ap, ◌∙◌}
+use mathlib.Core.Bool.{Bool, ◌||◌, or-false, or_assoc}
 use mathlib.Core.List.{List, [], ◌∷◌, map}
 use Prim.Native.Nat.{ℕ, zero, suc, ◌<◌}
 use native.Mathlib.Nat.{le_of_suc-le-suc, not-suc-le-zero, suc_inj}
@@ -19,14 +19,6 @@ facts_of-get f [] vs i e h = absurd (not-suc-le-zero h)
 facts_of-get f (k ∷ ks) [] i e h = absurd (omega arith)
 facts_of-get f (k ∷ ks) (v ∷ vs) zero e h = refl
 facts_of-get f (k ∷ ks) (v ∷ vs) (suc i) e h = facts_of-get f ks vs i (suc_inj e) (le_of_suc-le-suc h)
-
-pub or-false : (x : Bool) → x || false ≡ x
-or-false true = refl
-or-false false = refl
-
-or_assoc : (x y z : Bool) → x || (y || z) ≡ x || y || z
-or_assoc true y z = refl
-or_assoc false y z = refl
 
 -- ---- rows, all of one length
 
@@ -71,4 +63,4 @@ module _ (same : ℕ → ℕ → ℕ → ℕ → Bool) where
   changed_to-suc (k ∷ ok) (v ∷ ov) (l ∷ nk) (w ∷ nv) (suc i) a b c h =
       ap (λ (x : Bool). differs (fact_of k v) (join same (fact_of k v) (fact_of l w)) || x)
       (changed_to-suc ok ov nk nv i (suc_inj a) (suc_inj b) (suc_inj c) (le_of_suc-le-suc h))
-      ∙ or_assoc (differs (fact_of k v) (join same (fact_of k v) (fact_of l w))) (changed_to same ok ov nk nv i) (differs (fact_of (get_or ok i 0) (get_or ov i 0)) (join_at same ok ov nk nv i))
+      ∙ sym (or_assoc (differs (fact_of k v) (join same (fact_of k v) (fact_of l w))) (changed_to same ok ov nk nv i) (differs (fact_of (get_or ok i 0) (get_or ov i 0)) (join_at same ok ov nk nv i)))

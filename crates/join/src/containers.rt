@@ -8,22 +8,17 @@ use crate::facts::merge_fact;
 use model::FactCell;
 use sheet_layouts::class_of;
 
-// Whether two containers are equal: by kind, and A and B by class ("value A × 65,536 + B"). Equal values are answered at once.
+// Whether two containers are equal: by kind, and A and B by class ("value A × 65,536 + B"). Equal cells are answered at once.
 pub fn equal_containers(classes: &[u16], old: FactCell, new: FactCell) -> bool
     ensures { result ≡ equal_containers_by classes.now old.kind old.value new.kind new.value }
 {
-    if old.kind != new.kind {
-        return false;
-    }
     let was = old.value;
     let is = new.value;
-    if was == is {
-        return true;
-    }
-    if class_of(classes, (was / 65536) as usize) != class_of(classes, (is / 65536) as usize) {
-        return false;
-    }
-    class_of(classes, (was % 65536) as usize) == class_of(classes, (is % 65536) as usize)
+    old == new
+        || (old.kind == new.kind
+            && class_of(classes, (was / 65536) as usize) == class_of(classes, (is / 65536) as usize)
+            && class_of(classes, (was % 65536) as usize)
+                == class_of(classes, (is % 65536) as usize))
 }
 
 // The join of two container facts.

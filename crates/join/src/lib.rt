@@ -1,4 +1,4 @@
-// "Join" of two facts as they lie in the tables: the three merges.
+// "Join" of two facts as they lie in the tables: the two merges.
 // The join of a row: its cells are parts of the tables' kinds and values.
 #![tactic(auto)]
 
@@ -7,5 +7,5 @@ mod facts;
 mod rows;
 
 pub use containers::merge_container_fact;
-pub use facts::{merge_constant_fact, merge_index_check_fact};
+pub use facts::merge_number_fact;
 pub use rows::join_row;

@@ -7,7 +7,7 @@ ghost use Rattle.sheet_layouts.specs.Classes.{equal_by};
 ghost use Rattle.join.specs.Rows.{JoinedRow};
 
 use crate::containers::merge_container_fact;
-use crate::facts::{merge_constant_fact, merge_index_check_fact};
+use crate::facts::merge_number_fact;
 use model::{AnalysisKind, FactCell};
 
 // The join of two facts of an analysis.
@@ -15,8 +15,7 @@ fn merge_fact_of(which: AnalysisKind, classes: &[u16], old: FactCell, new: FactC
     ensures { result ≡ cell_of (join (equal_by which classes.now) (fact_in old) (fact_in new)) }
 {
     match which {
-        AnalysisKind::Constant => merge_constant_fact(old, new),
-        AnalysisKind::IndexCheck => merge_index_check_fact(old, new),
+        AnalysisKind::Constant | AnalysisKind::IndexCheck => merge_number_fact(old, new),
         AnalysisKind::Container => merge_container_fact(classes, old, new),
     }
 }
@@ -38,8 +37,8 @@ pub fn join_row(
         JoinedRow (equal_by which classes.now) row.entry new row.exit result }
 {
     let mut changed = false;
-    let mut i = 0;
-    while i < kinds.len() {
+    // One index for the four slices: the tables are lent as kinds and values side by side, and a chain of zips is no plainer.
+    for i in 0..kinds.len() {
         let was = kinds[i];
         let old = FactCell {
             kind: was,
@@ -56,7 +55,6 @@ pub fn join_row(
             values[i] = joined.value;
             changed = true;
         }
-        i += 1;
     }
     changed
 }

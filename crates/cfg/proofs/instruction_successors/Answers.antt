@@ -2,35 +2,62 @@
 -- Assumes nothing.
 use mathlib.Core.Path.{refl}
 use mathlib.Core.List.{[]}
-use mir.Syntax.{w16, w32}
+use native.Mathlib.Omega.{arith}
+use mir.Syntax.{w32}
 use Rattle.model.specs.Successors.{push_fallthrough, as_record}
-use Rattle.cfg.proofs.FlowCases.{second_fits, falls, leaves_none, jumps, branches, loops}
+use Rattle.cfg.proofs.FlowCases.{second_fits, at_jump, at_condition, at_loop, at_end, at_other, falls, leaves_none, jumps, branches, loops}
 use Rattle.cfg.proofs.instruction_successors.Goals as goal
 
-pub push_valid_successor-requires-in-Conditional : goal.push_valid_successor-requires-in-Conditional
+pub push_valid_successor-requires-in-58 : goal.push_valid_successor-requires-in-58
 unfolding as_record
-push_valid_successor-requires-in-Conditional c = second_fits c.args.n c.args.pc c.push_fallthrough_successor-next.result (c.push_fallthrough_successor-next.ensures [] refl)
+push_valid_successor-requires-in-58 c =
+    second_fits c.args.n c.args.pc c.push_fallthrough_successor-next.result (c.push_fallthrough_successor-next.ensures [] refl)
 
-pub push_valid_successor-requires-in-ForLoop : goal.push_valid_successor-requires-in-ForLoop
+pub push_valid_successor-requires-in-124 : goal.push_valid_successor-requires-in-124
 unfolding as_record
-push_valid_successor-requires-in-ForLoop c = second_fits c.args.n c.args.pc c.push_fallthrough_successor-next.result (c.push_fallthrough_successor-next.ensures [] refl)
+push_valid_successor-requires-in-124 c =
+    second_fits c.args.n c.args.pc c.push_fallthrough_successor-next.result (c.push_fallthrough_successor-next.ensures [] refl)
 
-pub returns-in-FallThrough : goal.returns-in-FallThrough
+pub returns-in-57 : goal.returns-in-57
 unfolding as_record
-returns-in-FallThrough c = falls c.args.n c.args.pc c.args.inst c.flow_of.result c.flow_of.ensures c.push_fallthrough_successor-next.result c.in-FallThrough.is (c.push_fallthrough_successor-next.ensures [] refl)
+returns-in-57 c =
+    jumps c.args.n c.args.pc c.args.inst c.push_valid_successor.result w32 c.imm32.result c.target_i64.result
+    c.imm32.type_inv c.target_i64.type_inv [] (c.push_valid_successor.ensures [] refl) (at_jump c.args.inst.op c.in-57.is) refl
+    c.imm32.ensures c.target_i64.ensures
 
-pub returns-in-Jump : goal.returns-in-Jump
+pub returns-in-58 : goal.returns-in-58
 unfolding as_record
-returns-in-Jump c = jumps c.args.n c.args.pc c.args.inst c.flow_of.result c.flow_of.ensures c.push_valid_successor.result w32 c.imm32.result c.jump_target_i64.result c.imm32.type_inv c.jump_target_i64.type_inv [] (c.push_valid_successor.ensures [] refl) c.in-Jump.is refl c.imm32.ensures c.jump_target_i64.ensures
+returns-in-58 c =
+    let targets = push_fallthrough c.args.n c.args.pc [] in
+    branches c.args.n c.args.pc c.args.inst c.push_valid_successor-in-58.result w32 c.imm32-in-58.result c.target_i64-in-58.result
+    c.imm32-in-58.type_inv c.target_i64-in-58.type_inv targets
+    (c.push_valid_successor-in-58.ensures targets (c.push_fallthrough_successor-next.ensures [] refl))
+    (at_condition c.args.inst.op (omega arith) (omega arith)) refl
+    c.imm32-in-58.ensures c.target_i64-in-58.ensures
 
-pub returns-in-Conditional : goal.returns-in-Conditional
+pub returns-in-124 : goal.returns-in-124
 unfolding as_record
-returns-in-Conditional c = branches c.args.n c.args.pc c.args.inst c.flow_of.result c.flow_of.ensures c.push_valid_successor-in-Conditional.result w32 c.imm32-in-Conditional.result c.jump_target_i64-in-Conditional.result c.imm32-in-Conditional.type_inv c.jump_target_i64-in-Conditional.type_inv (push_fallthrough c.args.n c.args.pc []) (c.push_valid_successor-in-Conditional.ensures (push_fallthrough c.args.n c.args.pc []) (c.push_fallthrough_successor-next.ensures [] refl)) c.in-Conditional.is refl c.imm32-in-Conditional.ensures c.jump_target_i64-in-Conditional.ensures
+returns-in-124 c =
+    let targets = push_fallthrough c.args.n c.args.pc [] in
+    loops c.args.n c.args.pc c.args.inst c.push_valid_successor-in-124.result w32 c.signed_c.result c.target_i64-in-124.result
+    c.signed_c.type_inv c.target_i64-in-124.type_inv targets
+    (c.push_valid_successor-in-124.ensures targets (c.push_fallthrough_successor-next.ensures [] refl))
+    (at_loop c.args.inst.op c.in-124.is) refl c.signed_c.ensures c.target_i64-in-124.ensures
 
-pub returns-in-ForLoop : goal.returns-in-ForLoop
+pub returns-in-64 : goal.returns-in-64
 unfolding as_record
-returns-in-ForLoop c = loops c.args.n c.args.pc c.args.inst c.flow_of.result c.flow_of.ensures c.push_valid_successor-in-ForLoop.result w16 c.signed_c.result c.forloop_target_i64.result c.signed_c.type_inv c.forloop_target_i64.type_inv (push_fallthrough c.args.n c.args.pc []) (c.push_valid_successor-in-ForLoop.ensures (push_fallthrough c.args.n c.args.pc []) (c.push_fallthrough_successor-next.ensures [] refl)) c.in-ForLoop.is refl c.signed_c.ensures c.forloop_target_i64.ensures
+returns-in-64 c = leaves_none c.args.n c.args.pc c.args.inst (as_record []) (at_end c.args.inst.op c.in-64.is) refl
 
-pub returns-in-Leave : goal.returns-in-Leave
+pub returns-in_default : goal.returns-in_default
 unfolding as_record
-returns-in-Leave c = leaves_none c.args.n c.args.pc c.args.inst c.flow_of.result c.flow_of.ensures (as_record []) c.in-Leave.is refl
+returns-in_default c =
+    falls c.args.n c.args.pc c.args.inst c.push_fallthrough_successor-next.result
+    (at_other c.args.inst.op (λ e. omega arith) (λ e. omega arith) (λ e. omega arith) (λ e. omega arith) (λ e. omega arith) (λ e. omega arith))
+    (c.push_fallthrough_successor-next.ensures [] refl)
+
+pub returns-in_default-2 : goal.returns-in_default-2
+unfolding as_record
+returns-in_default-2 c =
+    falls c.args.n c.args.pc c.args.inst c.push_fallthrough_successor-next.result
+    (at_other c.args.inst.op (λ e. omega arith) (λ e. omega arith) (λ e. omega arith) (λ e. omega arith) (λ e. grind arith) (λ e. grind arith))
+    (c.push_fallthrough_successor-next.ensures [] refl)

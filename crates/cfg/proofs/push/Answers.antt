@@ -15,8 +15,8 @@ returns-then-pc-first c =
     c.if-successors-eq0.false
     c.if-pc-first.true
 
-pub returns : goal.returns
-returns c =
+pub returns-else-pc-first : goal.returns-else-pc-first
+returns-else-pc-first c =
     push_second
     c.args.successors
     c.args.pc

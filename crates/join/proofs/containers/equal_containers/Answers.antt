@@ -1,26 +1,28 @@
 -- `join::containers::equal_containers` meets its contract: a law for each way out.
 -- Assumes nothing.
-use Rattle.join.proofs.ContainerEquality.{other_kinds, same_values, other_first, by_second}
+use mathlib.Core.Path.{sym, ◌∙◌}
+use borrow.Author.Tests.{eqb-true, eqb-false}
+use Rattle.join.proofs.ContainerEquality.{other_kinds, same_cells, other_first, by_second}
 use Rattle.join.proofs.containers.equal_containers.Goals as goal
+use Rattle.join.proofs.containers.equal_containers.Goals.{then-old-new, else-old-new}
 
-pub returns-then-old-new : goal.returns-then-old-new
-returns-then-old-new c =
-    let a = c.args in
-    other_kinds a.classes.now a.old.kind a.old.value a.new.kind a.new.value c.if-old-new.true
-
-pub returns-then-was-is : goal.returns-then-was-is
-returns-then-was-is c =
-    let a = c.args in
-    same_values a.classes.now a.old.kind a.old.value a.new.kind a.new.value c.if-old-new.false c.if-was-is.true
+pub returns-then-eq : goal.returns-then-eq
+returns-then-eq c = c.if-eq.true ∙ same_cells _ _ _ _ _ (sym c.if-eq.ensures)
 
 pub returns-then-class_of : goal.returns-then-class_of
 returns-then-class_of c =
-    let a = c.args in
-    other_first a.classes.now a.old.kind a.old.value a.new.kind a.new.value c.if-old-new.false c.class_of.ensures
-    c.class_of-2.ensures c.if-class_of.true
+    elim c.if-old-new.branch [
+      | then-old-new w ↦
+          by_second _ _ _ _ _ w.if-old-new.true w.class_of.ensures w.class_of-then-old-new.ensures (eqb-true _ _ (sym w.value-is ∙ c.if-class_of.true))
+          c.class_of-then-class_of.ensures c.class_of-then-class_of-2.ensures
+      | else-old-new w ↦ absurd (w.if-old-new.false (eqb-true _ _ (sym w.value-is ∙ c.if-class_of.true)))
+    ]
 
-pub returns : goal.returns
-returns c =
-    let a = c.args in
-    by_second a.classes.now a.old.kind a.old.value a.new.kind a.new.value c.if-old-new.false c.class_of.ensures c.class_of-2.ensures
-    c.if-class_of.false c.class_of-3.ensures c.class_of-4.ensures
+pub returns-else-class_of : goal.returns-else-class_of
+returns-else-class_of c =
+    elim c.if-old-new.branch [
+      | then-old-new w ↦
+          c.if-class_of.false
+          ∙ other_first _ _ _ _ _ w.if-old-new.true w.class_of.ensures w.class_of-then-old-new.ensures (eqb-false _ _ (sym w.value-is ∙ c.if-class_of.false))
+      | else-old-new w ↦ c.if-class_of.false ∙ other_kinds _ _ _ _ _ w.if-old-new.false
+    ]

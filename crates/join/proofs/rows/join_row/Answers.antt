@@ -12,10 +12,10 @@ loop-i-preserved c =
     let joined = c.merge_fact_of-joined in
     elim c.if-kind-was.branch [
       | then-kind-was w ↦
-          carried w.kinds-is w.values-is w.changed-is (partly_changed c.loop-i.invariant c.loop-i-test.true joined.result joined.ensures w.if-kind-was.true)
+          carried w.kinds-is w.values-is w.changed-is (partly_changed c.loop-i.invariant (rw c.loop-i.invariant.kinds_long c.loop-i-test.true) joined.result joined.ensures w.if-kind-was.true)
       | else-kind-was w ↦
-          carried w.kinds-is w.values-is w.changed-is (partly_kept c.loop-i.invariant c.loop-i-test.true joined.result joined.ensures w.if-kind-was.false)
+          carried w.kinds-is w.values-is w.changed-is (partly_kept c.loop-i.invariant (rw c.loop-i.invariant.kinds_long c.loop-i-test.true) joined.result joined.ensures w.if-kind-was.false)
     ]
 
 pub returns : goal.returns
-returns c = partly_end c.loop-i.invariant c.loop-i-test.false
+returns c = partly_end c.loop-i.invariant (rw c.loop-i.invariant.kinds_long c.loop-i-test.false)

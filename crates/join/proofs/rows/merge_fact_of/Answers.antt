@@ -1,20 +1,14 @@
 -- `join::rows::merge_fact_of` meets its contract: the rule of each analysis.
 -- Assumes nothing.
 use Rattle.model.specs.Tables.{fact_in}
-use Rattle.join.proofs.ContainerEquality.{joins_constants, joins_checks, joins_containers}
+use Rattle.join.proofs.ContainerEquality.{joins_numbers, joins_containers}
 use Rattle.join.proofs.rows.merge_fact_of.Goals as goal
 
 pub returns-in-Constant : goal.returns-in-Constant
 returns-in-Constant c =
     let a = c.args in
-    joins_constants a.which a.classes.now (fact_in a.old) (fact_in a.new) c.merge_constant_fact.result c.in-Constant.is
-    c.merge_constant_fact.ensures
-
-pub returns-in-IndexCheck : goal.returns-in-IndexCheck
-returns-in-IndexCheck c =
-    let a = c.args in
-    joins_checks a.which a.classes.now (fact_in a.old) (fact_in a.new) c.merge_index_check_fact.result c.in-IndexCheck.is
-    c.merge_index_check_fact.ensures
+    joins_numbers a.which a.classes.now (fact_in a.old) (fact_in a.new) c.merge_number_fact.result c.in-Constant.is
+    c.merge_number_fact.ensures
 
 pub returns-in-Container : goal.returns-in-Container
 returns-in-Container c =
