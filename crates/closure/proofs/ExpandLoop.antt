@@ -15,10 +15,9 @@ use Rattle.model.specs.Tables.{stacked}
 use Rattle.model.specs.Call.{zeros}
 use Rattle.model.specs.declared.AnalysisKind.{AnalysisKind}
 use Rattle.model.specs.declared.VerifierResources.{VerifierResources}
-use Rattle.model.specs.declared.Charge.{Charge}
-use Rattle.budget.specs.Outcome.{as_spent}
-use Rattle.budget.specs.declared.Outcome.{Outcome}
-use Rattle.budget.specs.declared.Outcome.TheVariants.{Covered}
+use Rattle.model.specs.Charges.{Charge}
+use Rattle.std.specs.Prelude.{Ok}
+use Rattle.budget.specs.Outcome.{Outcome, as_spent}
 use Rattle.budget.proofs.Outcomes.{Stopped, NotCovered, stopped_then, spent_stopped}
 use Rattle.budget.proofs.Spending.{covered, work_came}
 use Rattle.sheet.specs.Measured.{Measured}
@@ -239,7 +238,7 @@ module _ (which : AnalysisKind) (sheet : List ℕ) where
           let work = work_came _ outcome left made (came ∙ ap (λ (k : ℕ). in_stage k left charge) number) (t.counts x.lies) in
           x.so_far ∙ turn x.m on left ∙ ap (continue (λ _. expand which sheet (weight (next x.m on)) (next x.m on))) (sym work)
 
-      pub expanding_on : {rest : VerifierResources} → outcome ≡ Covered rest → Expanding budget room marks' stack' r.top rest
+      pub expanding_on : {rest : VerifierResources} → outcome ≡ Ok rest → Expanding budget room marks' stack' r.top rest
       unfolding continue next
       expanding_on e = record {
         m = next x.m on;

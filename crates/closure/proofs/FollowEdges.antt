@@ -9,15 +9,16 @@ use Rattle.model.specs.Closure.{Marked, mark, follow_unless, follow}
 use Rattle.model.specs.Opcode.{select}
 use Rattle.model.specs.declared.Instruction.{Instruction}
 use Rattle.closure_edges.specs.Rows.{row, edge_row_if, rows, dependence_by, dependence}
-use Rattle.closure_marks.specs.Marks.{Goes, Holding, slots_in, mark_all}
+use Rattle.closure_marks.specs.Marks.{Goes, slots_in, mark_all}
 use Rattle.closure.specs.Sources.{edges_from, edges_in, only_if, Follows}
 use Rattle.closure_edges.specs.declared.Dependence.{Dependence}
 use Rattle.closure.specs.declared.Followed.{Followed}
 use Rattle.closure.specs.declared.follow.SlotEdges.{SlotEdges}
 use Rattle.closure_edges.proofs.EdgeRows.{below_or_not, by_rule}
 use Rattle.closure_edges.proofs.EdgesToSlot.{into_append, edge_other, row_misses, misses, span_misses}
-use Rattle.closure_edges.specs.Links.{bucket}
+use Rattle.closure_edges.specs.Links.{bucket, link_at}
 use Rattle.closure_edges.specs.Chain.{edges_at, Silent, Chain, ended, linked, Chained}
+use Rattle.closure_edges.specs.declared.Link.{Link}
 use Rattle.closure_marks.proofs.Marks.{goes_self, goes_on, goes_as}
 
 -- ---- those of a row that lead to d
@@ -51,19 +52,16 @@ unfolding edges_from
 from_append d kinds [] ys = refl
 from_append d kinds (x ∷ xs) ys = ap (λ (es : List FactDependency). record { destination = d; source = x; kinds = kinds } ∷ es) (from_append d kinds xs ys)
 
-length_from : (d kinds : ℕ) (ss : List ℕ) → length (edges_from d kinds ss) ≡ length ss
+-- how many they are
+pub length_from : (d kinds : ℕ) (ss : List ℕ) → length (edges_from d kinds ss) ≡ length ss
 unfolding edges_from
 length_from d kinds [] = refl
 length_from d kinds (s ∷ ss) = ap suc (length_from d kinds ss)
 
 module _ (l d : ℕ) (inst : Instruction) (r : Dependence) (are : rows r l inst ≡ instruction_edges l inst) (e : SlotEdges) (mask : e.kinds ≡ r.kinds) where
-  met : (ss : List ℕ) → Holding e.sources ss → edges_into d (rows r l inst) ≡ edges_from d r.kinds ss
-      → (edges_in d e ≡ edges_into d (instruction_edges l inst)) × (e.sources.len ≡ length (edges_into d (instruction_edges l inst)))
+  met : (ss : List ℕ) → slots_in e.sources ≡ ss → edges_into d (rows r l inst) ≡ edges_from d r.kinds ss → edges_in d e ≡ edges_into d (instruction_edges l inst)
   unfolding edges_in
-  met ss h k = (
-    rw (mask, h.are) (sym k ∙ ap (edges_into d) are),
-    h.many ∙ sym (length_from d r.kinds ss) ∙ ap length (sym k ∙ ap (edges_into d) are),
-  )
+  met ss h k = rw (mask, h) (sym k ∙ ap (edges_into d) are)
 
   hits : (i : ℕ) → d ≡ inst.a + i → i < r.span → d < l
       → edges_into d (rows r l inst) ≡ edges_from d r.kinds (only_if (ltb (inst.b + i) l) (inst.b + i) ++ only_if (r.fold && ltb (inst.c + i) l) (inst.c + i))
@@ -76,14 +74,13 @@ module _ (l d : ℕ) (inst : Instruction) (r : Dependence) (are : rows r l inst 
       go true = row_hits l d r.kinds inst.a inst.c r.span i p h k
       go false = refl
 
-  pub met_none : (d < inst.a) ⊎ (inst.a + r.span ≤ d) → Holding e.sources []
-      → (edges_in d e ≡ edges_into d (instruction_edges l inst)) × (e.sources.len ≡ length (edges_into d (instruction_edges l inst)))
+  pub met_none : (d < inst.a) ⊎ (inst.a + r.span ≤ d) → slots_in e.sources ≡ [] → edges_in d e ≡ edges_into d (instruction_edges l inst)
   unfolding edges_from
   met_none h k = met [] k (misses l d inst r h)
 
   pub met_some : (i : ℕ) → d ≡ inst.a + i → i < r.span → d < l
-      → Holding e.sources (only_if (ltb (inst.b + i) l) (inst.b + i) ++ only_if (r.fold && ltb (inst.c + i) l) (inst.c + i))
-      → (edges_in d e ≡ edges_into d (instruction_edges l inst)) × (e.sources.len ≡ length (edges_into d (instruction_edges l inst)))
+      → slots_in e.sources ≡ only_if (ltb (inst.b + i) l) (inst.b + i) ++ only_if (r.fold && ltb (inst.c + i) l) (inst.c + i)
+      → edges_in d e ≡ edges_into d (instruction_edges l inst)
   met_some i p h k w = met _ w (hits i p h k)
 
 -- ---- how far they lead
@@ -133,20 +130,23 @@ module _ (bit : ℕ) where
   unfolding follow
   followed_nothing e = rw e (record { counts = omega arith; goes = goes_self (λ m. refl) })
 
-  module _ (d : ℕ) (e : SlotEdges) {es : List FactDependency} (is : edges_in d e ≡ es) (many : e.sources.len ≡ length es) (from : Followed) where
-    pub followed_none : {marks stack : List ℕ} → bit_and e.kinds bit ≡ 0
-        → Follows bit es marks stack from marks stack (record { top = from.top; count = from.count + e.sources.len })
+  module _ (d : ℕ) (e : SlotEdges) {es : List FactDependency} (is : edges_in d e ≡ es) (from : Followed) {count : ℕ} (many : count ≡ length (slots_in e.sources)) where
+    counted_all : from.count + count ≡ from.count + length es
+    unfolding edges_in
+    counted_all = omega (arith, many, length_from d e.kinds (slots_in e.sources), ap length is)
+
+    pub followed_none : {marks stack : List ℕ} → bit_and e.kinds bit ≡ 0 → Follows bit es marks stack from marks stack (record { top = from.top; count = from.count + count })
     unfolding edges_in
     followed_none h = record {
-      counts = ap (λ (k : ℕ). from.count + k) many;
+      counts = counted_all;
       goes = goes_self (λ m. ap (λ (fs : List FactDependency). follow bit fs m) (sym is) ∙ passed_over d e.kinds h (slots_in e.sources) m);
     }
 
     pub followed_some : {marks stack marks' stack' : List ℕ} {top : ℕ} → (bit_and e.kinds bit ≡ 0 → ⊥) → Goes (mark_all (slots_in e.sources)) marks stack from.top marks' stack' top
-        → Follows bit es marks stack from marks' stack' (record { top = top; count = from.count + e.sources.len })
+        → Follows bit es marks stack from marks' stack' (record { top = top; count = from.count + count })
     unfolding edges_in
     followed_some h g = record {
-      counts = ap (λ (k : ℕ). from.count + k) many;
+      counts = counted_all;
       goes = goes_as g (follow bit es) (λ m. ap (λ (fs : List FactDependency). follow bit fs m) (sym is) ∙ marks_all d e.kinds h (slots_in e.sources) m);
     }
 
@@ -175,11 +175,11 @@ pub follows_below : (bit : ℕ) (sheet : List ℕ) (d : ℕ) {pc end : ℕ} {mar
     → Follows bit (collect (edges_at sheet d) pc) marks stack a marks' stack' b → (b.count ≤ end * 255) × Follows bit (collect (edges_at sheet d) end) marks stack a marks' stack' b
 follows_below bit sheet d {pc} {end} h k small p = let e : end ≡ pc = omega arith in (rw e small, rw e p)
 
-pub follows_all : (which-bit bit : ℕ) (sheet : List ℕ) (d : ℕ) {n from : ℕ} {marks stack marks' stack' : List ℕ} {a b : Followed}
-    → bit ≡ which-bit → from ≤ code_count sheet → n ≤ from → n ≡ code_count sheet → Follows bit (collect (edges_at sheet d) from) marks stack a marks' stack' b
+pub follows_all : (which-bit bit : ℕ) (sheet : List ℕ) (d : ℕ) {n : ℕ} {marks stack marks' stack' : List ℕ} {a b : Followed}
+    → bit ≡ which-bit → n ≡ code_count sheet → Follows bit (collect (edges_at sheet d) n) marks stack a marks' stack' b
     → Follows which-bit (edges_to sheet d) marks stack a marks' stack' b
 unfolding edges_to edges_at
-follows_all which-bit bit sheet d {n} {from} w h k e p = let q : from ≡ code_count sheet = omega arith in rw (w, q) at p
+follows_all which-bit bit sheet d w e p = rw (w, e) at p
 
 -- ---- the instructions of a chain
 
@@ -198,36 +198,36 @@ module _ (sheet : List ℕ) (d : ℕ) where
           rw (s.none hi (omega arith) (omega arith)) (append-nil (collect (edges_at sheet d) hi) ∙ earlier (omega arith) (record { none = λ pc k l. s.none pc k (omega arith) }))
 
   -- what a link tells
-  pub record NextLink (nexts pcs : List ℕ) (link lo : ℕ) : Type 0 where
-    pub in_nexts : link - 1 < length nexts
-    pub back : get_or nexts (link - 1) 0 < link
-    pub later : lo ≤ get_or pcs (link - 1) 0
-    pub code : get_or pcs (link - 1) 0 < code_count sheet
-    pub silent : Silent sheet d lo (get_or pcs (link - 1) 0)
-    pub rest : Chain sheet nexts pcs d (get_or nexts (link - 1) 0) (get_or pcs (link - 1) 0 + 1)
+  pub record NextLink (entries : List Link) (link lo : ℕ) : Type 0 where
+    pub made : link ≤ length entries
+    pub back : (link_at entries (link - 1)).next < link
+    pub later : lo ≤ (link_at entries (link - 1)).pc
+    pub code : (link_at entries (link - 1)).pc < code_count sheet
+    pub silent : Silent sheet d lo (link_at entries (link - 1)).pc
+    pub rest : Chain sheet entries d (link_at entries (link - 1)).next ((link_at entries (link - 1)).pc + 1)
 
-  next : {nexts pcs : List ℕ} {link lo : ℕ} → 0 < link → Chain sheet nexts pcs d link lo → NextLink nexts pcs link lo
+  next : {entries : List Link} {link lo : ℕ} → 0 < link → Chain sheet entries d link lo → NextLink entries link lo
   next some (ended e s) = absurd (omega arith)
   next {link = link} some (linked {i = i} e inside back later code s rest) =
       let k : link - 1 ≡ i = omega arith in
-      record { in_nexts = rw k inside; back = rw k (omega arith); later = rw k later; code = rw k code; silent = rw k s; rest = rw k rest }
+      record { made = omega arith; back = rw k (omega arith); later = rw k later; code = rw k code; silent = rw k s; rest = rw k rest }
 
-  chain_end : {nexts pcs : List ℕ} {link lo : ℕ} → link ≤ 0 → Chain sheet nexts pcs d link lo → Silent sheet d lo (code_count sheet)
+  chain_end : {entries : List Link} {link lo : ℕ} → link ≤ 0 → Chain sheet entries d link lo → Silent sheet d lo (code_count sheet)
   chain_end none (ended e s) = s
   chain_end none (linked e inside back later code s rest) = absurd (omega arith)
 
   -- The edges of the instructions below lo are followed, and the chain tells the others. `es` are those from `from` on.
-  pub record ChainWalked (nexts pcs : List ℕ) (from bit : ℕ) (marks₀ stack₀ : List ℕ) (followed₀ : Followed) (marks stack : List ℕ) (followed : Followed) (link : ℕ) : Type 0 where
+  pub record ChainWalked (entries : List Link) (from bit : ℕ) (marks₀ stack₀ : List ℕ) (followed₀ : Followed) (marks stack : List ℕ) (followed : Followed) (link : ℕ) : Type 0 where
     pub lo : ℕ
     pub inside : lo ≤ code_count sheet
-    pub chain : Chain sheet nexts pcs d link lo
+    pub chain : Chain sheet entries d link lo
     pub small : followed.count ≤ lo * 255
     pub es : List FactDependency
     pub follows : Follows bit es marks₀ stack₀ followed₀ marks stack followed
     pub are : collect (edges_at sheet d) from ++ es ≡ collect (edges_at sheet d) lo
 
-  pub chain_walked_none : {nexts pcs : List ℕ} {from bit : ℕ} {marks stack : List ℕ} {followed : Followed} {link : ℕ} → from ≤ code_count sheet → Chain sheet nexts pcs d link from
-      → followed.count ≤ from * 255 → ChainWalked nexts pcs from bit marks stack followed marks stack followed link
+  pub chain_walked_none : {entries : List Link} {from bit : ℕ} {marks stack : List ℕ} {followed : Followed} {link : ℕ} → from ≤ code_count sheet → Chain sheet entries d link from
+      → followed.count ≤ from * 255 → ChainWalked entries from bit marks stack followed marks stack followed link
   unfolding follow
   chain_walked_none {from = from} h c k = record {
     lo = from;
@@ -239,28 +239,31 @@ module _ (sheet : List ℕ) (d : ℕ) where
     are = append-nil (collect (edges_at sheet d) from);
   }
 
-  module _ {nexts pcs : List ℕ} {from bit : ℕ} {marks₀ stack₀ : List ℕ} {followed₀ : Followed} {marks stack : List ℕ} {followed : Followed} {link : ℕ}
-      (w : ChainWalked nexts pcs from bit marks₀ stack₀ followed₀ marks stack followed link) where
-    pub walked_next : 0 < link → NextLink nexts pcs link w.lo
+  module _ {entries : List Link} {from bit : ℕ} {marks₀ stack₀ : List ℕ} {followed₀ : Followed} {marks stack : List ℕ} {followed : Followed} {link : ℕ}
+      (w : ChainWalked entries from bit marks₀ stack₀ followed₀ marks stack followed link) where
+    pub walked_next : 0 < link → NextLink entries link w.lo
     walked_next some = next some w.chain
 
-    pub chain_walked_more : (some : 0 < link) {inst : Instruction} {l : ℕ} {marks' stack' : List ℕ} {r : Followed} → inst ≡ instruction sheet (get_or pcs (link - 1) 0) → l ≡ local_slots sheet
+    pub chain_walked_more : (some : 0 < link) {at : Link} → at ≡ link_at entries (link - 1) → {inst : Instruction} {l : ℕ} {marks' stack' : List ℕ} {r : Followed}
+        → inst ≡ instruction sheet at.pc → l ≡ local_slots sheet
         → r.count ≤ followed.count + 255 → Follows bit (edges_into d (instruction_edges l inst)) marks stack followed marks' stack' r
-        → ChainWalked nexts pcs from bit marks₀ stack₀ followed₀ marks' stack' r (get_or nexts (link - 1) 0)
+        → ChainWalked entries from bit marks₀ stack₀ followed₀ marks' stack' r at.next
     unfolding collect edges_at
-    chain_walked_more some e k small f =
+    chain_walked_more some {at} is e k small f =
         let n = walked_next some in
-        let p = get_or pcs (link - 1) 0 in
+        let p = at.pc in
+        let later : w.lo ≤ p = rw is n.later in
+        let silent : Silent sheet d w.lo p = rw is n.silent in
         record {
           lo = p + 1;
-          inside = omega (arith, n.code);
-          chain = n.rest;
-          small = omega (arith, w.small, n.later);
+          inside = rw is (omega (arith, n.code));
+          chain = rw is n.rest;
+          small = omega (arith, w.small, later);
           es = w.es ++ edges_at sheet d p;
           follows = follows_on bit w.es (edges_at sheet d p) w.follows (rw (e, k) at f);
           are =
               sym (append_assoc (collect (edges_at sheet d) from) w.es (edges_at sheet d p))
-              ∙ ap (λ (xs : List FactDependency). xs ++ edges_at sheet d p) (w.are ∙ sym (skipped w.lo p n.later n.silent))
+              ∙ ap (λ (xs : List FactDependency). xs ++ edges_at sheet d p) (w.are ∙ sym (skipped w.lo p later silent))
               ∙ rw (add-one p);
         }
 
@@ -273,6 +276,6 @@ module _ (sheet : List ℕ) (d : ℕ) where
         rw (e, all) at (follows_on bit (collect (edges_at sheet d) from) w.es p w.follows)
 
 -- the chain of a slot's bucket
-pub chain_of : {sheet heads nexts pcs : List ℕ} {from : ℕ} → Chained sheet heads nexts pcs from → (d : ℕ) {l k : ℕ} → l ≡ local_slots sheet → d < l → k ≡ bucket d
-    → Chain sheet nexts pcs d (get_or heads k 0) from
-chain_of c d e h k = rw k (c.chain d (rw e at h))
+pub chain_of : {sheet heads : List ℕ} {entries : List Link} {from : ℕ} → Chained sheet heads entries from → (d : ℕ) {l : ℕ} → l ≡ local_slots sheet → d < l
+    → Chain sheet entries d (get_or heads (bucket d) 0) from
+chain_of told d e h = told.chain d (rw e at h)

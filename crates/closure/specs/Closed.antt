@@ -1,13 +1,14 @@
 -- What a closure leaves: its answer and the slots.
 -- Assumes nothing.
-use Rattle.std.specs.Prelude.{◌≡◌, ℕ, ◌*◌, List, length}
+use Rattle.std.specs.Prelude.{◌≡◌, ℕ, ◌*◌, List, length, Result, Ok, Err}
 use Rattle.std.proofs.Math.Option.{some}
 use Rattle.model.specs.Charges.{units, Metered, ◌>>◌, spend_bytes}
 use Rattle.model.specs.Closure.{tracked_slots}
 use Rattle.model.specs.Call.{zeros}
 use Rattle.model.specs.declared.AnalysisKind.{AnalysisKind}
 use Rattle.model.specs.declared.VerifierResources.{VerifierResources}
-use Rattle.budget.specs.Outcome.{leaves, leaves_of}
+use Rattle.budget.specs.Outcome.{Outcome, leaves, leaves_of}
+use Rattle.budget.specs.declared.Refused.{Refused}
 use Rattle.closure_marks.specs.Slots.{fitted}
 use Rattle.closure.specs.declared.Tracked.{Tracked}
 
@@ -27,8 +28,18 @@ closed s slots = record { s = s; slots = slots }
 abbrev pub closed_by : List ℕ → List ℕ → Closed
 closed_by lent tracked = closed (length tracked) (fitted tracked lent)
 
+-- the outcome of a closure's charges
+abbrev pub outcome_of : Result Tracked Refused → Outcome
+outcome_of (Ok tracked) = Ok tracked.left
+outcome_of (Err refused) = Err refused
+
+-- how many slots are tracked, none after a refusal
+abbrev pub count_of : Result Tracked Refused → ℕ
+count_of (Ok tracked) = tracked.s
+count_of (Err refused) = 0
+
 -- the tracked slots, or nothing after a refusal; marks and stack are zero again
-pub record TrackEnsures (which : AnalysisKind) (sheet : List ℕ) (budget : VerifierResources) (marks stack slots : List ℕ) (r : Tracked) (marks' stack' slots' : List ℕ) : Type 0 where
-  pub closes : some (leaves r.outcome (closed r.s slots')) ≡ leaves_of (closed_by slots) (closed 0 slots) (tracked_slots which sheet budget)
+pub record TrackEnsures (which : AnalysisKind) (sheet : List ℕ) (budget : VerifierResources) (marks stack slots : List ℕ) (r : Result Tracked Refused) (marks' stack' slots' : List ℕ) : Type 0 where
+  pub closes : some (leaves (outcome_of r) (closed (count_of r) slots')) ≡ leaves_of (closed_by slots) (closed 0 slots) (tracked_slots which sheet budget)
   pub no_marks : marks' ≡ zeros marks
   pub no_entries : stack' ≡ zeros stack

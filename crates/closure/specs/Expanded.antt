@@ -7,8 +7,7 @@ use Rattle.model.specs.Closure.{Marked, seeded, expand}
 use Rattle.model.specs.Call.{zeros}
 use Rattle.model.specs.declared.AnalysisKind.{AnalysisKind}
 use Rattle.model.specs.declared.VerifierResources.{VerifierResources}
-use Rattle.budget.specs.Outcome.{leaves, leaves_of}
-use Rattle.budget.specs.declared.Outcome.{Outcome}
+use Rattle.budget.specs.Outcome.{Outcome, leaves, leaves_of}
 
 -- L marks and a stack of at least L entries, all zero
 pub record MarksZero (sheet marks stack : List ℕ) : Type 0 where

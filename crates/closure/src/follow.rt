@@ -1,16 +1,16 @@
 // The edges to one slot, counted and followed in one pass over the instructions that may have them.
-ghost use Rattle.std.specs.Prelude.{◌≡◌, ◌+◌, ◌*◌, ◌<◌, ◌≤◌, ◌&&◌, ◌++◌, length, nat_lt};
+ghost use Rattle.std.specs.Prelude.{◌≡◌, ◌+◌, ◌*◌, ◌<◌, ◌≤◌, ◌&&◌, ◌++◌, IfSome, nat_lt};
 ghost use Rattle.model.specs.Dependencies.{dependency_bit, instruction_edges, edges_into, edges_to};
 ghost use Rattle.sheet.specs.Measured.{Measured};
-ghost use Rattle.closure_marks.specs.Marks.{Lain, Holding};
+ghost use Rattle.closure_marks.specs.Marks.{Lain, slots_in};
 ghost use Rattle.model.specs.Count.{collect};
-ghost use Rattle.closure_edges.specs.Chain.{edges_at, Chained};
+ghost use Rattle.closure_edges.specs.Chain.{edges_at, Tells};
 ghost use Rattle.closure_edges.specs.Rows.{dependence};
 ghost use Rattle.closure.specs.Sources.{edges_in, only_if, Follows};
 
 use crate::Followed;
-use closure_edges::{CONSTANT, CONTAINER, COPY_N, INDEX_CHECK, bucket_of, dependence_of};
-use closure_marks::{Candidates, mark_slots, none, one, two};
+use closure_edges::{CONSTANT, CONTAINER, COPY_N, Chains, INDEX_CHECK, dependence_of};
+use closure_marks::{Candidates, mark_slots};
 use model::{AnalysisKind, Instruction};
 use sheet::Sizes;
 use sheet_fields::instruction_at;
@@ -23,6 +23,7 @@ struct SlotEdges {
 }
 
 // "bit 0 constant, bit 1 index, bit 2 container"
+#[tactic(auto, unfolding(model::specs::Dependencies::dependency_bit))]
 fn dependency_bit(which: AnalysisKind) -> u8
     ensures { result ≡ dependency_bit which }
 {
@@ -35,41 +36,31 @@ fn dependency_bit(which: AnalysisKind) -> u8
 
 // The sources below l, in order: the first, and with fold the second.
 fn sources_below(l: usize, first: usize, fold: bool, second: usize) -> Candidates
-    ensures { Holding result (only_if (nat_lt first l) first ++ only_if (fold && nat_lt second l) second) }
+    ensures { slots_in result ≡ only_if (nat_lt first l) first ++ only_if (fold && nat_lt second l) second }
 {
-    if fold & (second < l) {
-        if first < l {
-            return two(first, second);
-        }
-        return one(second);
+    match (first < l, fold & (second < l)) {
+        (true, true) => Candidates::Two(first, second),
+        (true, false) => Candidates::One(first),
+        (false, true) => Candidates::One(second),
+        (false, false) => Candidates::None,
     }
-    if first < l {
-        return one(first);
-    }
-    none()
 }
 
 // The edges of one instruction to slot d. A CopyN has one where a ≤ d < a + c and the source is below L, in whole numbers.
 fn edges_to(inst: Instruction, l: usize, d: usize) -> SlotEdges
     requires { (d < l) × (l ≤ 65535) }
-    ensures { (edges_in d result ≡ edges_into d (instruction_edges l inst)) × (result.sources.len ≡ length (edges_into d (instruction_edges l inst))) }
+    ensures { edges_in d result ≡ edges_into d (instruction_edges l inst) }
 {
     let rule = dependence_of(inst);
     let kinds = rule.kinds;
     let a = inst.a as usize;
-    if d < a {
+    if d < a || rule.span as usize <= d - a {
         return SlotEdges {
-            sources: none(),
+            sources: Candidates::None,
             kinds,
         };
     }
     let i = d - a;
-    if rule.span as usize <= i {
-        return SlotEdges {
-            sources: none(),
-            kinds,
-        };
-    }
     let sources = sources_below(l, inst.b as usize + i, rule.fold, inst.c as usize + i);
     SlotEdges { sources, kinds }
 }
@@ -78,11 +69,11 @@ fn edges_to(inst: Instruction, l: usize, d: usize) -> SlotEdges
 fn reach(inst: Instruction) -> usize
     ensures { (result ≤ 65535) × ((dependence inst).span ≤ result) }
 {
-    let op = inst.op;
-    if op == COPY_N {
-        return inst.c as usize;
+    if inst.op == COPY_N {
+        inst.c as usize
+    } else {
+        1
     }
-    1
 }
 
 // One instruction's edges to d: every one is counted, and those of this analysis's bit are followed.
@@ -106,7 +97,7 @@ fn follow_instruction(
     }
     let edges = edges_to(inst, l, d);
     let sources = edges.sources;
-    let count = from.count + sources.len as u64;
+    let count = from.count + sources.count();
     let top = from.top;
     if edges.kinds & bit == 0 {
         return Followed { top, count };
@@ -133,46 +124,40 @@ fn follow_code(
 {
     let l = sizes.local_slots;
     let mut followed = Followed { top, count: 0 };
-    let mut pc = 0;
-    while pc < end {
+    for pc in 0..end {
         followed = follow_instruction(instruction_at(sheet, pc), bit, l, d, marks, stack, followed);
-        pc += 1;
     }
     followed
 }
 
-// All edges to d, in code order: how many there are, and the stack's new top. The instructions from `from` on that have any are in the
-// chain of d's bucket; those below it are read one after the other.
+// All edges to d, in code order: how many there are, and the stack's new top. The instructions that are in the chains have theirs in the
+// chain of d's bucket; the others are read one after the other.
 pub fn follow_edges(
     which: AnalysisKind,
     sheet: &[u8],
     sizes: Sizes,
-    from: usize,
-    heads: &[u16],
-    nexts: &[u16],
-    pcs: &[u16],
+    chains: Option<&Chains>,
     d: usize,
     marks: &mut [u8],
     stack: &mut [u16],
     top: usize,
 ) -> Followed
-    requires { Measured sheet.now sizes × Chained sheet.now heads.now nexts.now pcs.now from × (d < sizes.local_slots) × Lain marks.old stack.old top }
+    requires { Measured sheet.now sizes × IfSome chains (λ c. Tells sheet.now c.now) × (d < sizes.local_slots) × Lain marks.old stack.old top }
     ensures { Follows (dependency_bit which) (edges_to sheet.now d) marks.old stack.old (record { top = top; count = 0 }) marks.new
         stack.new result }
 {
     let l = sizes.local_slots;
     let bit = dependency_bit(which);
-    let mut followed = follow_code(bit, sheet, sizes, from, d, marks, stack, top);
-    if sizes.code_count <= from {
-        return followed;
-    }
-    let k = bucket_of(d);
-    let mut link = heads[k] as usize;
-    while 0 < link {
-        let i = link - 1;
-        let pc = pcs[i] as usize;
-        followed = follow_instruction(instruction_at(sheet, pc), bit, l, d, marks, stack, followed);
-        link = nexts[i] as usize;
+    let Some(chains) = chains else {
+        return follow_code(bit, sheet, sizes, sizes.code_count, d, marks, stack, top);
+    };
+    let mut followed = follow_code(bit, sheet, sizes, chains.first, d, marks, stack, top);
+    let mut number = chains.newest(d);
+    while 0 < number {
+        let link = chains.link(number);
+        let inst = instruction_at(sheet, link.pc as usize);
+        followed = follow_instruction(inst, bit, l, d, marks, stack, followed);
+        number = link.next as usize;
     }
     followed
 }

@@ -7,7 +7,7 @@ mod expansion;
 mod follow;
 mod slots;
 
-use budget::Outcome;
+use model::VerifierResources;
 pub use slots::tracked_slots;
 
 // How far the edges to a slot have been followed: the stack's top, and how many edges were met.
@@ -17,9 +17,9 @@ pub struct Followed {
     pub count: u64,
 }
 
-// What a closure comes to: how many slots are tracked, 0 after a refusal, and the outcome of its charges.
+// The tracked slots of an analysis: how many there are, and what their closure left of the resources.
 #[derive(Clone, Copy)]
 pub struct Tracked {
     pub s: usize,
-    pub outcome: Outcome,
+    pub left: VerifierResources,
 }

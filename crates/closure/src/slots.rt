@@ -8,9 +8,9 @@ ghost use Rattle.closure.specs.Closed.{scratch_charges, TrackEnsures};
 
 use crate::Tracked;
 use crate::expansion::expand;
-use budget::{Outcome, charge_bytes, metered, stage_number};
+use budget::{Outcome, Refused, charge_bytes, metered, stage_number};
 use closure_marks::list_slots;
-use memory::clear_u8;
+use memory::clear;
 use model::{AnalysisKind, VerifierResources};
 use sheet::Sizes;
 
@@ -20,10 +20,7 @@ fn charge_scratch(stage: u8, l: usize, resources: VerifierResources) -> Outcome
     ensures { as_spent result ≡ scratch_charges stage l resources }
 {
     let count = l as u64;
-    let marks = metered(stage, resources, charge_bytes(resources, count));
-    let Outcome::Covered { left } = marks else {
-        return marks;
-    };
+    let left = metered(stage, resources, charge_bytes(resources, count))?;
     metered(stage, left, charge_bytes(left, count * 2))
 }
 
@@ -36,28 +33,16 @@ fn track(
     slots: &mut [u16],
     marks: &mut [u8],
     stack: &mut [u16],
-) -> Tracked
+) -> Result<Tracked, Refused>
     requires { Measured sheet.now sizes × MarksZero sheet.now marks.old stack.old }
     ensures { TrackEnsures which sheet.now resources marks.old stack.old slots.old result
         marks.new stack.new slots.new }
 {
-    let scratch = charge_scratch(stage_number(which), sizes.local_slots, resources);
-    let Outcome::Covered { left } = scratch else {
-        return Tracked {
-            s: 0,
-            outcome: scratch,
-        };
-    };
-    let ended = expand(which, sheet, sizes, left, marks, stack);
-    let Outcome::Covered { left: _ } = ended else {
-        return Tracked {
-            s: 0,
-            outcome: ended,
-        };
-    };
+    let scratch = charge_scratch(stage_number(which), sizes.local_slots, resources)?;
+    let left = expand(which, sheet, sizes, scratch, marks, stack)?;
     let s = list_slots(marks, slots);
-    clear_u8(marks);
-    Tracked { s, outcome: ended }
+    clear(marks);
+    Ok(Tracked { s, left })
 }
 
 // The tracked slots of an analysis: how many, and where they fit all of them, ascending. Marks and stack are zero again on every
@@ -70,7 +55,7 @@ pub fn tracked_slots(
     slots: &mut [u16],
     marks: &mut [u8],
     stack: &mut [u16],
-) -> Tracked
+) -> Result<Tracked, Refused>
     requires { Measured sheet.now sizes × (sizes.local_slots ≤ length marks.old) × (sizes.local_slots ≤ length stack.old)
         × (marks.old ≡ zeros marks.old) × (stack.old ≡ zeros stack.old) }
     ensures { TrackEnsures which sheet.now resources marks.old stack.old slots.old result

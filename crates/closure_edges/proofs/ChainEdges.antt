@@ -20,9 +20,10 @@ use Rattle.closure_edges.specs.Rows.{dependence}
 use Rattle.closure_edges.proofs.EdgeRows.{below_or_not}
 use Rattle.closure_edges.proofs.EdgesToSlot.{span_misses}
 use Rattle.finality.proofs.Memory.{zeros_read}
-use Rattle.closure_edges.specs.Links.{bucket, buckets_if, end_of, buckets_of, Links, links, link, link_each, Graph, graph, buckets_at, link_down, graph_of}
+use Rattle.closure_edges.specs.Links.{bucket, buckets_if, end_of, buckets_of, link_at, Links, links, link, link_each, Graph, graph, buckets_at, link_down, graph_of}
 use Rattle.closure_edges.specs.Chain.{edges_at, Silent, Chain, ended, linked, Chained}
 use Rattle.closure_edges.specs.declared.Buckets.{Buckets}
+use Rattle.closure_edges.specs.declared.Link.{Link}
 use Rattle.closure_edges.proofs.BucketOrder.{bucket_below, bucket_order, buckets_few}
 use Rattle.closure_edges.proofs.ChainLoops.{each_used, each_room}
 
@@ -64,8 +65,8 @@ module _ (l d : ℕ) (inst : Instruction) (small : d < l) where
 
 module _ (sheet : List ℕ) (d : ℕ) where
   -- a chain from one instruction later, where that one has no edge
-  pub chain_earlier : {nexts pcs : List ℕ} {e pc : ℕ} → edges_at sheet d pc ≡ [] → Chain sheet nexts pcs d e (suc pc) → Chain sheet nexts pcs d e pc
-  chain_earlier {nexts} {pcs} {e} {pc} h c = go c
+  pub chain_earlier : {entries : List Link} {e pc : ℕ} → edges_at sheet d pc ≡ [] → Chain sheet entries d e (suc pc) → Chain sheet entries d e pc
+  chain_earlier {entries} {e} {pc} h c = go c
     where
       at : {hi : ℕ} → Silent sheet d (suc pc) hi → (p : ℕ) → p < hi → (pc ≡ p) ⊎ (pc < p) → edges_at sheet d p ≡ []
       at s p m (inl q) = rw (sym q) h
@@ -74,42 +75,41 @@ module _ (sheet : List ℕ) (d : ℕ) where
       earlier : {hi : ℕ} → Silent sheet d (suc pc) hi → Silent sheet d pc hi
       earlier s = record { none = λ p k m. at s p m (eq-or-lt_of_le k) }
 
-      go : Chain sheet nexts pcs d e (suc pc) → Chain sheet nexts pcs d e pc
+      go : Chain sheet entries d e (suc pc) → Chain sheet entries d e pc
       go (ended q s) = ended q (earlier s)
       go (linked q inside back later code s rest) = linked {pc = pc} q inside back (omega arith) code (earlier s) rest
 
   -- a link more, behind those of the chain
-  pub chain_kept : {nexts pcs : List ℕ} (used x y : ℕ) {e pc : ℕ} → e ≤ used → Chain sheet nexts pcs d e pc → Chain sheet (set nexts used x) (set pcs used y) d e pc
-  chain_kept used x y h (ended q s) = ended q s
-  chain_kept {nexts} {pcs} used x y {e} {pc} h (linked {i = i} q inside back later code s rest) =
-      let n : get_or (set nexts used x) i 0 ≡ get_or nexts i 0 = get_or-set_other nexts used i x 0 (λ z. omega arith) in
-      let p : get_or (set pcs used y) i 0 ≡ get_or pcs i 0 = get_or-set_other pcs used i y 0 (λ z. omega arith) in
-      linked {pc = pc} q (rw (length-set nexts used x) inside) (rw n back) (rw p later) (rw p code) (rw p s) (rw (n, p) (chain_kept used x y (omega arith) rest))
+  pub chain_kept : {entries : List Link} (used : ℕ) (x : Link) {e pc : ℕ} → e ≤ used → Chain sheet entries d e pc → Chain sheet (set entries used x) d e pc
+  chain_kept used x h (ended q s) = ended q s
+  chain_kept {entries} used x {e} {pc} h (linked {i = i} q inside back later code s rest) =
+      let n : link_at (set entries used x) i ≡ link_at entries i = get_or-set_other entries used i x _ (λ z. omega arith) in
+      linked {pc = pc} q (rw (length-set entries used x) inside) (rw n back) (rw n later) (rw n code) (rw n s) (rw n (chain_kept used x (omega arith) rest))
 
 -- ---- the tables while they are filled
 
 module _ (sheet : List ℕ) where
   -- what the tables tell of d, from instruction pc on
   abbrev At : ℕ → ℕ → Links → Type 0
-  At d pc t = Chain sheet t.nexts t.pcs d (get_or t.heads (bucket d) 0) pc
+  At d pc t = Chain sheet t.entries d (get_or t.heads (bucket d) 0) pc
 
   -- a head is a link that is used, or none
   record Filled (t : Links) : Type 0 where
     wide : length t.heads ≡ 2048
-    paired : length t.pcs ≡ length t.nexts
-    few : length t.nexts ≤ 65535
-    room : t.used ≤ length t.nexts
+    room : t.used ≤ length t.entries
     below : (k : ℕ) → get_or t.heads k 0 ≤ t.used
 
   module _ (pc : ℕ) (code : pc < code_count sheet) where
-    module _ (k : ℕ) (t : Links) (f : Filled t) (more : t.used < length t.nexts) where
+    -- a link to the instruction
+    abbrev new : ℕ → Links → Link
+    new k t = record { pc = pc; next = get_or t.heads k 0 }
+
+    module _ (k : ℕ) (t : Links) (f : Filled t) (more : t.used < length t.entries) where
       link_filled : k < 2048 → Filled (link pc k t)
       unfolding link
       link_filled h = record {
         wide = length-set t.heads k (t.used + 1) ∙ f.wide;
-        paired = length-set t.pcs t.used pc ∙ f.paired ∙ sym (length-set t.nexts t.used (get_or t.heads k 0));
-        few = rw (length-set t.nexts t.used (get_or t.heads k 0)) f.few;
-        room = rw (length-set t.nexts t.used (get_or t.heads k 0)) (omega arith);
+        room = rw (length-set t.entries t.used (new k t)) (omega arith);
         below = λ j. go j (eqb j k) refl;
       }
         where
@@ -121,28 +121,27 @@ module _ (sheet : List ℕ) where
       unfolding link
       link_kept d lo apart c =
           rw (get_or-set_other t.heads k (bucket d) (t.used + 1) 0 apart)
-          (chain_kept sheet d t.used (get_or t.heads k 0) pc (f.below _) c)
+          (chain_kept sheet d t.used (new k t) (f.below _) c)
 
       link_linked : (d : ℕ) → bucket d ≡ k → k < 2048 → At d (suc pc) t → At d pc (link pc k t)
       unfolding link
       link_linked d same h c =
-          let n = get_or-set_same t.nexts t.used (get_or t.heads k 0) 0 more in
-          let p = get_or-set_same t.pcs t.used pc 0 (omega (arith, f.paired)) in
+          let n : link_at (set t.entries t.used (new k t)) t.used ≡ new k t = get_or-set_same t.entries t.used (new k t) _ more in
           let e : get_or (set t.heads k (t.used + 1)) (bucket d) 0 ≡ suc t.used =
           rw (same, get_or-set_same t.heads k (t.used + 1) 0 (omega (arith, f.wide))) (omega arith) in
-          linked {pc = pc} e (rw (length-set t.nexts t.used (get_or t.heads k 0)) more) (rw n (f.below k)) (rw p (omega arith)) (rw p code)
-          (rw p (record { none = λ q m l. absurd (omega arith) })) (rw (n, p, add-one) (chain_kept sheet d t.used (get_or t.heads k 0) pc (f.below k) (rw same at c)))
+          linked {pc = pc} e (rw (length-set t.entries t.used (new k t)) more) (rw n (f.below k)) (rw n (omega arith)) (rw n code)
+          (rw n (record { none = λ q m l. absurd (omega arith) })) (rw (n, add-one) (chain_kept sheet d t.used (new k t) (f.below k) (rw same at c)))
 
     module _ (first : ℕ) (t : Links) (f : Filled t) where
-      each_more : (i : ℕ) → t.used + suc i ≤ length t.nexts → (link_each pc first i t).used < length (link_each pc first i t).nexts
+      each_more : (i : ℕ) → t.used + suc i ≤ length t.entries → (link_each pc first i t).used < length (link_each pc first i t).entries
       each_more i h = omega (arith, each_used pc first t i, each_room pc first t i)
 
-      each_filled : (i : ℕ) → first + i ≤ 2048 → t.used + i ≤ length t.nexts → Filled (link_each pc first i t)
+      each_filled : (i : ℕ) → first + i ≤ 2048 → t.used + i ≤ length t.entries → Filled (link_each pc first i t)
       unfolding link_each
       each_filled zero w h = f
       each_filled (suc i) w h = link_filled (first + i) (link_each pc first i t) (each_filled i (omega arith) (omega arith)) (each_more i h) (omega arith)
 
-      each_kept : (i : ℕ) → first + i ≤ 2048 → t.used + i ≤ length t.nexts → (d lo : ℕ)
+      each_kept : (i : ℕ) → first + i ≤ 2048 → t.used + i ≤ length t.entries → (d lo : ℕ)
           → (bucket d < first) ⊎ (first + i ≤ bucket d) → At d lo t → At d lo (link_each pc first i t)
       unfolding link_each
       each_kept zero w h d lo o c = c
@@ -158,7 +157,7 @@ module _ (sheet : List ℕ) where
           fewer (inl m) = inl m
           fewer (inr m) = inr (omega arith)
 
-      each_linked : (i : ℕ) → first + i ≤ 2048 → t.used + i ≤ length t.nexts → (d : ℕ)
+      each_linked : (i : ℕ) → first + i ≤ 2048 → t.used + i ≤ length t.entries → (d : ℕ)
           → first ≤ bucket d → bucket d < first + i → At d (suc pc) t → At d pc (link_each pc first i t)
       unfolding link_each
       each_linked zero w h d a b c = absurd (omega arith)
@@ -179,19 +178,19 @@ module _ (sheet : List ℕ) where
   -- ---- all instructions
 
   -- no instruction is linked
-  pub unlinked : (heads nexts pcs : List ℕ) → length pcs ≡ length nexts → length nexts ≤ 65535 → ((k : ℕ) → get_or heads k 0 ≡ 0) → {from : ℕ} → from ≡ code_count sheet
-      → Chained sheet heads nexts pcs from
-  unlinked heads nexts pcs p few none {from} e = record {
-    wide = λ l. absurd (omega arith);
-    paired = p;
-    few = few;
+  unlinked : (heads : List ℕ) (entries : List Link) → ((k : ℕ) → get_or heads k 0 ≡ 0) → Chained sheet heads entries (code_count sheet)
+  unlinked heads entries none = record {
     inside = omega arith;
-    chain = λ d l. ended {pc = from} (none (bucket d)) (record { none = λ q m k. absurd (omega arith) });
+    chain = λ d l. ended {pc = code_count sheet} (none (bucket d)) (record { none = λ q m k. absurd (omega arith) });
   }
+
+  -- what a graph tells
+  abbrev Tells_graph : Graph → Type 0
+  Tells_graph g = Chained sheet g.heads g.entries g.from
 
   module _ (small : local_slots sheet ≤ 65535) where
     -- what holds from one instruction on holds from the one before it, with its links
-    instruction_linked : (pc : ℕ) (t : Links) → Filled t → pc < code_count sheet → t.used + (buckets_at sheet pc).count ≤ length t.nexts → (d : ℕ) → d < local_slots sheet
+    instruction_linked : (pc : ℕ) (t : Links) → Filled t → pc < code_count sheet → t.used + (buckets_at sheet pc).count ≤ length t.entries → (d : ℕ) → d < local_slots sheet
         → At d (suc pc) t → At d pc (link_each pc (buckets_at sheet pc).first (buckets_at sheet pc).count t)
     unfolding edges_at
     instruction_linked pc t f code h d l c = go (outside_or_inside (buckets_at sheet pc) (bucket d))
@@ -206,32 +205,28 @@ module _ (sheet : List ℕ) where
         go (inr (a, b)) = each_linked pc code _ t f (buckets_at sheet pc).count few h d a b c
 
     down_chained : (pc : ℕ) (t : Links) → Filled t → pc ≤ code_count sheet → ((d : ℕ) → d < local_slots sheet → At d pc t)
-        → Chained sheet (link_down sheet pc t).heads (link_down sheet pc t).nexts (link_down sheet pc t).pcs (link_down sheet pc t).from
+        → Tells_graph (link_down sheet pc t)
     unfolding link_down
-    down_chained zero t f h c = record { wide = λ l. f.wide; paired = f.paired; few = f.few; inside = h; chain = c }
-    down_chained (suc pc) t f h c = go (leb (t.used + (buckets_at sheet pc).count) (length t.nexts)) refl (down_chained pc)
+    down_chained zero t f h c = record { inside = h; chain = c }
+    down_chained (suc pc) t f h c = go (leb (t.used + (buckets_at sheet pc).count) (length t.entries)) refl (down_chained pc)
       where
         after : Links
         after = link_each pc (buckets_at sheet pc).first (buckets_at sheet pc).count t
 
-        go : (b : Bool) → leb (t.used + (buckets_at sheet pc).count) (length t.nexts) ≡ b
+        go : (b : Bool) → leb (t.used + (buckets_at sheet pc).count) (length t.entries) ≡ b
             → ((u : Links) → Filled u → pc ≤ code_count sheet → ((d : ℕ) → d < local_slots sheet → At d pc u)
-            → Chained sheet (link_down sheet pc u).heads (link_down sheet pc u).nexts (link_down sheet pc u).pcs (link_down sheet pc u).from)
-            → Chained sheet (cond b (link_down sheet pc after) (graph t.heads t.nexts t.pcs (suc pc))).heads
-            (cond b (link_down sheet pc after) (graph t.heads t.nexts t.pcs (suc pc))).nexts
-            (cond b (link_down sheet pc after) (graph t.heads t.nexts t.pcs (suc pc))).pcs
-            (cond b (link_down sheet pc after) (graph t.heads t.nexts t.pcs (suc pc))).from
+            → Tells_graph (link_down sheet pc u))
+            → Tells_graph (cond b (link_down sheet pc after) (graph t.heads t.entries (suc pc)))
         go true e rest =
             let room = leb-true _ _ e in
             rest after (each_filled pc h _ t f (buckets_at sheet pc).count (buckets_few (local_slots sheet) (instruction sheet pc) small) room) (omega arith)
             (λ d l. instruction_linked pc t f h room d l (c d l))
-        go false e rest = record { wide = λ l. f.wide; paired = f.paired; few = f.few; inside = h; chain = c }
+        go false e rest = record { inside = h; chain = c }
 
     -- the whole graph
-    pub graph_chained : (heads nexts pcs : List ℕ) → length heads ≡ 2048 → length pcs ≡ length nexts → length nexts ≤ 65535 → {g : Graph} → g ≡ graph_of sheet heads nexts pcs
-        → Chained sheet g.heads g.nexts g.pcs g.from
+    pub graph_chained : (heads : List ℕ) (entries : List Link) → length heads ≡ 2048 → {g : Graph} → g ≡ graph_of sheet heads entries → Tells_graph g
     unfolding graph_of zeros
-    graph_chained heads nexts pcs w p few e =
-        let none = unlinked (zeros heads) nexts pcs p few (zeros_read (length heads)) refl in
-        rw e (down_chained (code_count sheet) (links (zeros heads) nexts pcs 0)
-        (record { wide = length-replicate (length heads) 0 ∙ w; paired = p; few = few; room = omega arith; below = λ k. rw (zeros_read (length heads) k) (omega arith) }) (omega arith) none.chain)
+    graph_chained heads entries w e =
+        let none = unlinked (zeros heads) entries (zeros_read (length heads)) in
+        rw e (down_chained (code_count sheet) (links (zeros heads) entries 0)
+        (record { wide = length-replicate (length heads) 0 ∙ w; room = omega arith; below = λ k. rw (zeros_read (length heads) k) (omega arith) }) (omega arith) none.chain)

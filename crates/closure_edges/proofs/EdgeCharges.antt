@@ -1,16 +1,18 @@
 -- What the charges of an instruction are, and those of the flow graph.
 -- Assumes nothing.
-use mathlib.Core.Path.{◌≡◌}
+use mathlib.Core.Path.{◌≡◌, refl}
 use mathlib.Core.List.{List}
 use Prim.Native.Nat.{ℕ}
 use Rattle.model.specs.Sheet.{local_slots, instruction}
-use Rattle.model.specs.Charges.{Metered}
+use Rattle.std.specs.Prelude.{Err}
+use Rattle.model.specs.Charges.{Metered, ◌>>◌}
 use Rattle.model.specs.Dependencies.{charge_instruction}
 use Rattle.model.specs.Analyses.{flow_of, charge_flow}
 use Rattle.model.specs.declared.Instruction.{Instruction}
 use Rattle.model.specs.declared.VerifierResources.{VerifierResources}
-use Rattle.budget.specs.Outcome.{as_spent}
-use Rattle.budget.specs.declared.Outcome.{Outcome}
+use Rattle.budget.specs.Outcome.{Outcome, as_spent}
+use Rattle.budget.specs.declared.Refused.{Refused}
+use Rattle.budget.proofs.Outcomes.{stopped_then, stopped_spent, refused_stopped}
 use Rattle.sheet.specs.Measured.{Measured}
 use Rattle.sheet.specs.declared.Sizes.{Sizes}
 use Rattle.sheet.proofs.SizeNames.{counted}
@@ -29,3 +31,10 @@ pub flow_counted : (sheet : List ℕ) (budget : VerifierResources) {sizes : Size
     → as_spent flow ≡ charge_flow sheet budget
 unfolding charge_flow
 flow_counted sheet budget flow e m = rw (counted m.are).code_count_is at e
+
+-- ---- a refusal that `?` passes on
+
+-- is that of the part and of all that follows it
+pub passed_on : (part next : Metered (Unit {0})) (budget : VerifierResources) (refused : Refused) → as_spent (Err refused) ≡ part budget → as_spent (Err refused) ≡ (part >> next) budget
+unfolding ◌>>◌
+passed_on part next budget refused came = stopped_spent (stopped_then (refused_stopped came refl) (λ _. next))

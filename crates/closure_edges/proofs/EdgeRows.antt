@@ -90,7 +90,13 @@ module _ (inst : Instruction) (l : ℕ) {count : ℕ} (r : Dependence) (are : ro
       → count + more ≡ length (instruction_edges l inst)
   counted_fold f e k = rw (e, k) (sym (length_rows_fold l inst r f) ∙ ap length are)
 
--- ---- other opcodes than CopyN
+-- ---- the opcodes
+
+-- Or and Shl have the same rule
+pub folds : (inst : Instruction) → (inst.op ≡ 49) ⊎ (inst.op ≡ 53) → record { span = 1; fold = true; kinds = 1 } ≡ dependence inst
+unfolding depends select dependence_by dependency_bit
+folds inst (inl e) = rw e
+folds inst (inr e) = rw e
 
 -- what holds of every other rule holds of any other opcode's
 pub by_rule : (P : Depends → Type 0) (op : ℕ) → (op ≡ 4 → ⊥) → P copy_edge → P fold_edges → P iter_edge → P no_edges → P (depends op)

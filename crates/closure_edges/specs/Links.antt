@@ -6,6 +6,8 @@ use Rattle.model.specs.Call.{zeros}
 use Rattle.model.specs.declared.Instruction.{Instruction}
 use Rattle.closure_edges.specs.Rows.{dependence}
 use Rattle.closure_edges.specs.declared.Buckets.{Buckets}
+use Rattle.closure_edges.specs.declared.Link.{Link}
+use Rattle.closure_edges.specs.declared.Chains.{Chains}
 
 -- ---- buckets
 
@@ -33,19 +35,26 @@ buckets_of l inst = buckets_if (ltb inst.a (end_of l inst)) inst.a (end_of l ins
 
 -- ---- links
 
--- The newest link of each bucket, or 0; of each link, the first being 1, the one before it in its bucket, and its instruction.
+-- The link at a place; behind the last one there are zeros.
+abbrev pub link_at : List Link → ℕ → Link
+link_at entries i = get_or entries i (record { pc = 0; next = 0 })
+
+-- The newest link of each bucket, or 0; of each link, the first being 1, its instruction and the one before it in its bucket.
 pub record Links : Type 0 where
   pub heads : List ℕ
-  pub nexts : List ℕ
-  pub pcs : List ℕ
+  pub entries : List Link
   pub used : ℕ
 
-abbrev pub links : List ℕ → List ℕ → List ℕ → ℕ → Links
-links heads nexts pcs used = record { heads = heads; nexts = nexts; pcs = pcs; used = used }
+abbrev pub links : List ℕ → List Link → ℕ → Links
+links heads entries used = record { heads = heads; entries = entries; used = used }
+
+-- those of chains
+abbrev pub links_of : Chains → Links
+links_of c = links c.heads.now c.links.now c.used
 
 -- a link from a bucket to an instruction
 unfoldable pub link : ℕ → ℕ → Links → Links
-link pc k t = links (set t.heads k (t.used + 1)) (set t.nexts t.used (get_or t.heads k 0)) (set t.pcs t.used pc) (t.used + 1)
+link pc k t = links (set t.heads k (t.used + 1)) (set t.entries t.used (record { pc = pc; next = get_or t.heads k 0 })) (t.used + 1)
 
 -- one from each of count buckets
 unfoldable pub link_each : ℕ → ℕ → ℕ → Links → Links
@@ -57,12 +66,15 @@ link_each pc first (suc i) t = link pc (first + i) (link_each pc first i t)
 -- The tables, and the number of the first instruction that is in them.
 pub record Graph : Type 0 where
   pub heads : List ℕ
-  pub nexts : List ℕ
-  pub pcs : List ℕ
+  pub entries : List Link
   pub from : ℕ
 
-abbrev pub graph : List ℕ → List ℕ → List ℕ → ℕ → Graph
-graph heads nexts pcs from = record { heads = heads; nexts = nexts; pcs = pcs; from = from }
+abbrev pub graph : List ℕ → List Link → ℕ → Graph
+graph heads entries from = record { heads = heads; entries = entries; from = from }
+
+-- that of chains
+abbrev pub graph_in : Chains → Graph
+graph_in c = graph c.heads.now c.links.now c.first
 
 module _ (sheet : List ℕ) where
   abbrev pub buckets_at : ℕ → Buckets
@@ -70,12 +82,12 @@ module _ (sheet : List ℕ) where
 
   -- the instructions below the count, the last first, as long as there is room for an instruction's links
   unfoldable pub link_down : ℕ → Links → Graph
-  link_down zero t = graph t.heads t.nexts t.pcs 0
+  link_down zero t = graph t.heads t.entries 0
   link_down (suc pc) t =
-      cond (leb (t.used + (buckets_at pc).count) (length t.nexts))
+      cond (leb (t.used + (buckets_at pc).count) (length t.entries))
       (link_down pc (link_each pc (buckets_at pc).first (buckets_at pc).count t))
-      (graph t.heads t.nexts t.pcs (suc pc))
+      (graph t.heads t.entries (suc pc))
 
   -- all of them, into tables of any content
-  unfoldable pub graph_of : List ℕ → List ℕ → List ℕ → Graph
-  graph_of heads nexts pcs = link_down (code_count sheet) (links (zeros heads) nexts pcs 0)
+  unfoldable pub graph_of : List ℕ → List Link → Graph
+  graph_of heads entries = link_down (code_count sheet) (links (zeros heads) entries 0)

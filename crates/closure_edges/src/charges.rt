@@ -18,10 +18,7 @@ fn charge_flow(sizes: Sizes, resources: VerifierResources) -> Outcome
     ensures { as_spent result ≡ flow_of sizes.code_count resources }
 {
     let n = sizes.code_count as u64;
-    let records = metered(1, resources, charge_bytes(resources, n * 24));
-    let Outcome::Covered { left } = records else {
-        return records;
-    };
+    let left = metered(1, resources, charge_bytes(resources, n * 24))?;
     metered(1, left, charge_work(left, n))
 }
 
@@ -29,10 +26,7 @@ fn charge_flow(sizes: Sizes, resources: VerifierResources) -> Outcome
 fn charge_instruction(inst: Instruction, l: usize, resources: VerifierResources) -> Outcome
     ensures { as_spent result ≡ charge_instruction l inst resources }
 {
-    let copied = metered(2, resources, charge_work(resources, copy_work(inst)));
-    let Outcome::Covered { left } = copied else {
-        return copied;
-    };
+    let left = metered(2, resources, charge_work(resources, copy_work(inst)))?;
     charge_edges(2, left, edge_count(inst, l))
 }
 
@@ -41,19 +35,11 @@ fn charge_dependencies(sheet: &[u8], sizes: Sizes, resources: VerifierResources)
     requires { Measured sheet.now sizes }
     ensures { as_spent result ≡ charge_dependencies sheet.now resources }
 {
-    let n = sizes.code_count;
-    let l = sizes.local_slots;
     let mut left = resources;
-    let mut pc = 0;
-    while pc < n {
-        let charged = charge_instruction(instruction_at(sheet, pc), l, left);
-        let Outcome::Covered { left: rest } = charged else {
-            return charged;
-        };
-        left = rest;
-        pc += 1;
+    for pc in 0..sizes.code_count {
+        left = charge_instruction(instruction_at(sheet, pc), sizes.local_slots, left)?;
     }
-    Outcome::Covered { left }
+    Ok(left)
 }
 
 // Both, before any analysis: "Order: flow graph, dependencies"
@@ -61,9 +47,6 @@ pub fn charge_graph(sheet: &[u8], sizes: Sizes, resources: VerifierResources) ->
     requires { Measured sheet.now sizes }
     ensures { as_spent result ≡ charge_graph sheet.now resources }
 {
-    let flow = charge_flow(sizes, resources);
-    let Outcome::Covered { left } = flow else {
-        return flow;
-    };
+    let left = charge_flow(sizes, resources)?;
     charge_dependencies(sheet, sizes, left)
 }

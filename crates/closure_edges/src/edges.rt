@@ -6,7 +6,7 @@ ghost use Rattle.closure_edges.specs.Rows.{dependence};
 use crate::Dependence;
 use model::Instruction;
 
-// "Opcodes (decimal)"
+// "Opcodes (decimal)". They stay bytes: a sheet may hold any, and an enum of these five needs one more variant for all the others.
 const COPY: u8 = 3;
 
 pub const COPY_N: u8 = 4;
@@ -30,46 +30,32 @@ const COPY_DEPENDENCIES: u8 = CONSTANT | INDEX_CHECK | CONTAINER;
 pub fn dependence_of(inst: Instruction) -> Dependence
     ensures { result ≡ dependence inst }
 {
-    let op = inst.op;
-    if op == COPY {
-        return Dependence {
+    match inst.op {
+        COPY => Dependence {
             span: 1,
             fold: false,
             kinds: COPY_DEPENDENCIES,
-        };
-    }
-    if op == COPY_N {
-        return Dependence {
+        },
+        COPY_N => Dependence {
             span: inst.c,
             fold: false,
             kinds: COPY_DEPENDENCIES,
-        };
-    }
-    if op == SHL {
-        return Dependence {
+        },
+        SHL | OR => Dependence {
             span: 1,
             fold: true,
             kinds: CONSTANT,
-        };
-    }
-    if op == OR {
-        return Dependence {
-            span: 1,
-            fold: true,
-            kinds: CONSTANT,
-        };
-    }
-    if op == MAP_ITER_INIT {
-        return Dependence {
+        },
+        MAP_ITER_INIT => Dependence {
             span: 1,
             fold: false,
             kinds: CONTAINER,
-        };
-    }
-    Dependence {
-        span: 0,
-        fold: false,
-        kinds: 0,
+        },
+        _ => Dependence {
+            span: 0,
+            fold: false,
+            kinds: 0,
+        },
     }
 }
 
@@ -77,43 +63,26 @@ pub fn dependence_of(inst: Instruction) -> Dependence
 pub fn copy_work(inst: Instruction) -> u64
     ensures { result ≡ copy_work (depends inst.op) inst }
 {
-    let op = inst.op;
-    if op == COPY_N {
-        return inst.c as u64;
-    }
-    0
-}
-
-// How many slots from slot up are below l.
-fn room(l: usize, slot: u16) -> u64
-    ensures { result ≡ l - slot }
-{
-    let at = slot as usize;
-    if at < l { (l - at) as u64 } else { 0 }
-}
-
-fn smaller(x: u64, y: u64) -> u64
-    ensures { result ≡ min x y }
-{
-    if x < y { x } else { y }
+    if inst.op == COPY_N { inst.c as u64 } else { 0 }
 }
 
 // How many edges of a row have both ends below l.
 fn row_length(l: usize, a: u16, b: u16, span: u16) -> u64
     ensures { (result ≡ min span (min (l - a) (l - b))) × (result ≤ 65535) }
 {
-    smaller(span as u64, smaller(room(l, a), room(l, b)))
+    let to = l.saturating_sub(a as usize);
+    let from = l.saturating_sub(b as usize);
+    (span as usize).min(to.min(from)) as u64
 }
 
 // How many edges an instruction has.
 pub fn edge_count(inst: Instruction, l: usize) -> u64
     ensures { result ≡ length (instruction_edges l inst) }
 {
-    let d = dependence_of(inst);
-    let first = row_length(l, inst.a, inst.b, d.span);
-    let fold = d.fold;
-    if fold {
-        return first + row_length(l, inst.a, inst.c, d.span);
+    let rule = dependence_of(inst);
+    let first = row_length(l, inst.a, inst.b, rule.span);
+    if rule.fold {
+        return first + row_length(l, inst.a, inst.c, rule.span);
     }
     first
 }

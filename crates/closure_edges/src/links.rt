@@ -1,68 +1,76 @@
 // The chains, built from the last instruction to the first, so that each begins with its first one.
-ghost use Rattle.std.specs.Prelude.{◌≡◌, ◌+◌, ◌≤◌, length};
+ghost use Rattle.std.specs.Prelude.{◌≡◌, ◌+◌, ◌-◌, ◌<◌, ◌≤◌, length, get_or};
 ghost use Rattle.sheet.specs.Measured.{Measured};
-ghost use Rattle.closure_edges.specs.Links.{links, link_each, graph, graph_of};
+ghost use Rattle.closure_edges.specs.Links.{bucket, link_at, link_each, links_of, graph_in, graph_of};
 
-use crate::Buckets;
-use crate::destinations::buckets_of;
-use memory::clear_u16;
+use crate::destinations::{bucket_of, buckets_of};
+use crate::{Buckets, Chains, Link};
+use memory::clear;
 use sheet::Sizes;
 use sheet_fields::instruction_at;
 
-// A link to the instruction from each of the buckets. How many links there are then.
-fn link_each(
-    buckets: Buckets,
-    pc: usize,
-    used: usize,
-    heads: &mut [u16],
-    nexts: &mut [u16],
-    pcs: &mut [u16],
-) -> usize
-    requires { (buckets.first + buckets.count ≤ length heads.old)
-        × (used + buckets.count ≤ length nexts.old)
-        × (length pcs.old ≡ length nexts.old)
-        × (length nexts.old ≤ 65535)
-        × (pc ≤ 65535) }
-    ensures { links heads.new nexts.new pcs.new result
-        ≡ link_each pc buckets.first buckets.count (links heads.old nexts.old pcs.old used) }
-{
-    let first = buckets.first;
-    let count = buckets.count;
-    let mut top = used;
-    let mut i = 0;
-    while i < count {
-        let k = first + i;
-        nexts[top] = heads[k];
-        pcs[top] = pc as u16;
-        top += 1;
-        heads[k] = top as u16;
-        i += 1;
-    }
-    top
-}
-
-// Chains of the instructions from the one on that is answered: of all of them, where there is room.
-pub fn build(
-    sheet: &[u8],
-    sizes: Sizes,
-    heads: &mut [u16],
-    nexts: &mut [u16],
-    pcs: &mut [u16],
-) -> usize
-    requires { Measured sheet.now sizes × (length heads.old ≡ 2048) × (length pcs.old ≡ length nexts.old) × (length nexts.old ≤ 65535) }
-    ensures { graph heads.new nexts.new pcs.new result ≡ graph_of sheet.now heads.old nexts.old pcs.old }
-{
-    clear_u16(heads);
-    let mut used = 0;
-    let mut pc = sizes.code_count;
-    while 0 < pc {
-        let at = pc - 1;
-        let buckets = buckets_of(instruction_at(sheet, at), sizes.local_slots);
-        if nexts.len() - used < buckets.count {
-            return pc;
+impl<'a> Chains<'a> {
+    // Chains of all instructions, or where there is room for fewer links, of the last ones.
+    pub fn build(
+        sheet: &[u8],
+        sizes: Sizes,
+        heads: &'a mut [u16],
+        links: &'a mut [Link],
+    ) -> Chains<'a>
+        requires { Measured sheet.now sizes × (length heads.old ≡ 2048) × (length links.old ≤ 65535) }
+        ensures graph { graph_in result ≡ graph_of sheet.now heads.old links.old }
+        ensures same_heads { result.heads.ghost_name ≡ heads.entry.ghost_name }
+        ensures same_links { result.links.ghost_name ≡ links.entry.ghost_name }
+    {
+        clear(heads);
+        let mut chains = Chains {
+            heads,
+            links,
+            used: 0,
+            first: sizes.code_count,
+        };
+        for pc in (0..sizes.code_count).rev() {
+            let buckets = buckets_of(instruction_at(sheet, pc), sizes.local_slots);
+            if chains.links.len() - chains.used < buckets.count {
+                return chains;
+            }
+            chains.link_each(buckets, pc);
         }
-        used = link_each(buckets, at, used, heads, nexts, pcs);
-        pc = at;
+        chains
     }
-    0
+
+    // A link to the instruction from each of the buckets.
+    fn link_each(&mut self, buckets: Buckets, pc: usize)
+        requires { (buckets.first + buckets.count ≤ 2048) × (self.old.used + buckets.count ≤ length self.old.links.now) × (pc ≤ 65535) }
+        ensures linked { links_of self.new ≡ link_each pc buckets.first buckets.count (links_of self.old) }
+        ensures first { self.new.first ≡ pc }
+        ensures same_heads { self.new.heads.ghost_name ≡ self.old.heads.ghost_name }
+        ensures same_links { self.new.links.ghost_name ≡ self.old.links.ghost_name }
+    {
+        for k in buckets.first..buckets.first + buckets.count {
+            self.links[self.used] = Link {
+                pc: pc as u16,
+                next: self.heads[k],
+            };
+            self.used += 1;
+            self.heads[k] = self.used as u16;
+        }
+        self.first = pc;
+    }
+
+    // The number of the newest link of a slot's bucket, or 0.
+    pub fn newest(&self, slot: usize) -> usize
+        requires { slot < 65536 }
+        ensures { result ≡ get_or self.now.heads.now (bucket slot) 0 }
+    {
+        self.heads[bucket_of(slot)] as usize
+    }
+
+    // The link of a number.
+    pub fn link(&self, number: usize) -> Link
+        requires { (0 < number) × (number ≤ length self.now.links.now) }
+        ensures { result ≡ link_at self.now.links.now (number - 1) }
+    {
+        self.links[number - 1]
+    }
 }

@@ -3,7 +3,7 @@
 use mathlib.Core.Path.{◌≡◌, refl, sym, ◌∙◌}
 use mathlib.Core.Bool.{true, false}
 use mathlib.Core.List.{List, [], ◌∷◌}
-use Prim.Native.Nat.{ℕ, zero, suc, ◌+◌, ◌≤◌, ◌<◌}
+use Prim.Native.Nat.{ℕ, ◌+◌, ◌≤◌, ◌<◌}
 use native.Mathlib.Omega.{arith}
 use lib.Dec.{eqb}
 use lib.ListN.{length, get_or, set, length-set, get_or-eq_default}
@@ -13,8 +13,7 @@ use Rattle.model.specs.Closure.{Marked, marked, mark}
 use Rattle.model.specs.CallDemand.{marking}
 use Rattle.finality.proofs.Marks.{same_below, stack_room}
 use Rattle.finality.proofs.Cells.{stacked_push}
-use Rattle.closure_marks.specs.Marks.{MarkedLies, Lain, Goes, candidates, Holding, first_slots, slots_in, mark_all}
-use Rattle.closure_marks.specs.declared.Candidates.{Candidates}
+use Rattle.closure_marks.specs.Marks.{MarkedLies, Lain, Goes, mark_all}
 
 pub some_lain : {sheet : List ℕ} {room : ℕ} {m : Marked} {marks stack : List ℕ} {top : ℕ} → MarkedLies sheet room m marks stack top → Lain marks stack top
 some_lain {sheet} {room} {m} l = record { sheet = sheet; room = room; m = m; lies = l }
@@ -61,21 +60,6 @@ module _ (slot : ℕ) (marks stack : List ℕ) (top : ℕ) where
   pub mark_past : length marks ≤ slot → Goes (mark slot) marks stack top marks stack top
   mark_past h = old (rw (get_or-eq_default marks 1 h))
 
--- ---- the slots of a value
-
-module _ {c : Candidates} where
-  pub none_held : c ≡ candidates 0 0 0 → Holding c []
-  unfolding slots_in first_slots
-  none_held e = rw e (record { are = refl; many = refl })
-
-  pub one_held : {slot : ℕ} → c ≡ candidates slot 0 1 → Holding c (slot ∷ [])
-  unfolding slots_in first_slots
-  one_held e = rw e (record { are = refl; many = refl })
-
-  pub two_held : {first second : ℕ} → c ≡ candidates first second 2 → Holding c (first ∷ second ∷ [])
-  unfolding slots_in first_slots
-  two_held e = rw e (record { are = refl; many = refl })
-
 -- ---- several
 
 pub goes_self : {f : Marked → Marked} {marks stack : List ℕ} {top : ℕ} → ((m : Marked) → f m ≡ m) → Goes f marks stack top marks stack top
@@ -95,28 +79,20 @@ module _ {f : Marked → Marked} {marks stack marks' stack' : List ℕ} {top top
   lain_on w = some_lain (p.on w.lies)
 
   -- no length changes
-  pub goes_wide : Lain marks stack top → length marks' ≡ length marks
-  goes_wide w = (p.on w.lies).wide ∙ sym w.lies.wide
-
   pub goes_long : Lain marks stack top → length stack' ≡ length stack
   goes_long w = (p.on w.lies).long ∙ sym w.lies.long
 
-module _ (c : Candidates) {marks stack : List ℕ} {top : ℕ} where
-  pub none_marked : c.len ≡ 0 → Goes (mark_all (slots_in c)) marks stack top marks stack top
-  unfolding slots_in first_slots mark_all
-  none_marked e = goes_self (λ m. rw e)
+module _ {marks stack : List ℕ} {top : ℕ} where
+  pub none_marked : Goes (mark_all []) marks stack top marks stack top
+  unfolding mark_all
+  none_marked = goes_self (λ m. refl)
 
-  module _ {marks' stack' : List ℕ} {top' : ℕ} (first : Goes (mark (get_or c.slots 0 0)) marks stack top marks' stack' top') where
-    pub one_marked : c.len ≡ 1 → Goes (mark_all (slots_in c)) marks stack top marks' stack' top'
-    unfolding slots_in first_slots mark_all
-    one_marked e = goes_as first (mark_all (slots_in c)) (λ m. rw e)
+  module _ (slot : ℕ) {marks' stack' : List ℕ} {top' : ℕ} (first : Goes (mark slot) marks stack top marks' stack' top') where
+    pub one_marked : Goes (mark_all (slot ∷ [])) marks stack top marks' stack' top'
+    unfolding mark_all
+    one_marked = goes_as first (mark_all (slot ∷ [])) (λ m. refl)
 
-    pub both_marked : (c.len ≡ 0 → ⊥) → (c.len ≡ 1 → ⊥) → {marks'' stack'' : List ℕ} {top'' : ℕ}
-        → Goes (mark (get_or c.slots 1 0)) marks' stack' top' marks'' stack'' top'' → Goes (mark_all (slots_in c)) marks stack top marks'' stack'' top''
-    unfolding slots_in first_slots mark_all
-    both_marked p q second = goes_on first (mark_all (slots_in c)) second (λ m. go c.len m p q)
-      where
-        go : (n : ℕ) (m : Marked) → (n ≡ 0 → ⊥) → (n ≡ 1 → ⊥) → mark_all (first_slots n c.slots) m ≡ mark (get_or c.slots 1 0) (mark (get_or c.slots 0 0) m)
-        go zero m h k = absurd (h refl)
-        go (suc zero) m h k = absurd (k refl)
-        go (suc (suc n)) m h k = refl
+    pub both_marked : (other : ℕ) {marks'' stack'' : List ℕ} {top'' : ℕ} → Goes (mark other) marks' stack' top' marks'' stack'' top''
+        → Goes (mark_all (slot ∷ other ∷ [])) marks stack top marks'' stack'' top''
+    unfolding mark_all
+    both_marked other second = goes_on first (mark_all (slot ∷ other ∷ [])) second (λ m. refl)

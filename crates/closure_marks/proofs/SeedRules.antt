@@ -16,7 +16,7 @@ use Rattle.model.specs.Dependencies.{Field, field, seed_fields}
 use Rattle.model.specs.Closure.{Marked, mark, mark_fields, mark_seeds}
 use Rattle.model.specs.declared.Instruction.{Instruction}
 use Rattle.model.specs.declared.AnalysisKind.{AnalysisKind}
-use Rattle.closure_marks.specs.Marks.{Goes, Holding, slots_in, mark_all}
+use Rattle.closure_marks.specs.Marks.{Goes, slots_in, mark_all}
 use Rattle.closure_marks.specs.Fields.{fields_in}
 use Rattle.closure_marks.specs.declared.Candidates.{Candidates}
 use Rattle.closure_marks.specs.declared.Fields.{Fields}
@@ -43,15 +43,15 @@ marks_fields inst [] m = refl
 marks_fields inst (f ∷ fs) m = marks_fields inst fs (mark (field inst f) m)
 
 -- one more instruction
-pub seeds_more : (which : AnalysisKind) (sheet : List ℕ) (pc : ℕ) {inst : Instruction} {c : Candidates} {marks stack marks' stack' marks'' stack'' : List ℕ} {top top' top'' : ℕ}
+pub seeds_more : (which : AnalysisKind) (sheet : List ℕ) (pc : ℕ) {inst : Instruction} (c : Candidates) {marks stack marks' stack' marks'' stack'' : List ℕ} {top top' top'' : ℕ}
     → Goes (mark_seeds which sheet pc) marks stack top marks' stack' top' → inst ≡ instruction sheet pc
-    → Holding c (map (field inst) (seed_fields which inst.op)) → Goes (mark_all (slots_in c)) marks' stack' top' marks'' stack'' top''
+    → slots_in c ≡ map (field inst) (seed_fields which inst.op) → Goes (mark_all (slots_in c)) marks' stack' top' marks'' stack'' top''
     → Goes (mark_seeds which sheet (pc + 1)) marks stack top marks'' stack'' top''
 unfolding mark_seeds
-seeds_more which sheet pc {inst} {c} p e h q = goes_on p (mark_seeds which sheet (pc + 1)) q same
+seeds_more which sheet pc {inst} c p e h q = goes_on p (mark_seeds which sheet (pc + 1)) q same
   where
     same : (m : Marked) → mark_seeds which sheet (pc + 1) m ≡ mark_all (slots_in c) (mark_seeds which sheet pc m)
-    same m = rw (add-one, h.are, e) (marks_fields (instruction sheet pc) (seed_fields which (instruction sheet pc).op) (mark_seeds which sheet pc m))
+    same m = rw (add-one, h, e) (marks_fields (instruction sheet pc) (seed_fields which (instruction sheet pc).op) (mark_seeds which sheet pc m))
 
 pub seeds_none : (which : AnalysisKind) (sheet marks stack : List ℕ) (top : ℕ) → Goes (mark_seeds which sheet 0) marks stack top marks stack top
 unfolding mark_seeds
@@ -63,8 +63,5 @@ seeds_all which sheet pc n h k e p = let q : pc ≡ code_count sheet = omega ari
 
 -- ---- as the code finds them
 
-pub for_kind : {which is : AnalysisKind} (op : ℕ) {fs : List Field} → fs ≡ seed_fields is op → which ≡ is → fs ≡ seed_fields which op
-for_kind op e w = rw w e
-
-pub fields_held : (inst : Instruction) (c : Candidates) (f g : Fields) {fs : List Field} → fields_in f ≡ fs → f ≡ g → Holding c (map (field inst) (fields_in g)) → Holding c (map (field inst) fs)
-fields_held inst c f g e w h = rw (← e, w) h
+pub fields_held : (inst : Instruction) {slots : List ℕ} (f g : Fields) {fs : List Field} → fields_in f ≡ fs → f ≡ g → slots ≡ map (field inst) (fields_in g) → slots ≡ map (field inst) fs
+fields_held inst f g e w h = rw (← e, w) h

@@ -1,11 +1,12 @@
 -- How the marks and the stack of a closure lie in lent memory, and what a function makes of them.
 -- Assumes nothing.
-use Rattle.std.specs.Prelude.{◌≡◌, List, [], ◌∷◌, ℕ, zero, suc, ◌≤◌, length, get_or}
+use Rattle.std.specs.Prelude.{◌≡◌, List, [], ◌∷◌, ℕ, ◌≤◌, length}
 use Rattle.model.specs.Sheet.{local_slots}
 use Rattle.model.specs.Closure.{Marked, mark}
 use Rattle.model.specs.CallDemand.{Passed}
 use Rattle.model.specs.Tables.{stacked}
 use Rattle.closure_marks.specs.declared.Candidates.{Candidates}
+use Rattle.closure_marks.specs.declared.Candidates.TheVariants.{None, One, Two}
 
 -- A state of a closure lies in L marks and in a stack of at least L entries, of which the first `top` are used. (The lengths follow from
 -- the contents.)
@@ -30,24 +31,11 @@ pub record Lain (marks stack : List ℕ) (top : ℕ) : Type 0 where
 pub record Goes (step : Marked → Marked) (marks stack : List ℕ) (top : ℕ) (marks' stack' : List ℕ) (top' : ℕ) : Type 0 where
   pub on : {sheet : List ℕ} {room : ℕ} {m : Marked} → MarkedLies sheet room m marks stack top → MarkedLies sheet room (step m) marks' stack' top'
 
--- the first of two slots
-unfoldable pub first_slots : ℕ → List ℕ → List ℕ
-first_slots zero slots = []
-first_slots (suc zero) slots = get_or slots 0 0 ∷ []
-first_slots (suc (suc n)) slots = get_or slots 0 0 ∷ get_or slots 1 0 ∷ []
-
 -- the slots of a value
-unfoldable pub slots_in : Candidates → List ℕ
-slots_in c = first_slots c.len c.slots
-
--- a value of two places
-abbrev pub candidates : ℕ → ℕ → ℕ → Candidates
-candidates first second len = record { slots = first ∷ second ∷ []; len = len }
-
--- A value holds these slots. (Their number follows where it is at most two.)
-pub record Holding (c : Candidates) (slots : List ℕ) : Type 0 where
-  pub are : slots_in c ≡ slots
-  pub many : c.len ≡ length slots
+abbrev pub slots_in : Candidates → List ℕ
+slots_in None = []
+slots_in (One slot) = slot ∷ []
+slots_in (Two first second) = first ∷ second ∷ []
 
 -- slots marked in order
 unfoldable pub mark_all : List ℕ → Marked → Marked

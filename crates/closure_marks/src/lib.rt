@@ -6,15 +6,16 @@ mod mark;
 mod seeds;
 mod slots;
 
-pub use mark::{mark_slots, none, one, two};
+pub use mark::mark_slots;
 pub use seeds::seed_slots;
 pub use slots::list_slots;
 
-// At most two slots, in order: the first len.
+// At most two slots, in order.
 #[derive(Clone, Copy)]
-pub struct Candidates {
-    pub slots: [usize; 2],
-    pub len: u8,
+pub enum Candidates {
+    None,
+    One(usize),
+    Two(usize, usize),
 }
 
 // The fields of an instruction that are seeds, in the order of the Rust.

@@ -4,10 +4,10 @@ ghost use Rattle.model.specs.Sheet.{code_count};
 ghost use Rattle.model.specs.Dependencies.{field, seed_fields};
 ghost use Rattle.model.specs.Closure.{mark_seeds};
 ghost use Rattle.sheet.specs.Measured.{Measured};
-ghost use Rattle.closure_marks.specs.Marks.{Lain, Goes, Holding};
+ghost use Rattle.closure_marks.specs.Marks.{Lain, Goes, slots_in};
 ghost use Rattle.closure_marks.specs.Fields.{fields_in};
 
-use crate::mark::{mark_slots, none, one, two};
+use crate::mark::mark_slots;
 use crate::{Candidates, Fields};
 use model::{AnalysisKind, Instruction};
 use sheet::Sizes;
@@ -63,18 +63,18 @@ fn fields_of(which: AnalysisKind, op: u8) -> Fields
 
 // The seeds of an instruction, in the order of the Rust. b + 1 may be 65,536, which is from L up.
 fn seed_fields(which: AnalysisKind, inst: Instruction) -> Candidates
-    ensures { Holding result (map (field inst) (seed_fields which inst.op)) }
+    ensures { slots_in result ≡ map (field inst) (seed_fields which inst.op) }
 {
     let a = inst.a as usize;
     let b = inst.b as usize;
     let c = inst.c as usize;
     match fields_of(which, inst.op) {
-        Fields::None => none(),
-        Fields::A => one(a),
-        Fields::B => one(b),
-        Fields::C => one(c),
-        Fields::BAndNext => two(b, b + 1),
-        Fields::AAndB => two(a, b),
+        Fields::None => Candidates::None,
+        Fields::A => Candidates::One(a),
+        Fields::B => Candidates::One(b),
+        Fields::C => Candidates::One(c),
+        Fields::BAndNext => Candidates::Two(b, b + 1),
+        Fields::AAndB => Candidates::Two(a, b),
     }
 }
 
@@ -89,17 +89,10 @@ pub fn seed_slots(
     requires { Measured sheet.now sizes × Lain marks.old stack.old 0 }
     ensures { Goes (mark_seeds which sheet.now (code_count sheet.now)) marks.old stack.old 0 marks.new stack.new result }
 {
-    let n = sizes.code_count;
     let mut top = 0;
-    let mut pc = 0;
-    while pc < n {
-        top = mark_slots(
-            seed_fields(which, instruction_at(sheet, pc)),
-            marks,
-            stack,
-            top,
-        );
-        pc += 1;
+    for pc in 0..sizes.code_count {
+        let seeds = seed_fields(which, instruction_at(sheet, pc));
+        top = mark_slots(seeds, marks, stack, top);
     }
     top
 }

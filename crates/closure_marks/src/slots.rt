@@ -4,6 +4,7 @@ ghost use Rattle.model.specs.Closure.{list_unless, places};
 ghost use Rattle.closure_marks.specs.Slots.{stored_unless, fitted};
 
 // 1 for a mark that is set.
+#[tactic(auto, unfolding(model::specs::Closure::list_unless))]
 fn one_if_set(mark: u8) -> usize
     ensures { (result ≡ length (list_unless (eqb mark 0) 0 [])) × (result ≤ 1) }
 {
@@ -15,15 +16,14 @@ fn count_marks(marks: &[u8]) -> usize
     ensures { result ≡ length (places 0 marks.now) }
 {
     let mut count = 0;
-    let mut i = 0;
-    while i < marks.len() {
-        count += one_if_set(marks[i]);
-        i += 1;
+    for mark in marks {
+        count += one_if_set(*mark);
     }
     count
 }
 
 // A slot whose mark is set goes to the next place.
+#[tactic(auto, unfolding(model::specs::Closure::list_unless, crate::specs::Slots::stored_unless))]
 fn write_slot(mark: u8, slot: usize, slots: &mut [u16], at: usize) -> usize
     requires { (slot < 65536) × (at ≤ length slots.old) × (eqb mark 0 ≡ false → at < length slots.old) }
     ensures { (result ≡ at + length (list_unless (eqb mark 0) slot [])) × (slots.new ≡ stored_unless (eqb mark 0) slots.old at slot) }
@@ -35,7 +35,8 @@ fn write_slot(mark: u8, slot: usize, slots: &mut [u16], at: usize) -> usize
     at + 1
 }
 
-// The s marked slots, in the first places. No mark behind the last of them is read.
+// The s marked slots, in the first places. No mark behind the last of them is read: so the loop runs over places and not over marks. (A
+// `for` over the marks needs the same test as a `break`, and there a turn too many would be no error that the proof refuses.)
 fn write_marked_slots(marks: &[u8], slots: &mut [u16], s: usize)
     requires { (length marks.now ≤ 65535) × (length (places 0 marks.now) ≤ length slots.old) × (s ≡ length (places 0 marks.now)) }
     ensures { slots.new ≡ places 0 marks.now ++ drop (length (places 0 marks.now)) slots.old }

@@ -1,9 +1,9 @@
 -- `closure::expand_along` meets its contract: from the state that lies in marks and stack the closure goes on with what is left.
 -- Assumes nothing.
-use Rattle.std.proofs.Common.{ℕ, length, replicate, refl, ap, ◌∙◌, arith}
+use Rattle.std.proofs.Common.{ℕ, replicate, refl, ap, ◌∙◌, arith}
 use Rattle.model.specs.Closure.{seeded}
 use Rattle.model.specs.Call.{zeros}
-use Rattle.finality.proofs.Lengths.{zeros_length, zeros_same}
+use Rattle.finality.proofs.Lengths.{zeros_same}
 use Rattle.budget.proofs.Outcomes.{covered_leaves, stopped_leaves}
 use Rattle.closure_marks.proofs.Marks.{some_lain, goes_long}
 use Rattle.closure.proofs.ExpandLoop.{zero_lies, lies_room, expanding_begun, expanding_standing, expanding_less, expanding_on, expanding_refused, expanding_done, expanding_empty}
@@ -22,20 +22,15 @@ take_slot-followed-requires c =
     let asked = c.requires in
     (asked.0, c.loop-top-test.true, expanding_standing _ _ c.loop-top.invariant, asked.2)
 
-pub shape_of-marks-in_default : goal.shape_of-marks-in_default
-shape_of-marks-in_default c =
-    ap length c.clear_u8.ensures ∙ zeros_length _
-    ∙ omega (arith, (c.take_slot-followed.ensures.lies c.loop-top.invariant.lies).wide, c.requires.1.wide)
-
 pub returns-in_default : goal.returns-in_default
 returns-in_default c =
     let asked = c.requires in
     let after = c.take_slot-followed.ensures.lies c.loop-top.invariant.lies in
     let stops = expanding_refused _ _ c.loop-top.invariant c.loop-top-test.true c.take_slot-followed.ensures c.charge_work.ensures
-    c.stage_number-stage.ensures c.metered-charged.result c.metered-charged.ensures c.in_default.not-Covered in
+    c.stage_number-stage.ensures c.metered-charged.result c.metered-charged.ensures c.in_default.not-Ok in
     record {
-      closes = stopped_leaves stops _ (c.clear_u8.ensures ∙ zeros_same _ _ (omega (arith, after.wide, asked.1.wide)));
-      no_entries = c.clear_u16.ensures ∙ zeros_same _ _ (after.long ∙ goes_long c.seed_slots-top.ensures (some_lain (zero_lies asked.0 asked.1)));
+      closes = stopped_leaves stops _ (c.clear.ensures ∙ zeros_same _ _ (omega (arith, after.wide, asked.1.wide)));
+      no_entries = c.clear-in_default.ensures ∙ zeros_same _ _ (after.long ∙ goes_long c.seed_slots-top.ensures (some_lain (zero_lies asked.0 asked.1)));
     }
 
 pub loop-top-smaller : goal.loop-top-smaller
@@ -45,15 +40,7 @@ loop-top-smaller c =
 pub loop-top-preserved : goal.loop-top-preserved
 loop-top-preserved c =
     expanding_on _ _ c.loop-top.invariant c.loop-top-test.true c.take_slot-followed.ensures c.charge_work.ensures
-    c.stage_number-stage.ensures c.metered-charged.result c.metered-charged.ensures c.in-Covered.is
-
-pub shape_of-marks : goal.shape_of-marks
-shape_of-marks c = omega (arith, c.loop-top.invariant.lies.wide, c.requires.1.wide)
-
-pub shape_of-stack : goal.shape_of-stack
-shape_of-stack c =
-    let asked = c.requires in
-    c.loop-top.invariant.lies.long ∙ goes_long c.seed_slots-top.ensures (some_lain (zero_lies asked.0 asked.1))
+    c.stage_number-stage.ensures c.metered-charged.result c.metered-charged.ensures c.in-Ok.is
 
 pub returns : goal.returns
 unfolding zeros

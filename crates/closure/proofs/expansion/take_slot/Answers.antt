@@ -1,29 +1,21 @@
 -- `closure::take_slot` meets its contract: the top is read and cleared, and its edges are followed.
 -- Assumes nothing.
-use Rattle.std.proofs.Common.{◌∙◌, lt_of_lt_of_le, arith, length-set}
+use Rattle.std.proofs.Common.{arith}
 use Rattle.sheet.proofs.SizeNames.{counted}
-use Rattle.closure_marks.proofs.Marks.{goes_long}
 use Rattle.closure.proofs.ExpandLoop.{standing_below, slot_below, popped_lain, takes}
 use Rattle.closure.proofs.expansion.take_slot.Goals as goal
 
 pub offset_bounds-stack-at : goal.offset_bounds-stack-at
-offset_bounds-stack-at c =
-    omega (arith, standing_below c.requires.2 c.requires.1)
+offset_bounds-stack-at c = omega (arith, standing_below c.requires.2 c.requires.1)
 
 pub bounds-stack-at : goal.bounds-stack-at
-bounds-stack-at c =
-    omega (arith, standing_below c.requires.2 c.requires.1)
-
-pub overflow_cast-d : goal.overflow_cast-d
-overflow_cast-d c = record { fits = lt_of_lt_of_le (c.slice_known-3-1.given _).fits (omega arith) }
+bounds-stack-at c = omega (arith, standing_below c.requires.2 c.requires.1)
 
 pub offset_bounds-stack-at-2 : goal.offset_bounds-stack-at-2
-offset_bounds-stack-at-2 c =
-    omega (arith, standing_below c.requires.2 c.requires.1)
+offset_bounds-stack-at-2 c = omega (arith, standing_below c.requires.2 c.requires.1)
 
 pub bounds-stack-at-2 : goal.bounds-stack-at-2
-bounds-stack-at-2 c =
-    omega (arith, standing_below c.requires.2 c.requires.1)
+bounds-stack-at-2 c = omega (arith, standing_below c.requires.2 c.requires.1)
 
 pub follow_edges-requires : goal.follow_edges-requires
 follow_edges-requires c =
@@ -33,10 +25,6 @@ follow_edges-requires c =
       rw (counted asked.0.are).local_slots_is (slot_below asked.2 asked.1 _),
       popped_lain asked.2 asked.1,
     )
-
-pub shape_of-stack : goal.shape_of-stack
-shape_of-stack c =
-    goes_long c.follow_edges.ensures.goes (popped_lain c.requires.2 c.requires.1) ∙ simp length-set
 
 pub returns : goal.returns
 returns c =

@@ -4,50 +4,28 @@ use Rattle.std.proofs.Common.{arith}
 use Rattle.sheet.proofs.SizeNames.{counted}
 use Rattle.sheet.proofs.SizeLimits.{limited}
 use Rattle.sheet.proofs.FieldBounds.{code_inside}
-use Rattle.closure_marks.proofs.Marks.{lain_on, goes_wide, goes_long}
+use Rattle.closure_marks.proofs.Marks.{lain_on}
 use Rattle.closure.proofs.FollowEdges.{follows_none, follows_more, follows_below}
 use Rattle.closure.proofs.follow.follow_code.Goals as goal
 
 pub loop-pc-init : goal.loop-pc-init
-loop-pc-init c = (omega arith, omega arith, follows_none _ _ _ _ _ _)
+loop-pc-init c = (omega arith, follows_none _ _ _ _ _ _)
 
 pub instruction_at-requires : goal.instruction_at-requires
-instruction_at-requires c =
-    code_inside c.requires.0 _ (omega (arith, c.loop-pc-test.true, c.requires.1))
+instruction_at-requires c = code_inside c.requires.0 _ (omega (arith, c.loop-pc-test.true, c.requires.1))
 
 pub follow_instruction-followed-requires : goal.follow_instruction-followed-requires
 follow_instruction-followed-requires c =
     let done = c.loop-pc.invariant in
     let asked = c.requires in
-    let l = limited asked.0 in (
-      asked.2,
-      l.local_slots_is,
-      omega (arith, done.0, done.1, asked.1, l.code_count_is),
-      lain_on done.2.goes asked.3,
-    )
-
-pub overflow_add-pc : goal.overflow_add-pc
-overflow_add-pc c =
-    omega (arith, c.loop-pc-test.true)
-
-pub loop-pc-smaller : goal.loop-pc-smaller
-loop-pc-smaller c =
-    omega (arith, c.loop-pc-test.true)
+    let l = limited asked.0 in
+    (asked.2, l.local_slots_is, omega (arith, done.0, c.loop-pc-test.true, asked.1, l.code_count_is), lain_on done.1.goes asked.3)
 
 pub loop-pc-preserved : goal.loop-pc-preserved
 loop-pc-preserved c =
     let done = c.loop-pc.invariant in
-    let followed = c.follow_instruction-followed.ensures in (
-      omega (arith, c.loop-pc-test.true),
-      omega (arith, done.1, followed.0),
-      follows_more _ _ _ _ _ _ done.2 c.instruction_at.ensures (counted c.requires.0.are).local_slots_is followed.1,
-    )
-
-pub shape_of-marks : goal.shape_of-marks
-shape_of-marks c = goes_wide c.loop-pc.invariant.2.goes c.requires.3
-
-pub shape_of-stack : goal.shape_of-stack
-shape_of-stack c = goes_long c.loop-pc.invariant.2.goes c.requires.3
+    let followed = c.follow_instruction-followed.ensures in
+    (omega (arith, done.0, followed.0), follows_more _ _ _ _ _ _ done.1 c.instruction_at.ensures (counted c.requires.0.are).local_slots_is followed.1)
 
 pub returns : goal.returns
-returns c = follows_below _ _ _ c.loop-pc.invariant.0 c.loop-pc-test.false c.loop-pc.invariant.1 c.loop-pc.invariant.2
+returns c = follows_below _ _ _ c.loop-pc.auto.pc-end c.loop-pc-test.false c.loop-pc.invariant.0 c.loop-pc.invariant.1

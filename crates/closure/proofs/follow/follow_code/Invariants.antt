@@ -1,6 +1,6 @@
 -- `closure::follow_code` meets its contract: the edges of the instructions passed were counted and followed.
 -- Assumes nothing.
-use Rattle.std.proofs.Common.{◌-◌, ◌*◌, ◌≤◌}
+use Rattle.std.proofs.Common.{◌*◌, ◌≤◌}
 use Rattle.model.specs.Count.{collect}
 use Rattle.closure_edges.specs.Chain.{edges_at}
 use Rattle.closure.specs.Sources.{Follows}
@@ -8,7 +8,4 @@ use Rattle.closure.proofs.follow.follow_code.Given as goal
 
 abbrev pub invariant-loop-pc : goal.invariant-loop-pc
 invariant-loop-pc l =
-    (l.pc ≤ l.end) × (l.followed.count ≤ l.pc * 255) × Follows l.bit (collect (edges_at l.sheet l.d) l.pc) l.initial.marks l.initial.stack l.initial.followed l.marks l.stack l.followed
-
-abbrev pub decreases-loop-pc : goal.decreases-loop-pc
-decreases-loop-pc l = l.end - l.pc
+    (l.followed.count ≤ l.pc * 255) × Follows l.bit (collect (edges_at l.sheet l.d) l.pc) l.initial.marks l.initial.stack l.initial.followed l.marks l.stack l.followed

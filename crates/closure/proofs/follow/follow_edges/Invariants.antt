@@ -3,8 +3,9 @@
 use Rattle.closure.proofs.FollowEdges.{ChainWalked}
 use Rattle.closure.proofs.follow.follow_edges.Given as goal
 
-abbrev pub invariant-loop-link : goal.invariant-loop-link
-invariant-loop-link l = ChainWalked l.sheet l.d l.nexts l.pcs l.from l.bit l.initial.marks l.initial.stack l.initial.followed l.marks l.stack l.followed l.link
+abbrev pub invariant-loop-number : goal.invariant-loop-number
+invariant-loop-number l =
+    ChainWalked l.sheet l.d l.chains.links.now l.chains.first l.bit l.initial.marks l.initial.stack l.initial.followed l.marks l.stack l.followed l.number
 
-abbrev pub decreases-loop-link : goal.decreases-loop-link
-decreases-loop-link l = l.link
+abbrev pub decreases-loop-number : goal.decreases-loop-number
+decreases-loop-number l = l.number

@@ -2,21 +2,20 @@
 -- Assumes nothing.
 use Rattle.std.proofs.Common.{le-ltb, lt-ltb}
 use Rattle.closure.specs.Sources.{only_if}
-use Rattle.closure_marks.proofs.Marks.{none_held, one_held, two_held}
 use Rattle.closure.proofs.follow.sources_below.Goals as goal
 
-pub returns-then-first-l : goal.returns-then-first-l
+pub returns-in-true-true : goal.returns-in-true-true
 unfolding only_if
-returns-then-first-l c = rw (lt-ltb _ _ c.if-first-l.true, c.if-fold-second.true) (two_held c.two.ensures)
+returns-in-true-true c = rw (lt-ltb _ _ c.in-true-true.is-0, c.in-true-true.is-1)
 
-pub returns-then-fold-second : goal.returns-then-fold-second
+pub returns-in-true-false : goal.returns-in-true-false
 unfolding only_if
-returns-then-fold-second c = rw (le-ltb _ _ c.if-first-l.false, c.if-fold-second.true) (one_held c.one.ensures)
+returns-in-true-false c = rw (lt-ltb _ _ c.in-true-false.is-0, c.in-true-false.is-1)
 
-pub returns-then-first-l-2 : goal.returns-then-first-l-2
+pub returns-in-false-true : goal.returns-in-false-true
 unfolding only_if
-returns-then-first-l-2 c = rw (lt-ltb _ _ c.if-first-l-2.true, c.if-fold-second.false) (one_held c.one-then-first-l-2.ensures)
+returns-in-false-true c = rw (le-ltb _ _ c.in-false-true.is-0, c.in-false-true.is-1)
 
-pub returns : goal.returns
+pub returns-in-false-false : goal.returns-in-false-false
 unfolding only_if
-returns c = rw (le-ltb _ _ c.if-first-l-2.false, c.if-fold-second.false) (none_held c.none.ensures)
+returns-in-false-false c = rw (le-ltb _ _ c.in-false-false.is-0, c.in-false-false.is-1)

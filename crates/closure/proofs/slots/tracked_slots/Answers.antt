@@ -1,12 +1,8 @@
 -- `closure::slots::tracked_slots` meets its contract: the first L marks are lent, and the others stay zero.
 -- Assumes nothing.
-use Rattle.std.proofs.Common.{sym, length-take-le}
 use Rattle.sheet.proofs.SizeNames.{counted}
 use Rattle.closure.proofs.TrackedSlots.{blank, marks_clear}
 use Rattle.closure.proofs.slots.tracked_slots.Goals as goal
-
-pub slice_bounds-track-end-2 : goal.slice_bounds-track-end-2
-slice_bounds-track-end-2 c = sym (length-take-le _ c.args.marks.now c.requires.1)
 
 pub track-requires : goal.track-requires
 track-requires c =

@@ -1,9 +1,9 @@
 -- `closure_edges::charges::charge_dependencies` meets its contract: so far all charges were covered.
 -- Assumes nothing.
-use mathlib.Core.Path.{◌≡◌, ◌∙◌}
+use mathlib.Core.Path.{refl, ◌∙◌}
+use Rattle.std.proofs.lemmas.Result.{err_from_is_err_and}
 use Rattle.model.specs.Dependencies.{charge_dependencies}
-use Rattle.budget.specs.Outcome.{as_spent}
-use Rattle.budget.proofs.Outcomes.{spent_stopped}
+use Rattle.budget.proofs.Outcomes.{refused_stopped}
 use Rattle.budget.proofs.Spending.{charged_none, charged_more, charged_all, charged_refused, covered}
 use Rattle.sheet.proofs.SizeNames.{counted}
 use Rattle.sheet.proofs.FieldBounds.{code_inside}
@@ -16,16 +16,19 @@ loop-pc-init c = charged_none _ _ _
 pub instruction_at-requires : goal.instruction_at-requires
 instruction_at-requires c = code_inside c.requires _ c.loop-pc-test.true
 
-pub returns-in_default : goal.returns-in_default
+pub returns-in_err-left : goal.returns-in_err-left
 unfolding charge_dependencies charges
-returns-in_default c =
-    charged_refused _ _ _ (counted c.requires.are).code_count_is c.loop-pc.invariant c.loop-pc-test.true
-    (spent_stopped c.charge_instruction-charged.result (let came : as_spent c.charge_instruction-charged.result ≡ charges c.args.sheet.now c.loop-pc.pc c.loop-pc.left = c.charge_instruction-charged.ensures ∙ same_charge _ _ _ c.instruction_at.ensures (counted c.requires.are).local_slots_is in came) c.in_default.not-Covered)
+returns-in_err-left c =
+    let p = err_from_is_err_and c.from_residual.result c.from_residual.ensures.1 in
+    let sizes = counted c.requires.are in
+    rw (p.1, p.2) (charged_refused (charges c.args.sheet.now) _ _ sizes.code_count_is c.loop-pc.invariant c.loop-pc-test.true
+    (refused_stopped (c.in_err-left.ensures ∙ same_charge _ _ _ c.instruction_at.ensures sizes.local_slots_is) refl))
 
 pub loop-pc-preserved : goal.loop-pc-preserved
 loop-pc-preserved c =
-    charged_more _ _ _ c.loop-pc.invariant c.loop-pc-test.true (covered (let came : as_spent c.charge_instruction-charged.result ≡ charges c.args.sheet.now c.loop-pc.pc c.loop-pc.left = c.charge_instruction-charged.ensures ∙ same_charge _ _ _ c.instruction_at.ensures (counted c.requires.are).local_slots_is in came) c.in-Covered.is)
+    charged_more _ _ _ c.loop-pc.invariant c.loop-pc-test.true
+    (covered (c.charge_instruction.ensures ∙ same_charge _ _ _ c.instruction_at.ensures (counted c.requires.are).local_slots_is) c.in_ok-left.was)
 
 pub returns : goal.returns
 unfolding charge_dependencies charges
-returns c = charged_all _ _ _ (counted c.requires.are).code_count_is c.loop-pc.invariant c.loop-pc-test.false
+returns c = charged_all (charges c.args.sheet.now) _ _ (counted c.requires.are).code_count_is c.loop-pc.invariant c.loop-pc-test.false

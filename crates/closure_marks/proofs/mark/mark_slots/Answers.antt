@@ -3,17 +3,14 @@
 use Rattle.closure_marks.proofs.Marks.{none_marked, one_marked, both_marked, lain_on}
 use Rattle.closure_marks.proofs.mark.mark_slots.Goals as goal
 
-pub returns-then-len-eq0 : goal.returns-then-len-eq0
-returns-then-len-eq0 c = none_marked c.args.candidates c.if-len-eq0.true
+pub returns-in-None : goal.returns-in-None
+returns-in-None c = rw c.in-None.is none_marked
 
-pub returns-then-len-eq1 : goal.returns-then-len-eq1
-returns-then-len-eq1 c =
-    one_marked c.args.candidates c.mark_slot-next.ensures c.if-len-eq1.true
+pub returns-in-One : goal.returns-in-One
+returns-in-One c = rw c.in-One.is (one_marked _ c.mark_slot.ensures)
 
-pub mark_slot-requires : goal.mark_slot-requires
-mark_slot-requires c =
-    lain_on c.mark_slot-next.ensures c.requires
+pub mark_slot-requires-in-Two : goal.mark_slot-requires-in-Two
+mark_slot-requires-in-Two c = lain_on c.mark_slot-next.ensures c.requires
 
-pub returns : goal.returns
-returns c =
-    both_marked c.args.candidates c.mark_slot-next.ensures c.if-len-eq0.false c.if-len-eq1.false c.mark_slot.ensures
+pub returns-in-Two : goal.returns-in-Two
+returns-in-Two c = rw c.in-Two.is (both_marked _ c.mark_slot-next.ensures _ c.mark_slot-in-Two.ensures)

@@ -1,12 +1,8 @@
 -- `closure_marks::seed_slots` meets its contract: the seeds of the instructions passed are marked.
 -- Assumes nothing.
-use Prim.Native.Nat.{◌-◌, ◌≤◌}
 use Rattle.model.specs.Closure.{mark_seeds}
 use Rattle.closure_marks.specs.Marks.{Goes}
 use Rattle.closure_marks.proofs.seeds.seed_slots.Given as goal
 
 abbrev pub invariant-loop-pc : goal.invariant-loop-pc
-invariant-loop-pc l = (l.pc ≤ l.n) × Goes (mark_seeds l.which l.sheet l.pc) l.initial.marks l.initial.stack l.initial.top l.marks l.stack l.top
-
-abbrev pub decreases-loop-pc : goal.decreases-loop-pc
-decreases-loop-pc l = l.n - l.pc
+invariant-loop-pc l = Goes (mark_seeds l.which l.sheet l.pc) l.initial.marks l.initial.stack l.initial.top l.marks l.stack l.top
