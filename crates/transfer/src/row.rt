@@ -11,23 +11,23 @@ ghost use Rattle.fact_row.specs.Rows.{ReadableRow, WritableRow};
 ghost use Rattle.transfer.specs.Analysis.{checks_index};
 
 use crate::rows::write_slots;
-use fact_row::{checked_cell, set_fact, wide};
+use fact_row::{TrackedRow, checked_cell, set_fact};
 use model::{AnalysisKind, FactCell, Instruction};
 use sheet::Sizes;
 use transfer_facts::effect_of;
 use transfer_written::slots_written;
 
-// "Opcodes (decimal)"
+// "Opcodes (decimal)": a number, since an instruction may hold any byte.
 const INDEX_CHECK: u8 = 121;
 
 // Whether the instruction sets a from its length: only IndexCheck does, and only in the index analysis.
+#[tactic(auto, unfolding(crate::specs::Analysis::checks_index))]
 fn checks_index(which: AnalysisKind, op: u8) -> bool
     ensures { result ≡ checks_index which op }
 {
     match which {
-        AnalysisKind::Constant => false,
         AnalysisKind::IndexCheck => op == INDEX_CHECK,
-        AnalysisKind::Container => false,
+        AnalysisKind::Constant | AnalysisKind::Container => false,
     }
 }
 
@@ -46,18 +46,14 @@ fn set_checked(
         (row : Row) → RowLies row out.entry → RowLies (index_checked (checks_index which inst.op) inst slots.now fact row) out.exit }
 {
     if checks_index(which, inst.op) {
-        set_fact(
-            slots,
-            wide(inst.a),
-            checked_cell(length_fact),
-            kinds,
-            values,
-        );
+        let checked = checked_cell(length_fact);
+        set_fact(slots, usize::from(inst.a), checked, kinds, values);
     }
 }
 
 // "A copy of that instruction's row goes through its transfer.": the row in kinds and values goes into out_kinds and out_values. "All reads
 // take the state before the instruction.", and length_fact is what the constant analysis knows of b before it; only the index analysis reads it.
+#[tactic(auto, using(sheet::proofs::AcceptedSheet::measured))]
 pub fn transfer_row(
     which: AnalysisKind,
     sheet: &[u8],
@@ -79,12 +75,15 @@ pub fn transfer_row(
         RowLies (transfer_row which sheet.now slots.now (λ p. fact_in length_fact) pc (facts_in old)) out.exit }
 {
     let inst = sheet_fields::instruction_at(sheet, pc);
-    let effect = effect_of(which, sheet, sizes, slots, kinds, values, pc, inst);
-    let written = slots_written(which, sheet, sizes, firsts, slots, kinds, values, pc, inst);
-    memory::copy_u8(kinds, out_kinds);
-    memory::copy_u64(values, out_values);
-    write_slots(
-        effect, written, sheet, sizes, slots, kinds, values, out_kinds, out_values,
-    );
+    let row = TrackedRow {
+        slots,
+        kinds,
+        values,
+    };
+    let effect = effect_of(which, sheet, sizes, &row, pc, inst);
+    let written = slots_written(which, sheet, sizes, firsts, &row, pc, inst);
+    out_kinds.copy_from_slice(kinds);
+    out_values.copy_from_slice(values);
+    write_slots(effect, written, sheet, sizes, &row, out_kinds, out_values);
     set_checked(which, inst, length_fact, slots, out_kinds, out_values);
 }

@@ -1,45 +1,54 @@
 -- The facts of constants: signed numbers by their bits, and folds.
 -- Assumes nothing.
-use mathlib.Core.Path.{◌≡◌, refl, ap}
+use mathlib.Core.Path.{◌≡◌, refl, sym, ap}
 use mathlib.Core.Logic.{◌≢◌}
-use mathlib.Core.Bool.{true}
+use mathlib.Core.Bool.{true, false, false≢true}
 use mathlib.Core.List.{List}
 use mathlib.Core.Option.{none, some}
-use Prim.Native.Nat.{ℕ, zero, suc, ◌+◌, ◌*◌, ◌%◌, ◌^◌, ◌≤◌, ◌<◌}
+use Prim.Native.Nat.{ℕ, zero, suc, ◌*◌, ◌%◌, ◌^◌, ◌≤◌, ◌<◌}
 use native.Mathlib.Omega.{arith}
-use lib.IntN.{negsuc}
+use lib.IntN.{ℤ, pos, negsuc}
+use lib.Signed.{mag, lt_z}
+use mir.Syntax.{w64}
+use mir.Val.{SFits, to_z, of_z}
+use mir.ValLaws.{to_z-of_z}
 use lib.Dec.{ltb}
-use borrow.Author.Tests.{lt-ltb, le-ltb, ne_eqb}
-use Rattle.model.specs.Fact.{Fact, unknown, known, kind, value}
+use borrow.Author.Tests.{ltb-true, lt-ltb, le-ltb, ne_eqb}
+use Rattle.model.specs.Fact.{Fact, unknown, known, kind, value, Row}
 use Rattle.model.specs.Sheet.{constant_count, constant_kind, constant_bits}
 use Rattle.model.specs.Successors.{signed}
 use Rattle.model.specs.Tables.{fact_of, fact_in, cell_of}
-use Rattle.model.specs.Transfer.{integer, u64_fact, fold_binary, shifted, shl, loaded, load_const}
+use Rattle.model.specs.Transfer.{fact_for, integer, u64_fact, fold_binary, fold, shifted, shl, loaded, load_const}
 use Rattle.model.specs.declared.FactCell.{FactCell}
+use Rattle.model.specs.declared.Instruction.{Instruction}
 use Rattle.sheet.specs.Measured.{Measured}
 use Rattle.sheet.specs.declared.Sizes.{Sizes}
 use Rattle.sheet.proofs.SizeNames.{counted}
-use Rattle.fact_row.proofs.Facts.{fact_cell}
+use Rattle.cfg.proofs.SignedOffsets.{read_signed}
+use Rattle.fact_row.proofs.Facts.{fact_cell, read}
 
--- ---- signed numbers
+-- ---- signed numbers, which pass from call to call as bits
 
-pub from_zero : (bits : ℕ) → bits < 9223372036854775808 → fact_cell 2 bits ≡ cell_of (integer (signed 64 bits))
-unfolding cell_of kind value integer signed
-from_zero bits h = rw (lt-ltb bits 9223372036854775808 h)
+below_zero : (z : ℤ) {v : ℕ} → v ≡ of_z w64 z → lt_z z (pos 0) ≡ true → fact_cell 3 v ≡ cell_of (integer z)
+unfolding cell_of kind value integer
+below_zero (pos n) e h = absurd (omega (arith, ltb-true n 0 h))
+below_zero (negsuc n) e h = ap (fact_cell 3) e
 
-pub negative : (bits : ℕ) → 9223372036854775808 ≤ bits → bits < 18446744073709551616 → fact_cell 3 bits ≡ cell_of (integer (signed 64 bits))
-unfolding cell_of kind value integer signed
-negative bits h l = rw (le-ltb bits 9223372036854775808 h) (ap (fact_cell 3) (omega arith))
+not_below : (z : ℤ) {v : ℕ} → v ≡ of_z w64 z → lt_z z (pos 0) ≡ false → fact_cell 2 v ≡ cell_of (integer z)
+unfolding cell_of kind value integer
+not_below (pos n) e h = ap (fact_cell 2) e
+not_below (negsuc n) e h = absurd (false≢true (sym h))
 
--- 32 bits of the lower half, and of the upper half with ones above them, are the same number at 64
-pub lower_half : (bits : ℕ) → bits < 2147483648 → signed 64 bits ≡ signed 32 bits
+module _ (z : ℤ) (f : SFits w64 z) {v : ℕ} (e : v ≡ of_z w64 (to_z w64 (of_z w64 z))) where
+  pub negative : lt_z (to_z w64 (of_z w64 z)) (pos 0) ≡ true → fact_cell 3 v ≡ cell_of (integer z)
+  negative h = below_zero z (rw (to_z-of_z w64 z f) at e) (rw (to_z-of_z w64 z f) at h)
+
+  pub from_zero : lt_z (to_z w64 (of_z w64 z)) (pos 0) ≡ false → fact_cell 2 v ≡ cell_of (integer z)
+  from_zero h = not_below z (rw (to_z-of_z w64 z f) at e) (rw (to_z-of_z w64 z f) at h)
+
+pub signed_bits : (bits : ℕ) (r : ℤ) → mag r < 9223372036854775808 → r ≡ to_z w64 bits → to_z w64 (of_z w64 r) ≡ signed 64 bits
 unfolding signed
-lower_half bits h = rw (lt-ltb bits 2147483648 h, lt-ltb bits 9223372036854775808 (omega arith))
-
-pub upper_half : (bits : ℕ) → 2147483648 ≤ bits → bits < 4294967296 → signed 64 (bits + 18446744069414584320) ≡ signed 32 bits
-unfolding signed
-upper_half bits h l =
-    rw (le-ltb bits 2147483648 h, le-ltb (bits + 18446744069414584320) 9223372036854775808 (omega arith)) (ap negsuc (omega arith))
+signed_bits bits r f e = read_signed w64 bits r f e
 
 -- ---- "Shl and Or fold only two facts from 0 to 2^64 − 1."
 
@@ -54,18 +63,24 @@ no_number (suc zero) v h = refl
 no_number (suc (suc zero)) v h = absurd (h refl)
 no_number (suc (suc (suc k))) v h = refl
 
-module _ (f : ℕ → ℕ → Fact) (x y : FactCell) where
-  pub first_other : x.kind ≢ 2 → unknown ≡ fold_binary f (u64_fact (fact_in x)) (u64_fact (fact_in y))
-  unfolding fold_binary fact_in
-  first_other h = rw (no_number x.kind x.value h)
+-- of the facts of b and c, by their cells
+module _ (f : ℕ → ℕ → Fact) (inst : Instruction) (slots : List ℕ) (row : Row) {b c : ℕ} (p : b ≡ inst.b) (q : c ≡ inst.c) {x y : FactCell}
+    (l : x ≡ cell_of (fact_for slots row b)) (r : y ≡ cell_of (fact_for slots row c)) where
+  by_cells : fold_binary f (u64_fact (fact_in x)) (u64_fact (fact_in y)) ≡ fold f inst slots row
+  unfolding fold
+  by_cells = rw (← p, ← q, read _ l, read _ r)
 
-  pub second_other : x.kind ≡ 2 → y.kind ≢ 2 → unknown ≡ fold_binary f (u64_fact (fact_in x)) (u64_fact (fact_in y))
+  pub first_other : x.kind ≢ 2 → unknown ≡ fold f inst slots row
   unfolding fold_binary fact_in
-  second_other e h = rw (number x.kind x.value e, no_number y.kind y.value h)
+  first_other h = rw (← by_cells, no_number x.kind x.value h)
 
-  pub folded : x.kind ≡ 2 → y.kind ≡ 2 → f x.value y.value ≡ fold_binary f (u64_fact (fact_in x)) (u64_fact (fact_in y))
+  pub second_other : x.kind ≡ 2 → y.kind ≢ 2 → unknown ≡ fold f inst slots row
   unfolding fold_binary fact_in
-  folded e h = rw (number x.kind x.value e, number y.kind y.value h)
+  second_other e h = rw (← by_cells, number x.kind x.value e, no_number y.kind y.value h)
+
+  pub both_numbers : x.kind ≡ 2 → y.kind ≡ 2 → {fact : Fact} → fact ≡ f x.value y.value → fact ≡ fold f inst slots row
+  unfolding fold_binary fact_in
+  both_numbers e h {fact} z = rw (← by_cells, number x.kind x.value e, number y.kind y.value h) z
 
 -- "a shift of 64 or more is Unknown"
 pub shifted_out : (x y : ℕ) → 64 ≤ y → unknown ≡ shl x y

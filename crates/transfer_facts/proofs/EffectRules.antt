@@ -2,17 +2,17 @@
 -- Assumes nothing.
 use mathlib.Core.Path.{◌≡◌, refl, sym, ap, subst, ◌∙◌}
 use mathlib.Core.Logic.{◌≢◌}
-use mathlib.Core.Bool.{Bool, true, false, cond, false≢true}
+use mathlib.Core.Bool.{Bool, true, false, cond, ◌&&◌, false≢true}
 use mathlib.Core.List.{List}
 use Prim.Native.Nat.{ℕ, ◌+◌, ◌-◌}
 use native.Mathlib.Omega.{arith}
-use lib.Dec.{eqb}
-use borrow.Author.Tests.{lt-ltb, le-leb, eq-eqb, ne_eqb, eqb-true, eqb-false}
+use lib.Dec.{leb, ltb, eqb}
+use borrow.Author.Tests.{ltb-true, ltb-false, lt-ltb, le-ltb, le-leb, lt-leb, eq-eqb, ne_eqb, eqb-true, eqb-false}
 use Rattle.model.specs.Fact.{Fact, unknown, Row}
 use Rattle.model.specs.Opcode.{select}
 use Rattle.model.specs.Sheet.{instruction}
 use Rattle.model.specs.Tables.{cell_of}
-use Rattle.model.specs.Transfer.{fact_for, target, copied, copied_n, ConstantRule, load_int_rule, load_const_rule, copy_constant_rule, copy_n_constant_rule, shl_rule, or_rule, other_constant_rule, constant_rule, constant_fact, IndexRule, copy_index_rule, copy_n_index_rule, other_index_rule, index_rule, index_fact, iter_next, ContainerRule, new_rule, iter_init_rule, iter_next_rule, copy_container_rule, copy_n_container_rule, other_container_rule, container_rule, container_fact}
+use Rattle.model.specs.Transfer.{fact_for, target, copied, copied_n, instruction_fact, or_unknown, ConstantRule, load_int_rule, load_const_rule, copy_constant_rule, copy_n_constant_rule, shl_rule, or_rule, other_constant_rule, constant_rule, constant_fact, IndexRule, copy_index_rule, copy_n_index_rule, other_index_rule, index_rule, index_fact, iter_next, ContainerRule, new_rule, iter_init_rule, iter_next_rule, copy_container_rule, copy_n_container_rule, other_container_rule, container_rule, container_fact}
 use Rattle.model.specs.Written.{in_range}
 use Rattle.model.specs.declared.FactCell.{FactCell}
 use Rattle.model.specs.declared.Instruction.{Instruction}
@@ -23,23 +23,47 @@ use Rattle.fact_row.proofs.TargetCell.{targeted, untargeted}
 use Rattle.transfer_facts.specs.Effect.{effect_cell, fact_written, iterates, effect_by, effect_of}
 use Rattle.transfer_facts.specs.declared.Effect.{Effect}
 use Rattle.transfer_facts.specs.declared.Effect.TheVariants.{Filled, Copied}
-use Rattle.transfer_facts.proofs.SlotEffects.{one_slot}
+use Rattle.fact_row.proofs.NoteFacts.{no_container}
 
--- ---- index checks
+-- ---- containers
 
-module _ (inst : Instruction) (slots : List ℕ) (row : Row) (slot : ℕ) where
-  abbrev index : Fact
-  index = index_fact (index_rule inst.op) inst slots row slot
+-- of an opcode with no rule of its own the note gives the fact, or none
+module _ (sheet : List ℕ) (pc : ℕ) (inst : Instruction) (is : inst ≡ instruction sheet pc) (slots : List ℕ) (row : Row) (slot : ℕ) where
+  abbrev container : Fact
+  container = container_fact (container_rule inst.op) sheet pc slots row slot
 
-  pub copies_index : inst.op ≡ 3 → {r : FactCell} → r ≡ cell_of (fact_for slots row inst.b) → target_cell (eqb inst.a slot) r ≡ cell_of index
-  unfolding index_rule select index_fact copied
-  copies_index h e = rw h (targeted (eqb inst.a slot) _ e)
-
-  pub no_index : inst.op ≢ 3 → inst.op ≢ 4 → {r : FactCell} → r ≡ cell_of unknown → target_cell (eqb inst.a slot) r ≡ cell_of index
-  unfolding index_rule select index_fact
-  no_index n3 n4 e = rw (ne_eqb inst.op 3 n3, ne_eqb inst.op 4 n4) (untargeted (eqb inst.a slot) e)
+  pub by_note : inst.op ≢ 3 → inst.op ≢ 94 → inst.op ≢ 95 → inst.op ≢ 4 → {r : FactCell} → r ≡ cell_of (or_unknown (instruction_fact sheet pc)) → target_cell (eqb inst.a slot) r ≡ cell_of container
+  unfolding container_rule select container_fact or_unknown
+  by_note n3 n94 n95 n4 {r} e = go (eqb inst.op 89) refl (eqb inst.op 96) refl
+    where
+      go : (m : Bool) → eqb inst.op 89 ≡ m → (q : Bool) → eqb inst.op 96 ≡ q → target_cell (eqb inst.a slot) r ≡ cell_of container
+      go true p q u = rw (eqb-true inst.op 89 p, ← is) (targeted (eqb inst.a slot) _ e)
+      go false p true u = rw (eqb-true inst.op 96 u, ← is) (targeted (eqb inst.a slot) _ e)
+      go false p false u =
+          rw (p, u, ne_eqb inst.op 94 n94, ne_eqb inst.op 95 n95, ne_eqb inst.op 3 n3, ne_eqb inst.op 4 n4)
+          (untargeted (eqb inst.a slot) (e ∙ ap cell_of (no_container sheet pc (ap (λ (x : Instruction). x.op) is) (eqb-false inst.op 89 p) (eqb-false inst.op 96 u))))
 
 -- ---- a fact that is found at one slot of those that get it
+
+-- a range of one slot
+pub one_slot : (slot a : ℕ) → in_range slot a 1 ≡ eqb a slot
+unfolding in_range
+one_slot slot a = go (ltb slot a) refl (ltb a slot) refl
+  where
+    go : (t : Bool) → ltb slot a ≡ t → (u : Bool) → ltb a slot ≡ u → (leb a slot && ltb slot (a + 1)) ≡ eqb a slot
+    go true p u q = rw (lt-leb a slot (ltb-true slot a p), ne_eqb a slot (λ e. omega (arith, ltb-true slot a p)))
+    go false p true q =
+        rw (
+          le-leb a slot (ltb-false slot a p),
+          le-ltb slot (a + 1) (omega (arith, ltb-true a slot q)),
+          ne_eqb a slot (λ e. omega (arith, ltb-true a slot q)),
+        )
+    go false p false q =
+        rw (
+          le-leb a slot (ltb-false slot a p),
+          lt-ltb slot (a + 1) (omega (arith, ltb-false a slot q)),
+          eq-eqb a slot (omega (arith, ltb-false slot a p, ltb-false a slot q)),
+        )
 
 -- the range of seven slots holds its first
 first_of_seven : (b : ℕ) → in_range b b 7 ≡ true

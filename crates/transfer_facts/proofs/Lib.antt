@@ -1,9 +1,6 @@
--- The laws of this crate.
+-- Unknown in the target
+pub mod Targets
+-- The facts of constants
 pub mod ConstantFacts
-pub mod ConstantRules
--- The laws of this crate.
-pub mod IteratorFacts
-pub mod ContainerRules
--- The laws of this crate.
-pub mod SlotEffects
+-- What the slots that an instruction writes become
 pub mod EffectRules

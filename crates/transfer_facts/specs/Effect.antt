@@ -1,6 +1,6 @@
 -- What the slots that an instruction writes become, in each analysis.
 -- Assumes nothing.
-use Rattle.std.specs.Prelude.{Bool, true, false, List, ℕ, ◌+◌, ◌-◌, eqb}
+use Rattle.std.specs.Prelude.{Bool, true, false, List, ℕ, ◌+◌, ◌-◌, eqb, Option as Choice, Some, None}
 use Rattle.model.specs.Fact.{Fact, Row}
 use Rattle.model.specs.Opcode.{CopyN, MapIterNext}
 use Rattle.model.specs.Sheet.{instruction}
@@ -13,6 +13,11 @@ use Rattle.model.specs.declared.AnalysisKind.TheVariants.{Constant, IndexCheck, 
 use Rattle.fact_row.specs.Target.{target_cell}
 use Rattle.transfer_facts.specs.declared.Effect.{Effect}
 use Rattle.transfer_facts.specs.declared.Effect.TheVariants.{Filled, Copied}
+
+-- how far a slot lies from the start, where it is in the range
+unfoldable pub offset_found : Bool → ℕ → Choice ℕ
+offset_found true offset = Some offset
+offset_found false offset = None
 
 -- the cell that a slot gets: the effect's own, or that of the slot as far from `from` as it is from the start
 unfoldable pub effect_cell : Effect → List ℕ → Row → ℕ → FactCell

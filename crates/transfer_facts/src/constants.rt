@@ -1,127 +1,100 @@
 // What the constant analysis knows of a slot that an instruction writes.
-ghost use Rattle.std.specs.Prelude.{◌≡◌, ℕ, ◌+◌, ◌*◌, ◌<◌, eqb};
-ghost use Rattle.model.specs.Successors.{signed, imm32};
-ghost use Rattle.model.specs.Tables.{fact_in, cell_of, facts_of};
-ghost use Rattle.model.specs.Transfer.{integer, load_const, fold_binary, u64_fact, shl, or, constant_rule, constant_fact};
+ghost use Rattle.std.specs.Prelude.{◌≡◌, ℕ, ◌+◌, ◌*◌, ◌<◌, eqb, Option as Choice};
+ghost use Rattle.model.specs.Fact.{Fact};
+ghost use Rattle.model.specs.Successors.{imm32};
+ghost use Rattle.model.specs.Tables.{fact_in, cell_of};
+ghost use Rattle.model.specs.Transfer.{fact_for, integer, load_const, fold, shl, or, constant_rule, constant_fact};
 ghost use Rattle.sheet.specs.Measured.{Measured};
 ghost use Rattle.fact_row.specs.Target.{target_cell};
-ghost use Rattle.fact_row.specs.Rows.{ReadableRow};
+ghost use Rattle.fact_row.specs.Tracked.{facts_read};
+ghost use Rattle.transfer_facts.specs.Folds.{folded};
 
 use crate::{COPY, LOAD_CONST, LOAD_INT, OR, SHL};
-use fact_row::{fact_for_tracked_source, unknown_cell, wide};
+use cfg::imm32;
+use fact_row::TrackedRow;
 use model::{FactCell, Instruction};
 use sheet::Sizes;
 
-// "Constants: 2 known from zero up, 3 negative, value plus 2^64.": the fact of a number, by its 64 bits
-fn integer_cell(bits: u64) -> FactCell
-    ensures { result ≡ cell_of (integer (signed 64 bits)) }
-{
-    if bits < 9223372036854775808 {
-        return FactCell {
-            kind: 2,
-            value: bits,
-        };
-    }
-    FactCell {
-        kind: 3,
-        value: bits,
-    }
-}
+// "constant kinds (k bytes: 0 other, 1 integer)": numbers, since a sheet may hold any byte
+const INTEGER: u8 = 1;
 
-// The 64 bits of imm32, its sign in the upper half.
-fn imm32_bits(inst: Instruction) -> u64
-    ensures { signed 64 result ≡ imm32 inst }
+// "Constants: 2 known from zero up, 3 negative, value plus 2^64.": the fact of a number
+fn integer_cell(number: i64) -> FactCell
+    ensures { result ≡ cell_of (integer number) }
 {
-    let bits = inst.b as u64 + 65536 * inst.c as u64;
-    if bits < 2147483648 {
-        return bits;
+    let value = number.cast_unsigned();
+    if number < 0 {
+        FactCell { kind: 3, value }
+    } else {
+        FactCell { kind: 2, value }
     }
-    bits + 18446744069414584320
 }
 
 // LoadConst of an integer constant; any other, and a number from k up, is Unknown.
+#[tactic(auto, unfolding(model::specs::Fact::kind, model::specs::Fact::value, model::specs::Tables::cell_of, model::specs::Transfer::load_const, model::specs::Transfer::loaded))]
 fn load_const_cell(sheet: &[u8], sizes: Sizes, i: usize) -> FactCell
     requires { Measured sheet.now sizes }
     ensures { result ≡ cell_of (load_const sheet.now i) }
 {
-    if sizes.constant_count <= i {
-        return unknown_cell();
-    }
-    if sheet_fields::constant_kind_at(sheet, sizes, i) != 1 {
-        return unknown_cell();
-    }
-    integer_cell(sheet_fields::constant_bits_at(sheet, sizes, i))
-}
-
-// Shl of two facts "from 0 to 2^64 − 1"; a shift by 64 or more is Unknown.
-fn shl_cell(x: FactCell, y: FactCell) -> FactCell
-    ensures { result ≡ cell_of (fold_binary shl (u64_fact (fact_in x)) (u64_fact (fact_in y))) }
-{
-    if x.kind != 2 {
-        return unknown_cell();
-    }
-    if y.kind != 2 {
-        return unknown_cell();
-    }
-    if 64 <= y.value {
-        return unknown_cell();
-    }
-    FactCell {
-        kind: 2,
-        value: x.value << y.value,
+    if i < sizes.constant_count && sheet_fields::constant_kind_at(sheet, sizes, i) == INTEGER {
+        integer_cell(sheet_fields::constant_bits_at(sheet, sizes, i).cast_signed())
+    } else {
+        FactCell::UNKNOWN
     }
 }
 
-// Or of two facts "from 0 to 2^64 − 1".
-fn or_cell(left: FactCell, right: FactCell) -> FactCell
-    ensures { result ≡ cell_of (fold_binary or (u64_fact (fact_in left)) (u64_fact (fact_in right))) }
+// `fold_u64_constant_binary`: what an operation makes of the facts of b and c. "Shl and Or fold only two facts from 0 to 2^64 − 1."
+fn fold_u64_constant_binary<F: FnOnce(u64, u64) -> Option<u64>>(
+    row: &TrackedRow,
+    inst: Instruction,
+    operation: F,
+) -> FactCell
+    requires { F.IsAlwaysCallable operation }
+    ensures { (f : ℕ → ℕ → Fact)
+        → ((x y : ℕ) (r : Choice ℕ) → F.post operation x y r → folded r ≡ f x y)
+        → result ≡ cell_of (fold f inst row.now.slots.now (facts_read row.now)) }
 {
-    if left.kind != 2 {
-        return unknown_cell();
-    }
-    if right.kind != 2 {
-        return unknown_cell();
-    }
-    FactCell {
-        kind: 2,
-        value: left.value | right.value,
+    let left = row.fact_for_tracked_source(usize::from(inst.b));
+    let right = row.fact_for_tracked_source(usize::from(inst.c));
+    match (left.kind, right.kind) {
+        (2, 2) => match operation(left.value, right.value) {
+            Some(value) => FactCell { kind: 2, value },
+            None => FactCell::UNKNOWN,
+        },
+        _ => FactCell::UNKNOWN,
     }
 }
 
 // `constant_fact_written_to_slot`: what a becomes, of an instruction that is no CopyN; any other slot that it writes becomes Unknown.
+#[tactic(auto, using(fact_row::proofs::TargetCell::targeted, crate::proofs::Targets::unknown_everywhere), unfolding(model::specs::Opcode::select, model::specs::Transfer::constant_rule, model::specs::Transfer::constant_fact, model::specs::Transfer::copied))]
 pub fn constant_fact_written_to_slot(
     sheet: &[u8],
     sizes: Sizes,
-    slots: &[u16],
-    kinds: &[u8],
-    values: &[u64],
+    row: &TrackedRow,
     inst: Instruction,
 ) -> FactCell
-    requires { Measured sheet.now sizes × ReadableRow slots.now kinds.now values.now × (inst.op ≡ 4 → ⊥) }
+    requires { Measured sheet.now sizes × (inst.op ≡ 4 → ⊥) }
     ensures { ((slot : ℕ) → target_cell (eqb inst.a slot) result
-        ≡ cell_of (constant_fact (constant_rule inst.op) sheet.now inst slots.now (facts_of kinds.now values.now) slot)) }
+        ≡ cell_of (constant_fact (constant_rule inst.op) sheet.now inst row.now.slots.now (facts_read row.now) slot)) }
 {
-    let op = inst.op;
-    if op == LOAD_INT {
-        return integer_cell(imm32_bits(inst));
+    match inst.op {
+        LOAD_INT => integer_cell(i64::from(imm32(inst))),
+        LOAD_CONST => load_const_cell(sheet, sizes, usize::from(inst.b)),
+        COPY => row.fact_for_tracked_source(usize::from(inst.b)),
+        SHL => fold_u64_constant_binary(
+            row,
+            inst,
+            |x, y|
+                ensures { folded result ≡ shl x y }
+            { if y < 64 { Some(x << y) } else { None } },
+        ),
+        OR => fold_u64_constant_binary(
+            row,
+            inst,
+            |x, y|
+                ensures { folded result ≡ or x y }
+            { Some(x | y) },
+        ),
+        _ => FactCell::UNKNOWN,
     }
-    if op == LOAD_CONST {
-        return load_const_cell(sheet, sizes, wide(inst.b));
-    }
-    if op == COPY {
-        return fact_for_tracked_source(slots, kinds, values, wide(inst.b));
-    }
-    if op == SHL {
-        return shl_cell(
-            fact_for_tracked_source(slots, kinds, values, wide(inst.b)),
-            fact_for_tracked_source(slots, kinds, values, wide(inst.c)),
-        );
-    }
-    if op == OR {
-        return or_cell(
-            fact_for_tracked_source(slots, kinds, values, wide(inst.b)),
-            fact_for_tracked_source(slots, kinds, values, wide(inst.c)),
-        );
-    }
-    unknown_cell()
 }

@@ -1,21 +1,21 @@
 // What the slots that an instruction writes become.
-ghost use Rattle.std.specs.Prelude.{◌≡◌, ◌+◌, ◌<◌};
+ghost use Rattle.std.specs.Prelude.{◌≡◌, ◌+◌, ◌-◌, ◌<◌};
 ghost use Rattle.model.specs.Sheet.{instruction};
-ghost use Rattle.model.specs.Tables.{facts_of};
+ghost use Rattle.model.specs.Written.{in_range};
 ghost use Rattle.model.specs.declared.AnalysisKind.TheVariants.{Container};
 ghost use Rattle.sheet.specs.Measured.{Measured};
-ghost use Rattle.transfer_facts.specs.Effect.{effect_cell, effect_of};
-ghost use Rattle.fact_row.specs.Rows.{ReadableRow};
+ghost use Rattle.fact_row.specs.Tracked.{facts_read};
+ghost use Rattle.transfer_facts.specs.Effect.{effect_cell, effect_of, offset_found};
 
 use crate::Effect;
 use crate::constants::constant_fact_written_to_slot;
 use crate::containers::{container_fact_written_to_slot, iter_next_cell};
 use crate::index::index_check_fact_written_to_slot;
-use fact_row::{fact_for_tracked_source, unknown_cell, wide};
+use fact_row::TrackedRow;
 use model::{AnalysisKind, FactCell, Instruction};
 use sheet::Sizes;
 
-// "Opcodes (decimal)"
+// "Opcodes (decimal)": numbers, since an instruction may hold any byte.
 const COPY_N: u8 = 4;
 
 const MAP_ITER_NEXT: u8 = 95;
@@ -24,28 +24,25 @@ const MAP_ITER_NEXT: u8 = 95;
 fn container_effect(
     sheet: &[u8],
     sizes: Sizes,
-    slots: &[u16],
-    kinds: &[u8],
-    values: &[u64],
+    row: &TrackedRow,
     pc: usize,
     inst: Instruction,
 ) -> Effect
-    requires measured { Measured sheet.now sizes × ReadableRow slots.now kinds.now values.now × (pc < sizes.code_count) × (inst ≡ instruction sheet.now pc) }
+    requires measured { Measured sheet.now sizes × (pc < sizes.code_count) × (inst ≡ instruction sheet.now pc) }
     requires other_opcode { inst.op ≡ 4 → ⊥ }
-    ensures { result ≡ effect_of Container sheet.now pc slots.now (facts_of kinds.now values.now) }
+    ensures { result ≡ effect_of Container sheet.now pc row.now.slots.now (facts_read row.now) }
 {
-    if inst.op == MAP_ITER_NEXT {
-        let before = fact_for_tracked_source(slots, kinds, values, wide(inst.b));
-        return Effect::Filled {
+    match inst.op {
+        MAP_ITER_NEXT => Effect::Filled {
             start: inst.b,
             count: 7,
-            cell: iter_next_cell(before),
-        };
-    }
-    Effect::Filled {
-        start: inst.a,
-        count: 1,
-        cell: container_fact_written_to_slot(sheet, sizes, slots, kinds, values, pc, inst),
+            cell: iter_next_cell(row.fact_for_tracked_source(usize::from(inst.b))),
+        },
+        _ => Effect::Filled {
+            start: inst.a,
+            count: 1,
+            cell: container_fact_written_to_slot(sheet, sizes, row, pc, inst),
+        },
     }
 }
 
@@ -54,14 +51,12 @@ pub fn effect_of(
     which: AnalysisKind,
     sheet: &[u8],
     sizes: Sizes,
-    slots: &[u16],
-    kinds: &[u8],
-    values: &[u64],
+    row: &TrackedRow,
     pc: usize,
     inst: Instruction,
 ) -> Effect
-    requires { Measured sheet.now sizes × ReadableRow slots.now kinds.now values.now × (pc < sizes.code_count) × (inst ≡ instruction sheet.now pc) }
-    ensures { result ≡ effect_of which sheet.now pc slots.now (facts_of kinds.now values.now) }
+    requires { Measured sheet.now sizes × (pc < sizes.code_count) × (inst ≡ instruction sheet.now pc) }
+    ensures { result ≡ effect_of which sheet.now pc row.now.slots.now (facts_read row.now) }
 {
     if inst.op == COPY_N {
         return Effect::Copied {
@@ -74,56 +69,38 @@ pub fn effect_of(
         AnalysisKind::Constant => Effect::Filled {
             start: inst.a,
             count: 1,
-            cell: constant_fact_written_to_slot(sheet, sizes, slots, kinds, values, inst),
+            cell: constant_fact_written_to_slot(sheet, sizes, row, inst),
         },
         AnalysisKind::IndexCheck => Effect::Filled {
             start: inst.a,
             count: 1,
-            cell: index_check_fact_written_to_slot(slots, kinds, values, inst),
+            cell: index_check_fact_written_to_slot(row, inst),
         },
-        AnalysisKind::Container => {
-            container_effect(sheet, sizes, slots, kinds, values, pc, inst)
-        }
+        AnalysisKind::Container => { container_effect(sheet, sizes, row, pc, inst) }
     }
 }
 
-// CopyN's source: a number past 65,535 is no slot, and does not wrap to one.
-fn source_slot(from: u16, offset: u16) -> usize
-    ensures { result ≡ from + offset }
+// How far the slot lies from the start, if it is in the range.
+#[tactic(auto, using(transfer_written::proofs::RangeTests::starts_before, transfer_written::proofs::RangeTests::from_start), unfolding(crate::specs::Effect::offset_found))]
+fn offset_in(slot: u16, start: u16, count: u16) -> Option<u16>
+    ensures { result ≡ offset_found (in_range slot start count) (slot - start) }
 {
-    wide(from) + wide(offset)
+    slot.checked_sub(start).filter(|offset| *offset < count)
 }
 
-// What one slot becomes where the instruction writes it, from the row before.
-pub fn effect_on_slot(
-    effect: Effect,
-    slots: &[u16],
-    kinds: &[u8],
-    values: &[u64],
-    slot: u16,
-) -> FactCell
-    requires { ReadableRow slots.now kinds.now values.now }
-    ensures { result ≡ effect_cell effect slots.now (facts_of kinds.now values.now) slot }
+// What one slot becomes where the instruction writes it, from the row before. CopyN's source past 65,535 is no slot, and does not wrap to one.
+#[tactic(auto, unfolding(model::specs::Fact::kind, model::specs::Fact::value, model::specs::Tables::cell_of, crate::specs::Effect::effect_cell, crate::specs::Effect::offset_found, fact_row::specs::Target::target_cell))]
+pub fn effect_on_slot(effect: Effect, row: &TrackedRow, slot: u16) -> FactCell
+    ensures { result ≡ effect_cell effect row.now.slots.now (facts_read row.now) slot }
 {
     match effect {
-        Effect::Filled { start, count, cell } => {
-            if slot < start {
-                return unknown_cell();
-            }
-            if count <= slot - start {
-                return unknown_cell();
-            }
-            cell
-        }
-        Effect::Copied { start, count, from } => {
-            if slot < start {
-                return unknown_cell();
-            }
-            let offset = slot - start;
-            if count <= offset {
-                return unknown_cell();
-            }
-            fact_for_tracked_source(slots, kinds, values, source_slot(from, offset))
-        }
+        Effect::Filled { start, count, cell } => match offset_in(slot, start, count) {
+            Some(_) => cell,
+            None => FactCell::UNKNOWN,
+        },
+        Effect::Copied { start, count, from } => match offset_in(slot, start, count) {
+            Some(offset) => { row.fact_for_tracked_source(usize::from(from) + usize::from(offset)) }
+            None => FactCell::UNKNOWN,
+        },
     }
 }

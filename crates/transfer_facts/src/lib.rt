@@ -1,6 +1,4 @@
-// What the constant analysis knows of a slot that an instruction writes.
-// What the container analysis knows of a slot that an instruction writes.
-// "Transfers": what the slots that an instruction writes become.
+// "Transfers": what the slots that an instruction writes become, in each analysis. A fact's kind is a number, as it lies in the lent tables.
 #![tactic(auto)]
 
 mod constants;
@@ -13,7 +11,7 @@ pub use containers::{container_fact_written_to_slot, iter_next_cell};
 pub use effects::{effect_of, effect_on_slot};
 use model::FactCell;
 
-// "Opcodes (decimal)"
+// "Opcodes (decimal)": numbers, since an instruction may hold any byte.
 const LOAD_INT: u8 = 1;
 
 const LOAD_CONST: u8 = 2;

@@ -2,8 +2,6 @@
 pub mod RangeTests
 -- and in one of the written ones
 pub mod RangeLoop
--- The elements of SlotSetN, by its note
-pub mod NoteElements
 -- What an instruction writes, by its opcode
 pub mod Spans
 -- They are the slots that `model` says

@@ -10,35 +10,10 @@ use native.Mathlib.Numerals.{add-one}
 use native.Mathlib.Omega.{arith}
 use Rattle.model.specs.Sheet.{range_start, range_length}
 use Rattle.model.specs.Written.{in_range, in_ranges}
-use Rattle.transfer_written.specs.Ranges.{holds_slot, slot_range_count, slot_range, ranges_end}
+use Rattle.transfer_written.specs.Ranges.{holds_slot, slot_range_count, slot_range}
 use Rattle.transfer_written.specs.declared.SlotRange.{SlotRange}
 use Rattle.transfer_written.specs.declared.Written.{Written}
 use Rattle.transfer_written.specs.declared.Written.TheVariants.{Span, Ranges}
-
--- ---- one of them
-
-module _ {written : Written} where
-  pub span_count : {start count : ℕ} → written ≡ Span start count → 1 ≡ slot_range_count written
-  unfolding slot_range_count
-  span_count e = rw e
-
-  pub ranges_count : {first count : ℕ} → written ≡ Ranges first count → count ≡ slot_range_count written
-  unfolding slot_range_count
-  ranges_count e = rw e
-
-  pub span_range : (sheet : List ℕ) (i : ℕ) {start count : ℕ} → written ≡ Span start count → record { start = start; count = count } ≡ slot_range written sheet i
-  unfolding slot_range
-  span_range sheet i e = rw e
-
-  module _ {first count : ℕ} (e : written ≡ Ranges first count) where
-    pub range_inside : {i bound : ℕ} → ranges_end written ≤ bound → i < slot_range_count written → first + i < bound
-    unfolding ranges_end slot_range_count
-    range_inside {i} {bound} h l = omega (arith, rw e at h, rw e at l)
-
-    pub sheet_range : (sheet : List ℕ) (i : ℕ) {start len : ℕ} → start ≡ range_start sheet (first + i) → len ≡ range_length sheet (first + i)
-        → record { start = start; count = len } ≡ slot_range written sheet i
-    unfolding slot_range
-    sheet_range sheet i s l = rw (e, s, l)
 
 -- ---- the first i of them
 

@@ -56,7 +56,7 @@ module _ {sheet : List ℕ} {sizes : Sizes} (a : Accepted sheet sizes) (pc : ℕ
   spans_by_lem slot_set_n = elements_are sheet sizes pc (has_elements (slot_layout_note sheet pc) sheet pc)
   spans_by_lem by_ranges = ranges_are (erred sheet pc) refl
 
-  pub spans_are : SlotsAre (spans sheet pc) sheet sizes (written sheet pc)
+  spans_are : SlotsAre (spans sheet pc) sheet sizes (written sheet pc)
   unfolding spans written
   spans_are = spans_by_lem (writes (instruction sheet pc).op)
 
@@ -82,3 +82,14 @@ module _ {sheet : List ℕ} {sizes : Sizes} (a : Accepted sheet sizes) (pc : ℕ
   written_are Constant slots row = spans_are
   written_are IndexCheck slots row = index_spans_are (fact_for slots row (instruction sheet pc).b)
   written_are Container slots row = spans_are
+
+-- no Checked b, as in the other analyses
+unchecked_by : (w : Writes) (sheet : List ℕ) (pc slot : ℕ) → index_written_by w unknown sheet pc slot ≡ written sheet pc slot
+unfolding index_written_by
+unchecked_by slot_set sheet pc slot = refl
+unchecked_by slot_set_n sheet pc slot = refl
+unchecked_by by_ranges sheet pc slot = refl
+
+pub unchecked : (sheet : List ℕ) (pc slot : ℕ) → index_written sheet pc unknown slot ≡ written sheet pc slot
+unfolding index_written
+unchecked sheet pc slot = unchecked_by (writes (instruction sheet pc).op) sheet pc slot

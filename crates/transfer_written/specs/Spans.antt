@@ -50,6 +50,12 @@ elements_fact slot_set before = before
 elements_fact slot_set_n before = before
 elements_fact by_ranges before = unknown
 
+-- "In the index analysis" alone
+unfoldable pub elements_in : AnalysisKind → Fact → Fact
+elements_in Constant before = unknown
+elements_in IndexCheck before = before
+elements_in Container before = unknown
+
 -- in one of the analyses
 unfoldable pub slots_written : AnalysisKind → List ℕ → ℕ → List ℕ → Row → Written
 slots_written Constant sheet pc slots row = spans sheet pc

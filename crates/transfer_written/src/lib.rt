@@ -2,13 +2,11 @@
 #![tactic(auto)]
 
 mod elements;
-mod index;
 mod ranges;
 mod slots;
 
-pub use index::{index_check_instruction_writes_slot, slots_written};
 pub use ranges::{range_count, range_of};
-pub use slots::instruction_writes_slot;
+pub use slots::{index_check_instruction_writes_slot, instruction_writes_slot, slots_written};
 
 // The slots that an instruction writes: those of one range, or of count ranges of the sheet from the range first on.
 #[derive(Clone, Copy)]
@@ -23,8 +21,3 @@ pub struct SlotRange {
     pub start: u16,
     pub count: u64,
 }
-
-// "Opcodes (decimal)": the two that go by their own rule.
-const SLOT_SET: u8 = 6;
-
-const SLOT_SET_N: u8 = 8;

@@ -5,7 +5,7 @@ use Rattle.transfer.proofs.row.set_checked.Goals as goal
 pub returns-then-checks_index : goal.returns-then-checks_index
 returns-then-checks_index c row l =
     index_checked_lem c.args.inst c.args.slots.now _ row l c.checks_index.ensures c.if-checks_index.true c.requires
-    c.wide.ensures.0 c.checked_cell.ensures c.set_fact.ensures.0 c.set_fact.ensures.1
+    c.from.ensures c.checked_cell-checked.ensures c.set_fact.ensures.0 c.set_fact.ensures.1
 
 pub returns-else-checks_index : goal.returns-else-checks_index
 returns-else-checks_index c row l =

@@ -1,23 +1,16 @@
 -- `transfer_facts::effects::effect_of` meets its contract: CopyN by one law, any other by its analysis. Assumes nothing.
-use mathlib.Core.Path.{sym, ap, ◌∙◌}
-use Rattle.model.specs.Tables.{facts_of}
-use Rattle.model.specs.declared.AnalysisKind.{AnalysisKind}
-use Rattle.transfer_facts.specs.Effect.{effect_of}
 use Rattle.transfer_facts.proofs.EffectRules.{copies_n, constant_effect, index_effect}
+use Rattle.fact_row.specs.Tracked.{facts_read}
 use Rattle.transfer_facts.proofs.effects.effect_of.Goals as goal
 
 pub returns-then-inst-eq-COPY_N : goal.returns-then-inst-eq-COPY_N
 returns-then-inst-eq-COPY_N c =
-    copies_n c.args.sheet.now c.args.pc c.args.slots.now (facts_of c.args.kinds.now c.args.values.now) c.args.inst c.requires.3 c.args.which c.if-inst-eq-COPY_N.true
+    copies_n c.args.sheet.now c.args.pc c.args.row.now.slots.now (facts_read c.args.row.now) c.args.inst c.requires.2 c.args.which c.if-inst-eq-COPY_N.true
 
 pub returns-in-Constant : goal.returns-in-Constant
 returns-in-Constant c =
-    constant_effect c.args.sheet.now c.args.pc c.args.slots.now (facts_of c.args.kinds.now c.args.values.now) c.args.inst c.requires.3 c.in-Constant.is c.if-inst-eq-COPY_N.false c.constant_fact_written_to_slot.ensures
+    constant_effect c.args.sheet.now c.args.pc c.args.row.now.slots.now (facts_read c.args.row.now) c.args.inst c.requires.2 c.in-Constant.is c.if-inst-eq-COPY_N.false c.constant_fact_written_to_slot.ensures
 
 pub returns-in-IndexCheck : goal.returns-in-IndexCheck
 returns-in-IndexCheck c =
-    index_effect c.args.sheet.now c.args.pc c.args.slots.now (facts_of c.args.kinds.now c.args.values.now) c.args.inst c.requires.3 c.in-IndexCheck.is c.if-inst-eq-COPY_N.false c.index_check_fact_written_to_slot.ensures
-
-pub returns-in-Container : goal.returns-in-Container
-returns-in-Container c =
-    c.container_effect.ensures ∙ ap (λ (which : AnalysisKind). effect_of which c.args.sheet.now c.args.pc c.args.slots.now (facts_of c.args.kinds.now c.args.values.now)) (sym c.in-Container.is)
+    index_effect c.args.sheet.now c.args.pc c.args.row.now.slots.now (facts_read c.args.row.now) c.args.inst c.requires.2 c.in-IndexCheck.is c.if-inst-eq-COPY_N.false c.index_check_fact_written_to_slot.ensures

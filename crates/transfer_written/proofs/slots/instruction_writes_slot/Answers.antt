@@ -1,14 +1,9 @@
--- `transfer_written::slots::instruction_writes_slot` meets its contract: the slots that are found are those that are written. Assumes nothing.
+-- `transfer_written::slots::instruction_writes_slot` meets its contract: Unknown is no Checked b. Assumes nothing.
 use mathlib.Core.Path.{◌∙◌}
-use native.Mathlib.Omega.{arith}
-use Rattle.sheet.proofs.AcceptedSheet.{measured}
-use Rattle.transfer_written.proofs.WrittenSlots.{spans_are}
+use Rattle.model.specs.Tables.{fact_in, fact_of}
+use Rattle.transfer_written.proofs.WrittenSlots.{unchecked}
 use Rattle.transfer_written.proofs.slots.instruction_writes_slot.Goals as goal
 
-pub holds-requires : goal.holds-requires
-holds-requires c =
-    (measured c.requires.accepted.0, rw c.instruction_writes-found.ensures (spans_are c.requires.accepted.0 c.args.pc c.requires.accepted.2).fits)
-
 pub returns : goal.returns
-returns c =
-    c.holds.ensures ∙ rw c.instruction_writes-found.ensures ((spans_are c.requires.accepted.0 c.args.pc c.requires.accepted.2).slots c.args.slot (omega arith))
+unfolding fact_in fact_of
+returns c = c.index_check_instruction_writes_slot.ensures ∙ unchecked c.args.sheet.now c.args.pc c.args.slot
