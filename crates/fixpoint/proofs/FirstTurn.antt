@@ -1,7 +1,7 @@
 -- From what the run is lent to the first turn, and the lengths that every turn keeps.
 -- Assumes nothing.
 use mathlib.Core.Path.{◌≡◌, sym, ap, ◌∙◌}
-use mathlib.Core.Bool.{Bool, true, cond}
+use mathlib.Core.Bool.{Bool}
 use mathlib.Core.List.{List, [], ◌∷◌}
 use mathlib.Core.Option.{Option, none}
 use Prim.Native.Nat.{ℕ, ◌+◌, ◌*◌, ◌≤◌, ◌<◌}
@@ -91,23 +91,22 @@ module _ (which : AnalysisKind) {sheet : List ℕ} {sizes : Sizes} {firsts class
   some_room : 0 < length list
   some_room = let k = mul-le-mul_right (1 + 2 * length slots) s.some_code in omega (arith, f.list_fits)
 
-  pub start_enters : (fresh : Bool) → (fresh ≡ true → 0 < length list) × (fresh ≡ true → 0 ≤ 65535)
-  start_enters fresh = ((λ k. some_room), (λ k. omega arith))
+  pub start_enters : (0 < length list) × (0 ≤ 65535)
+  start_enters = (some_room, omega arith)
 
   module _ (new : TableSlices) (fresh : Bool) (j : JoinEnsures (equal_by which classes) 0 (table_slices present kinds values) (row_slices row_kinds row_values) new fresh)
-      {lisnew : List ℕ} {top' : ℕ} (l' : lisnew ≡ cond fresh (set list 0 0) list) (t' : top' ≡ cond fresh (0 + 1) 0) where
-    joined : RowsLie (length slots) (rows_visited (equal_known which sheet) first 0 (replicate (code_count sheet) none)) new × (fresh ≡ true)
+      {lisnew : List ℕ} {top' : ℕ} (l' : lisnew ≡ set list 0 0) (t' : top' ≡ 0 + 1) where
+    joined : RowsLie (length slots) (rows_visited (equal_known which sheet) first 0 (replicate (code_count sheet) none)) new
     unfolding JoinEnsures ran_analysis analysis
     joined =
-        let x = (rw ((lent_lengths f).3, equal_by_lem i.classes_are which) at j) (replicate (code_count sheet) none) first none_lie f.row_lies
-        (rw (length-replicate {A = Option Row} (code_count sheet) none) s.some_code) in
-        (x.0, x.1 ∙ T.first_news_lem a lawful)
+        ((rw ((lent_lengths f).3, equal_by_lem i.classes_are which) at j) (replicate (code_count sheet) none) first none_lie f.row_lies
+        (rw (length-replicate {A = Option Row} (code_count sheet) none) s.some_code)).0
 
     listed : Listed (0 ∷ []) lisnew top'
-    listed = rw (l', t', joined.1) (listed_enter true 0 [] list 0 (empty_listed list f.list_zero) some_room)
+    listed = rw (l', t') (listed_enter 0 [] list 0 (empty_listed list f.list_zero) some_room)
 
     list_length : length lisnew ≡ length list
-    list_length = rw (l', joined.1) (length-set list 0 0)
+    list_length = rw l' (length-set list 0 0)
 
     -- what the loop asks
     pub start_turn : Turn which sheet slots length_kinds length_values (facts_of row_kinds row_values) resources.work (length lisnew) (run_memory new.present new.kinds new.values row_kinds row_values lisnew) top' 0 resources.work
@@ -115,4 +114,4 @@ module _ (which : AnalysisKind) {sheet : List ℕ} {sizes : Sizes} {firsts class
     start_turn =
         rw list_length (turn_of which sheet sizes firsts classes slots length_kinds length_values first resources (length list) i s f.row_length f.list_fits
         (run_memory new.present new.kinds new.values row_kinds row_values lisnew) top' 0 resources.work (lent_lengths f).3 (lent_lengths f).4 list_length
-        (T.started a lawful resources.work new lisnew top' joined.0 listed))
+        (T.started a lawful resources.work new lisnew top' joined listed))

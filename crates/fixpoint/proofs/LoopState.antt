@@ -3,7 +3,6 @@
 use mathlib.Core.Path.{◌≡◌, refl, sym, ap, ◌∙◌}
 use mathlib.Core.List.Memᴰ.{head}
 use mathlib.Core.List.{List, [], ◌∷◌, ◌++◌}
-use mathlib.Core.Bool.{true}
 use mathlib.Core.Option.{none, some}
 use Prim.Native.Nat.{ℕ, zero, suc, ◌+◌, ◌*◌, ◌-◌, ◌≤◌, ◌<◌}
 use native.Mathlib.Nat.{zero-mul}
@@ -11,7 +10,7 @@ use native.Mathlib.Omega.{arith}
 use lib.ListN.{length, get_or, set, replicate, replicate-append-replicate}
 use Rattle.model.specs.Call.{zeros}
 use Rattle.model.specs.Fact.{Fact, kind, value, Row}
-use Rattle.model.specs.Run.{Analysis, State, finished, overdrawn, row_at, news, merged, carry, popped, bound, start, run}
+use Rattle.model.specs.Run.{Analysis, State, finished, overdrawn, row_at, merged, carry, popped, bound, start, run}
 use Rattle.model.specs.Tables.{present_byte, present_bytes, row_cells, cells, TableSlices, table_slices, RowsLie}
 use Rattle.model.specs.Demand.{Lawful, Present, Visited, begun, then}
 use Rattle.finality.proofs.Cells.{length_cells, length_present}
@@ -178,10 +177,6 @@ module _ (a : Analysis) (law : Lawful a) where
   first_visit : rows_visited same entry 0 (replicate n none) ≡ set (replicate n none) 0 (some entry)
   unfolding rows_visited merged
   first_visit = rw (row_at-replicate n 0)
-
-  pub first_news_lem : news same (row_at (replicate n none) 0) entry ≡ true
-  unfolding news
-  first_news_lem = rw (row_at-replicate n 0)
 
   pub started : (left : ℕ) (t : TableSlices) (work_list : List ℕ) (top : ℕ) → RowsLie s (rows_visited same entry 0 (replicate n none)) t → Listed (0 ∷ []) work_list top
       → Running a left t work_list top 0 left

@@ -1,13 +1,12 @@
 -- The loop over one sheet: what a turn asks of what is lent, and how it goes on.
 -- Assumes nothing.
 use mathlib.Core.Path.{◌≡◌, ◌∙◌}
-use mathlib.Core.Bool.{true, cond}
 use mathlib.Core.List.{List, Memᴰ as Member}
 use Prim.Native.Nat.{ℕ, ◌+◌, ◌*◌, ◌-◌, ◌≤◌, ◌<◌}
 use native.Mathlib.Nat.{mul-le-mul_right}
 use native.Mathlib.Omega.{arith}
-use lib.Dec.{ltb}
-use lib.ListN.{length, get_or, set, length-set}
+use Rattle.std.specs.Prelude.{Ok, Err}
+use lib.ListN.{length, get_or, set, take, length-set}
 use Rattle.model.specs.Sheet.{code_count}
 use Rattle.model.specs.Call.{zeros}
 use Rattle.model.specs.Fact.{Row, equal_known}
@@ -22,15 +21,17 @@ use Rattle.model.specs.declared.VerifierResources.{VerifierResources}
 use Rattle.model.specs.declared.InstructionSuccessors.{InstructionSuccessors}
 use Rattle.finality.proofs.Lawful.{lawful, successors_below}
 use Rattle.sheet.specs.declared.Sizes.{Sizes}
-use Rattle.fixpoint_list.specs.Listed.{entered}
+use Rattle.fixpoint_list.specs.Listed.{entered, EachEntered}
 use Rattle.fixpoint_step.proofs.TwoSuccessors.{news_among, news_length, list_length}
 use Rattle.fixpoint_step.specs.Stepped.{SheetIndex, TrackedSlots, StepRequires, StepEnsures}
+use Rattle.finality.proofs.Lengths.{zeros_same}
+use Rattle.budget.specs.declared.Refused.{Refused}
 use Rattle.fixpoint.specs.declared.Ran.{Ran}
-use Rattle.fixpoint.specs.Memory.{RunMemory, run_memory, run_tables, run_row}
+use Rattle.fixpoint.specs.Memory.{RunMemory, run_memory, run_tables, run_row, zero_run}
 use Rattle.fixpoint.specs.Turn.{ran_analysis, Running, Turn}
 use Rattle.fixpoint.specs.Result.{run_ended, run_refused}
-use Rattle.fixpoint.proofs.RunEnds.{RunTold, told_ended, told_refused}
-use Rattle.fixpoint.proofs.NewsEntered.{first_asks, second_asks, both_entered}
+use Rattle.fixpoint.proofs.RunEnds.{RunLengths, Told, told_ended, told_refused}
+use Rattle.fixpoint.proofs.NewsEntered.{few, each_asks, each_entered}
 use Rattle.fixpoint.proofs.LoopState as T
 
 module _ (which : AnalysisKind) (sheet : List ℕ) (sizes : Sizes) (firsts classes slots length_kinds length_values : List ℕ) (entry : Row) (resources : VerifierResources) (room : ℕ)
@@ -100,14 +101,16 @@ module _ {which : AnalysisKind} {sheet : List ℕ} {sizes : Sizes} {firsts class
   turn_little = let k = mul-le-mul_right (1 + 2 * length slots) s.little in omega (arith, t.fits, s.few_slots)
 
   -- the empty list
-  pub turn_ends : top ≤ 0 → (r : Ran) → r ≡ run_ended pops resources rest
-      → RunTold which sheet slots length_kinds length_values entry resources r m × (m.work_list ≡ zeros m.work_list)
+  pub turn_ends : top ≤ 0 → (old : RunMemory) → RunLengths m old → length m.work_list ≡ length old.work_list
+      → (row_kinds' row_values' : List ℕ) → (row_kinds' ≡ zeros m.row_kinds) × (row_values' ≡ zeros m.row_values) → (r : Ran) → r ≡ run_ended pops resources rest
+      → Told which sheet slots length_kinds length_values entry resources (Ok r) old (run_memory m.present m.kinds m.values row_kinds' row_values' m.work_list)
   unfolding ran_analysis analysis
-  turn_ends h r is = (
-    told_ended which sheet slots length_kinds length_values entry resources r t.running.st.rows pops rest
-        (T.ends_empty of lawful_run n_above resources.work (run_tables m) m.work_list top pops rest t.running s_above h) m t.running.lies.rows_lie is,
-    T.empty_list of lawful_run n_above resources.work (run_tables m) m.work_list top pops rest t.running h,
-  )
+  turn_ends h old long list row_kinds' row_values' g r is =
+      told_ended which sheet slots length_kinds length_values entry resources t.running.st.rows pops rest
+      (T.ends_empty of lawful_run n_above resources.work (run_tables m) m.work_list top pops rest t.running s_above h)
+      (run_memory m.present m.kinds m.values row_kinds' row_values' m.work_list) old t.running.lies.rows_lie
+      (g.0 ∙ zeros_same _ _ long.row_kinds) (g.1 ∙ zeros_same _ _ long.row_values)
+      (T.empty_list of lawful_run n_above resources.work (run_tables m) m.work_list top pops rest t.running h ∙ zeros_same _ _ list) r is
 
   module _ (h : 0 < top) where
     -- the entry that is taken next is an instruction
@@ -116,12 +119,12 @@ module _ {which : AnalysisKind} {sheet : List ℕ} {sizes : Sizes} {firsts class
     turn_entry = T.entry_below of lawful_run n_above resources.work (run_tables m) m.work_list top pops rest t.running spacious h
 
     -- a refused charge
-    pub turn_refused : rest < length slots → (r : Ran) → r ≡ run_refused which (length slots) resources rest → (behind : RunMemory)
-        → RunTold which sheet slots length_kinds length_values entry resources r behind
+    pub turn_refused : rest < length slots → (old new : RunMemory) → new ≡ zero_run old → (r : Refused) → r ≡ run_refused which (length slots) resources rest
+        → Told which sheet slots length_kinds length_values entry resources (Err r) old new
     unfolding ran_analysis analysis
-    turn_refused low r is behind =
-        told_refused which sheet slots length_kinds length_values entry resources r (length slots) rest
-        (T.ends_refused of lawful_run n_above resources.work (run_tables m) m.work_list top pops rest t.running spacious h s_above low) behind is
+    turn_refused low old new z r is =
+        told_refused which sheet slots length_kinds length_values entry resources (length slots) rest
+        (T.ends_refused of lawful_run n_above resources.work (run_tables m) m.work_list top pops rest t.running spacious h s_above low) old new z r is
 
     -- a step of the entry p, once the charge is covered
     module _ (enough : length slots ≤ rest) {p : ℕ} (p-is : p ≡ get_or m.work_list (top - 1) 0) where
@@ -176,36 +179,25 @@ module _ {which : AnalysisKind} {sheet : List ℕ} {sizes : Sizes} {firsts class
               T.taken_room of lawful_run n_above resources.work (run_tables m) others (top - 1) (pops + 1) (rest - length slots) p taken,
             )
 
-        -- what entering it asks
-        pub enter_first : {list₀ : List ℕ} → list₀ ≡ set m.work_list (top - 1) 0
-            → (ltb 0 r.len ≡ true → top - 1 < length list₀) × (ltb 0 r.len ≡ true → get_or r.pcs 0 0 ≤ 65535)
-        enter_first e = ((λ k. rw e (asks k).0), (λ k. omega (arith, (asks k).1, s.little)))
-          where
-            asks : ltb 0 r.len ≡ true → (top - 1 < length (set m.work_list (top - 1) 0)) × (get_or r.pcs 0 0 < code_count sheet)
-            asks k = first_asks to_enter to_enter_two r to_enter_is taken.st.list others (top - 1) taken.lies.listed to_enter_fits (code_count sheet) to_enter_below k
+        pub few_to_enter : r.len ≤ 2
+        few_to_enter = few to_enter to_enter_two r to_enter_is
 
-        module _ {list₀ : List ℕ} (l₀ : list₀ ≡ set m.work_list (top - 1) 0) {list₁ : List ℕ} {top₁ : ℕ}
-            (l₁ : list₁ ≡ cond (ltb 0 r.len) (set list₀ (top - 1) (get_or r.pcs 0 0)) list₀)
-            (t₁ : top₁ ≡ cond (ltb 0 r.len) (top - 1 + 1) (top - 1)) where
-          first_entered : list₁ ≡ cond (ltb 0 r.len) (set (set m.work_list (top - 1) 0) (top - 1) (get_or r.pcs 0 0)) (set m.work_list (top - 1) 0)
-          first_entered = rw l₀ at l₁
-
-          pub enter_second : (ltb 1 r.len ≡ true → top₁ < length list₁) × (ltb 1 r.len ≡ true → get_or r.pcs 1 0 ≤ 65535)
-          enter_second = ((λ k. (asks k).0), (λ k. omega (arith, (asks k).1, s.little)))
-            where
-              asks : ltb 1 r.len ≡ true → (top₁ < length list₁) × (get_or r.pcs 1 0 < code_count sheet)
-              asks k = second_asks to_enter to_enter_two r to_enter_is taken.st.list others (top - 1) taken.lies.listed to_enter_fits list₁ top₁ first_entered t₁ (code_count sheet) to_enter_below k
+        module _ {list₀ : List ℕ} (l₀ : list₀ ≡ set m.work_list (top - 1) 0) where
+          -- what entering it asks
+          pub enter_asks : (length (take r.len r.pcs) + (top - 1) ≤ length list₀) × ((i : ℕ) → i < length (take r.len r.pcs) → get_or (take r.len r.pcs) i 0 ≤ 65535)
+          enter_asks =
+              rw l₀
+              (each_asks to_enter to_enter_two r to_enter_is taken.st.list others (top - 1) taken.lies.listed to_enter_fits (code_count sheet) (omega (arith, s.little)) to_enter_below)
 
           -- what the step leaves
-          pub stepped : {row_kinds' row_values' list₂ : List ℕ} {top₂ : ℕ} → length row_kinds' ≡ length m.row_kinds → length row_values' ≡ length m.row_values
-              → length list₂ ≡ length m.work_list
-              → list₂ ≡ cond (ltb 1 r.len) (set list₁ top₁ (get_or r.pcs 1 0)) list₁ → top₂ ≡ cond (ltb 1 r.len) (top₁ + 1) top₁
-              → Turn which sheet slots length_kinds length_values entry resources.work room (run_memory t'.present t'.kinds t'.values row_kinds' row_values' list₂) top₂ (pops + 1) (rest - length slots)
+          pub stepped : {row_kinds' row_values' list' : List ℕ} {top' : ℕ} → length row_kinds' ≡ length m.row_kinds → length row_values' ≡ length m.row_values
+              → length list' ≡ length m.work_list → EachEntered (take r.len r.pcs) list₀ (top - 1) list' top'
+              → Turn which sheet slots length_kinds length_values entry resources.work room (run_memory t'.present t'.kinds t'.values row_kinds' row_values' list') top' (pops + 1) (rest - length slots)
           unfolding StepEnsures ran_analysis analysis
-          stepped {row_kinds'} {row_values'} {list₂} {top₂} hk hv hl l₂ t₂ =
+          stepped {row_kinds'} {row_values'} {list'} {top'} hk hv hl e =
               turn_of which sheet sizes firsts classes slots length_kinds length_values entry resources room i s t.entry_length t.list_fits
-              (run_memory t'.present t'.kinds t'.values row_kinds' row_values' list₂) top₂ (pops + 1) (rest - length slots) (hk ∙ t.row_kinds_length)
+              (run_memory t'.present t'.kinds t'.values row_kinds' row_values' list') top' (pops + 1) (rest - length slots) (hk ∙ t.row_kinds_length)
               (hv ∙ t.row_values_length) (hl ∙ t.list_length)
               (T.taken_end of lawful_run n_above resources.work (run_tables m) others (top - 1) (pops + 1) (rest - length slots) p taken
-              t' list₂ top₂ (o taken.st.rows taken.row taken.lies.rows_lie taken.stands).0 (unfold to_enter in
-              (both_entered to_enter to_enter_two r to_enter_is taken.st.list others (top - 1) taken.lies.listed to_enter_fits list₁ top₁ first_entered t₁ list₂ top₂ l₂ t₂)))
+              t' list' top' (o taken.st.rows taken.row taken.lies.rows_lie taken.stands).0 (unfold to_enter in
+              (each_entered to_enter to_enter_two r to_enter_is taken.st.list others (top - 1) taken.lies.listed (rw l₀ at e))))

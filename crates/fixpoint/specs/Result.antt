@@ -1,13 +1,15 @@
 -- What the run answers and leaves.
 -- Assumes nothing.
-use Rattle.std.specs.Prelude.{ℕ, length}
+use Rattle.std.specs.Prelude.{ℕ, length, Result, Ok, Err}
 use Rattle.model.specs.Closure.{stage_number}
 use Rattle.model.specs.Fact.{kind, value}
 use Rattle.model.specs.Tables.{present_bytes, cells}
 use Rattle.model.specs.Analyses.{Analysed}
 use Rattle.model.specs.declared.AnalysisKind.{AnalysisKind}
 use Rattle.model.specs.declared.VerifierResources.{VerifierResources}
-use Rattle.budget.specs.declared.Outcome.TheVariants.{Covered, Refused}
+use Rattle.budget.specs.Outcome.{Outcome}
+use Rattle.budget.specs.declared.Refused.{Refused}
+use Rattle.budget.specs.declared.Refused.TheVariants.{OverBudget}
 use Rattle.fixpoint.specs.declared.Ran.{Ran}
 use Rattle.fixpoint.specs.Memory.{RunMemory, run_memory}
 
@@ -27,9 +29,19 @@ ran_tables other a =
 
 -- "The empty list ends the run", with the work left
 unfoldable pub run_ended : ℕ → VerifierResources → ℕ → Ran
-run_ended pops resources work = record { pops = pops; outcome = Covered (record { bytes = resources.bytes; work = work }) }
+run_ended pops resources work = record { pops = pops; left = record { bytes = resources.bytes; work = work } }
 
 -- "a refused one ends it with 7", with the work that it found
-unfoldable pub run_refused : AnalysisKind → ℕ → VerifierResources → ℕ → Ran
+unfoldable pub run_refused : AnalysisKind → ℕ → VerifierResources → ℕ → Refused
 run_refused which requested resources remaining =
-    record { pops = 0; outcome = Refused (stage_number which) requested remaining (record { bytes = resources.bytes; work = remaining }) }
+    OverBudget (stage_number which) requested remaining (record { bytes = resources.bytes; work = remaining })
+
+-- the outcome of a run's charges
+abbrev pub outcome_of : Result Ran Refused → Outcome
+outcome_of (Ok r) = Ok r.left
+outcome_of (Err refused) = Err refused
+
+-- its pop count, none after a refusal
+abbrev pub pops_of : Result Ran Refused → ℕ
+pops_of (Ok r) = r.pops
+pops_of (Err refused) = 0

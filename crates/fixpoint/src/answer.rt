@@ -3,10 +3,11 @@ ghost use Rattle.std.specs.Prelude.{◌≡◌};
 ghost use Rattle.fixpoint.specs.Result.{run_ended, run_refused};
 
 use crate::Ran;
-use budget::{Outcome, stage_number};
+use budget::{Refused, stage_number};
 use model::{AnalysisKind, VerifierResources};
 
 // "The empty list ends the run": its pop count, and the work left of the resources.
+#[tactic(auto, unfolding(crate::specs::Result::run_ended))]
 pub fn ended(pops: u64, resources: VerifierResources, work: u64) -> Ran
     ensures { result ≡ run_ended pops resources work }
 {
@@ -14,32 +15,27 @@ pub fn ended(pops: u64, resources: VerifierResources, work: u64) -> Ran
         bytes: resources.bytes,
         work,
     };
-    Ran {
-        pops,
-        outcome: Outcome::Covered { left },
-    }
+    Ran { pops, left }
 }
 
 // "a refused one ends it with 7": the work remaining is what is left.
+#[tactic(auto, unfolding(crate::specs::Result::run_refused))]
 pub fn refused(
     which: AnalysisKind,
     requested: u64,
     resources: VerifierResources,
     remaining: u64,
-) -> Ran
+) -> Refused
     ensures { result ≡ run_refused which requested resources remaining }
 {
     let left = VerifierResources {
         bytes: resources.bytes,
         work: remaining,
     };
-    Ran {
-        pops: 0,
-        outcome: Outcome::Refused {
-            stage: stage_number(which),
-            requested,
-            remaining,
-            left,
-        },
+    Refused::OverBudget {
+        stage: stage_number(which),
+        requested,
+        remaining,
+        left,
     }
 }

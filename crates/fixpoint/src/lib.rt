@@ -5,12 +5,12 @@ mod answer;
 mod clearing;
 mod list;
 
-use budget::Outcome;
 pub use list::run_to_fixpoint;
+use model::VerifierResources;
 
-// How a run ends: its pop count, none after a refused charge, and what is left.
+// What a run to its end gives: its pop count, and what is left.
 #[derive(Clone, Copy)]
 pub struct Ran {
     pub pops: u64,
-    pub outcome: Outcome,
+    pub left: VerifierResources,
 }

@@ -8,12 +8,13 @@ ghost use Rattle.budget.specs.Outcome.{leaves, leaves_of};
 ghost use Rattle.fixpoint_step.specs.Stepped.{SheetIndex, TrackedSlots};
 ghost use Rattle.fixpoint.specs.Memory.{run_memory, lent_run, zero_run};
 ghost use Rattle.fixpoint.specs.Turn.{RunRequires};
-ghost use Rattle.fixpoint.specs.Result.{ran, ran_tables};
+ghost use Rattle.fixpoint.specs.Result.{outcome_of, pops_of, ran, ran_tables};
 
 use crate::Ran;
 use crate::answer::{ended, refused};
-use crate::clearing::finish;
-use fixpoint_list::{clear, enter, take};
+use crate::clearing::{clear_row, clear_tables};
+use budget::Refused;
+use fixpoint_list::{clear, enter, enter_each, take};
 use fixpoint_step::{join_into, step};
 use model::{AnalysisKind, VerifierResources};
 use sheet::Sizes;
@@ -37,20 +38,20 @@ pub fn run_to_fixpoint(
     row_kinds: &mut [u8],
     row_values: &mut [u64],
     work_list: &mut [u16],
-) -> Ran
+) -> Result<Ran, Refused>
     requires sheet_index { SheetIndex sheet.now sizes firsts.now classes.now length_kinds.now length_values.now × TrackedSlots sheet.now slots.now }
     requires memory_ready { let m = run_memory present.old kinds.old values.old row_kinds.old row_values.old work_list.old in
         RunRequires (code_count sheet.now) (length slots.now) m }
     ensures { let m = lent_run present kinds values row_kinds row_values work_list in
         let first = facts_of m.entry.row_kinds m.entry.row_values in
         let lengths = length_table length_kinds.now length_values.now in
-        some (leaves result.outcome (ran result.pops m.exit))
+        some (leaves (outcome_of result) (ran (pops_of result) m.exit))
         ≡ leaves_of (ran_tables (zero_run m.entry)) (ran 0 (zero_run m.entry)) (propagate which sheet.now slots.now lengths first resources) }
 {
-    let fresh = join_into(
+    join_into(
         which, classes, 0, present, kinds, values, row_kinds, row_values,
     );
-    let mut top = enter(fresh, 0, 0, work_list);
+    let mut top = enter(0, 0, work_list);
     let cost = slots.len() as u64;
     let mut pops: u64 = 0;
     let mut rest = resources.work;
@@ -75,17 +76,15 @@ pub fn run_to_fixpoint(
             row_kinds,
             row_values,
         );
-        let pcs = news.pcs;
-        top = enter(0 < news.len, pcs[0], top, work_list);
-        top = enter(1 < news.len, pcs[1], top, work_list);
+        let entries = &news.pcs[..news.len as usize];
+        top = enter_each(entries, top, work_list);
     }
-    let ran = if 0 < top {
+    clear_row(row_kinds, row_values);
+    if 0 < top {
         clear(work_list);
-        refused(which, cost, resources, rest)
+        clear_tables(present, kinds, values);
+        Err(refused(which, cost, resources, rest))
     } else {
-        ended(pops, resources, rest)
-    };
-    let outcome = ran.outcome;
-    finish(outcome, present, kinds, values, row_kinds, row_values);
-    ran
+        Ok(ended(pops, resources, rest))
+    }
 }

@@ -12,3 +12,7 @@ pub record Listed (entries work_list : List ℕ) (top : ℕ) : Type 0 where
 unfoldable pub entered : List ℕ → List ℕ → List ℕ
 entered [] entries = entries
 entered (q ∷ qs) entries = entered qs (q ∷ entries)
+
+-- the entries are added to whatever list lies in the buffer
+unfoldable pub EachEntered : List ℕ → List ℕ → ℕ → List ℕ → ℕ → Type 0
+EachEntered added old top new top' = (entries : List ℕ) → Listed entries old top → Listed (entered added entries) new top'

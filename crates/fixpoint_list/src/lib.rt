@@ -1,19 +1,29 @@
 // The work list: "a list of instruction numbers". Its cells are read and written here alone; the laws (proofs/Listed) tell of it as a list.
+// The lent buffer and the count of entries go side by side: one loop alone holds them, and each contract over a struct of both would have
+// to say besides that it still lends the same buffer, so that is no plainer.
 #![tactic(auto)]
 
-ghost use Rattle.std.specs.Prelude.{◌≡◌, true, cond, ◌+◌, ◌-◌, ◌≤◌, ◌<◌, length, get_or, set};
+ghost use Rattle.std.specs.Prelude.{◌≡◌, ℕ, ◌+◌, ◌-◌, ◌≤◌, ◌<◌, length, get_or, set};
 ghost use Rattle.model.specs.Call.{zeros};
+ghost use Rattle.fixpoint_list.specs.Listed.{EachEntered};
 
-use memory::clear_u16;
-
-// With news "the successor is added once, even if it is listed already". How many entries there are then.
-pub fn enter(news: bool, entry: usize, top: usize, work_list: &mut [u16]) -> usize
-    requires { (news ≡ true → top < length work_list.old) × (news ≡ true → entry ≤ 65535) }
-    ensures { (work_list.new ≡ cond news (set work_list.old top entry) work_list.old) × (result ≡ cond news (top + 1) top) }
+// "the successor is added once, even if it is listed already". How many entries there are then.
+pub fn enter(entry: usize, top: usize, work_list: &mut [u16]) -> usize
+    requires { (top < length work_list.old) × (entry ≤ 65535) }
+    ensures { (work_list.new ≡ set work_list.old top entry) × (result ≡ top + 1) }
 {
-    if news {
-        work_list[top] = entry as u16;
-        return top + 1;
+    work_list[top] = entry as u16;
+    top + 1
+}
+
+// Each of the entries is added, in order. How many there are then.
+pub fn enter_each(entries: &[usize], top: usize, work_list: &mut [u16]) -> usize
+    requires { (length entries.now + top ≤ length work_list.old) × ((i : ℕ) → i < length entries.now → get_or entries.now i 0 ≤ 65535) }
+    ensures { EachEntered entries.now work_list.old top work_list.new result }
+{
+    let mut top = top;
+    for &entry in entries {
+        top = enter(entry, top, work_list);
     }
     top
 }
@@ -33,5 +43,5 @@ pub fn take(top: usize, work_list: &mut [u16]) -> usize
 pub fn clear(work_list: &mut [u16])
     ensures { work_list.new ≡ zeros work_list.old }
 {
-    clear_u16(work_list);
+    memory::clear(work_list);
 }

@@ -8,7 +8,7 @@ use native.Mathlib.Omega.{arith}
 use lib.ListN.{length, get_or}
 use Rattle.model.specs.Sheet.{code_count, first_range}
 use Rattle.model.specs.Successors.{sheet_successors}
-use Rattle.model.specs.Fact.{kind, value, Row}
+use Rattle.model.specs.Fact.{Row}
 use Rattle.model.specs.Tables.{TableSlices, RowSlices, RowLies, fact_in, facts_in, length_table}
 use Rattle.model.specs.Transfer.{index_transfer, transfer_row}
 use Rattle.model.specs.Analyses.{analysis}

@@ -1,22 +1,23 @@
 -- The successors of an instruction, at most two, visited one after the other.
 -- Assumes nothing.
-use mathlib.Core.Path.{◌≡◌, refl, sym, ap, ap₂, ◌∙◌, subst}
+use mathlib.Core.Path.{◌≡◌, refl, sym, ap, ap₂, ◌∙◌}
 use mathlib.Core.Bool.{Bool, true, false, cond}
 use mathlib.Core.List.Memᴰ.{head}
 use mathlib.Core.List.Memᴰ.{tail}
-use mathlib.Core.List.{List, [], ◌∷◌, ◌++◌, Memᴰ as Member}
+use mathlib.Core.List.{List, [], ◌∷◌, ◌++◌, append-nil, Memᴰ as Member}
 use mathlib.Core.Option.{Option}
 use Prim.Native.Nat.{ℕ, zero, suc, ◌+◌, ◌*◌, ◌-◌, ◌≤◌, ◌<◌}
 use native.Mathlib.Omega.{arith}
 use lib.Dec.{ltb}
 use lib.IntN.{ℤ, pos, negsuc}
-use lib.ListN.{length, get_or, replicate, length-append}
-use borrow.Author.Tests.{lt-ltb, le-ltb}
+use lib.ListN.{length, get_or, set, take, replicate, length-append, length-take}
+use lib.Seq.{take_all, take-append_seam}
+use Rattle.std.proofs.lemmas.List.{take_more}
 use Rattle.model.specs.Sheet.{instruction, code_count}
 use Rattle.model.specs.Successors.{Branch, fall_through, jump, conditional, for_loop, leave, branch, contains, push, push_valid, push_fallthrough, jump_target, for_loop_target, branch_successors, successors, sheet_successors, as_record}
 use Rattle.model.specs.Fact.{Row}
 use Rattle.model.specs.Run.{State, row_at, news, visit, visits}
-use Rattle.model.specs.Tables.{TableSlices, RowsLie, RowSlices, RowLies}
+use Rattle.model.specs.Tables.{TableSlices, RowSlices}
 use Rattle.model.specs.declared.Instruction.{Instruction}
 use Rattle.model.specs.declared.InstructionSuccessors.{InstructionSuccessors}
 use Rattle.finality.proofs.Lawful.{successors_below}
@@ -26,8 +27,8 @@ use Rattle.sheet.proofs.SizeNames.{counted}
 use Rattle.sheet.proofs.AcceptedSheet.{measured}
 use Rattle.sheet.proofs.FieldBounds.{code_inside}
 use Rattle.fixpoint_list.specs.Listed.{entered}
-use Rattle.fixpoint_step.specs.News.{rows_visited, rows_after, news_of, first_news, successor_at, with_news}
-use Rattle.fixpoint_step.specs.Visits.{JoinEnsures, NextRequires, NextEnsures, SuccessorsRequires, SuccessorsEnsures}
+use Rattle.fixpoint_step.specs.News.{rows_visited, rows_after, news_of}
+use Rattle.fixpoint_step.specs.Visits.{JoinRequires, JoinEnsures, SuccessorsRequires, SuccessorsEnsures}
 use Rattle.fixpoint_step.proofs.VisitedTables.{rows_are}
 
 -- ---- at most two
@@ -61,40 +62,19 @@ successors_length : (n pc : ℕ) (inst : Instruction) → length (successors n p
 unfolding successors
 successors_length n pc inst = branch_length (branch inst.op) n pc inst
 
--- ---- one of them
-
--- the k-th, from the list
-at : List ℕ → ℕ → List ℕ
-at [] k = []
-at (q ∷ qs) zero = q ∷ []
-at (q ∷ qs) (suc k) = at qs k
-
-successor_first : (l : List ℕ) → successor_at (as_record l) 0 ≡ at l 0
-unfolding successor_at as_record at
-successor_first [] = refl
-successor_first (q ∷ qs) = rw (lt-ltb 0 (length (q ∷ qs)) (omega arith))
-
-successor_second : (l : List ℕ) → successor_at (as_record l) 1 ≡ at l 1
-unfolding successor_at as_record at
-successor_second [] = refl
-successor_second (q ∷ []) = refl
-successor_second (q ∷ r ∷ rs) = rw (lt-ltb 1 (length (q ∷ r ∷ rs)) (omega arith))
-
 pub list_length : (sheet : List ℕ) (p : ℕ) → length (sheet_successors sheet p) ≤ 2
 unfolding sheet_successors
 list_length sheet p = successors_length (code_count sheet) p (instruction sheet p)
 
--- a list of at most two, at one of its places
-list_at : (l : List ℕ) (k : ℕ) → k < length l → Member (get_or (as_record l).pcs k 0) l
+-- the entries of a list's record
+pub entries_are : (l : List ℕ) → take (as_record l).len (as_record l).pcs ≡ l
 unfolding as_record
-list_at [] k h = absurd (omega arith)
-list_at (q ∷ qs) zero h = head refl
-list_at (q ∷ qs) (suc k) h = tail (go qs k (omega arith))
-  where
-    go : (ys : List ℕ) (i : ℕ) → i < length ys → Member (get_or (ys ++ replicate (2 - length (q ∷ qs)) 0) i 0) ys
-    go [] i h = absurd (omega arith)
-    go (y ∷ ys) zero h = head refl
-    go (y ∷ ys) (suc i) h = tail (go ys i (omega arith))
+entries_are l = take-append_seam l (replicate (2 - length l) 0)
+
+pub member_at : (l : List ℕ) (k : ℕ) → k < length l → Member (get_or l k 0) l
+member_at [] k h = absurd (omega arith)
+member_at (q ∷ qs) zero h = head refl
+member_at (q ∷ qs) (suc k) h = tail (member_at qs k (omega arith))
 
 -- ---- visits without the list
 
@@ -121,31 +101,23 @@ module _ (same : ℕ → ℕ → ℕ → ℕ → Bool) (copy : Row) where
       go true e = rw e
       go false e = rw e
 
-  -- at most two are visited one after the other
-  rows_both : (l : List ℕ) → length l ≤ 2 → (rows : List (Option Row)) → rows_after same copy (at l 1) (rows_after same copy (at l 0) rows) ≡ rows_after same copy l rows
-  unfolding rows_after at
-  rows_both [] h rows = refl
-  rows_both (q ∷ []) h rows = refl
-  rows_both (q ∷ r ∷ []) h rows = refl
-  rows_both (q ∷ r ∷ t ∷ ts) h rows = absurd (omega arith)
+  -- and of one more
+  rows_more : (qs : List ℕ) (q : ℕ) (rows : List (Option Row))
+      → rows_after same copy (qs ++ (q ∷ [])) rows ≡ rows_visited same copy q (rows_after same copy qs rows)
+  unfolding rows_after
+  rows_more [] q rows = refl
+  rows_more (x ∷ qs) q rows = rows_more qs q (rows_visited same copy x rows)
 
-  news_both : (l : List ℕ) → length l ≤ 2 → (rows : List (Option Row))
-      → with_news (as_record l) (first_news same copy (at l 0) rows) (first_news same copy (at l 1) (rows_after same copy (at l 0) rows)) ≡ as_record (news_of same copy l rows)
-  unfolding rows_after news_of first_news at with_news as_record
-  news_both [] h rows = refl
-  news_both (q ∷ []) h rows = go (news same (row_at rows q) copy)
+  news_more : (qs : List ℕ) (q : ℕ) (rows : List (Option Row))
+      → news_of same copy (qs ++ (q ∷ [])) rows
+      ≡ news_of same copy qs rows ++ cond (news same (row_at (rows_after same copy qs rows) q) copy) (q ∷ []) []
+  unfolding news_of rows_after
+  news_more [] q rows = refl
+  news_more (x ∷ qs) q rows = go (news same (row_at rows x) copy) _ _ _ (news_more qs q (rows_visited same copy x rows))
     where
-      go : (b : Bool) → with_news (as_record (q ∷ [])) b false ≡ as_record (cond b (q ∷ []) [])
-      go true = refl
-      go false = refl
-  news_both (q ∷ r ∷ []) h rows = go (news same (row_at rows q) copy) (news same (row_at (rows_visited same copy q rows) r) copy)
-    where
-      go : (b d : Bool) → with_news (as_record (q ∷ r ∷ [])) b d ≡ as_record (cond b (q ∷ cond d (r ∷ []) []) (cond d (r ∷ []) []))
-      go true true = refl
-      go true false = refl
-      go false true = refl
-      go false false = refl
-  news_both (q ∷ r ∷ t ∷ ts) h rows = absurd (omega arith)
+      go : (b : Bool) (l l' last : List ℕ) → l ≡ l' ++ last → cond b (x ∷ l) l ≡ cond b (x ∷ l') l' ++ last
+      go true l l' last e = ap (λ (r : List ℕ). x ∷ r) e
+      go false l l' last e = e
 
   -- only those that are visited have news
   pub news_among : (qs : List ℕ) (rows : List (Option Row)) (x : ℕ) → Member x (news_of same copy qs rows) → Member x qs
@@ -169,22 +141,45 @@ module _ (same : ℕ → ℕ → ℕ → ℕ → Bool) (copy : Row) where
       go true on = omega arith
       go false on = omega arith
 
--- ---- one of at most two
+-- ---- the loop over them
 
-module _ (same : ℕ → ℕ → ℕ → ℕ → Bool) (successors : InstructionSuccessors) (k : ℕ) (t : TableSlices) (row : RowSlices) where
-  pub next_joined : (t' : TableSlices) (r : Bool) → NextRequires successors k t row → k < successors.len → JoinEnsures same (get_or successors.pcs k 0) t row t' r
-      → NextEnsures same successors k t row t' r
-  unfolding JoinEnsures NextEnsures successor_at rows_after first_news
-  next_joined t' r n h j rows copy l c = rw (lt-ltb k successors.len h) (j rows copy l c (omega (arith, n.below h, rows_are l)))
+-- one more that had news, in the record
+pub with_one_more : (pcs : List ℕ) (len q : ℕ) → len < 2 → (targets : List ℕ)
+    → ◌≡◌ {A = InstructionSuccessors} record { pcs = pcs; len = len } (as_record targets)
+    → ◌≡◌ {A = InstructionSuccessors} record { pcs = set pcs len q; len = len + 1 } (as_record (targets ++ (q ∷ [])))
+unfolding as_record
+with_one_more pcs len q h [] e =
+    rw (ap (λ (x : InstructionSuccessors). x.pcs) e, ap (λ (x : InstructionSuccessors). x.len) e) refl
+with_one_more pcs len q h (t ∷ []) e =
+    rw (ap (λ (x : InstructionSuccessors). x.pcs) e, ap (λ (x : InstructionSuccessors). x.len) e) refl
+with_one_more pcs len q h (t ∷ (u ∷ us)) e = absurd (omega (arith, ap (λ (x : InstructionSuccessors). x.len) e))
 
-  pub next_none : successors.len ≤ k → NextEnsures same successors k t row t false
-  unfolding NextEnsures successor_at rows_after first_news
-  next_none h rows copy l c = rw (le-ltb k successors.len h) (l, refl)
+-- what the record becomes: with q where its visit had news
+abbrev Told : Bool → ℕ → InstructionSuccessors → InstructionSuccessors → Type 0
+Told fresh q told told' = (targets : List ℕ) → told ≡ as_record targets → told' ≡ as_record (targets ++ cond fresh (q ∷ []) [])
+
+module _ (same : ℕ → ℕ → ℕ → ℕ → Bool) (t : TableSlices) (row : RowSlices) where
+  pub none_visited : SuccessorsEnsures same [] t row t record { pcs = 0 ∷ 0 ∷ []; len = 0 }
+  unfolding SuccessorsEnsures rows_after news_of as_record
+  none_visited rows copy l c = (l, refl)
+
+  one_more : (qs : List ℕ) (q : ℕ) (t' t'' : TableSlices) (told told' : InstructionSuccessors) (fresh : Bool)
+      → SuccessorsEnsures same qs t row t' told → JoinEnsures same q t' row t'' fresh → q < length t'.present → Told fresh q told told'
+      → SuccessorsEnsures same (qs ++ (q ∷ [])) t row t'' told'
+  unfolding SuccessorsEnsures JoinEnsures
+  one_more qs q t' t'' told told' fresh s j h w rows copy l c =
+      let one = s rows copy l c in
+      let two = j (rows_after same copy qs rows) copy one.0 c (omega (arith, h, rows_are one.0)) in (
+        rw (rows_more same copy qs q rows) two.0,
+        w (news_of same copy qs rows) one.1
+            ∙ ap (λ (b : Bool). as_record (news_of same copy qs rows ++ cond b (q ∷ []) [])) two.1
+            ∙ ap as_record (sym (news_more same copy qs q rows)),
+      )
 
 -- ---- all successors
 
 -- the successors as the code holds them
-pub next_is : {sheet : List ℕ} {sizes : Sizes} (p : ℕ) (inst : Instruction) (next : InstructionSuccessors) → Accepted sheet sizes
+next_is : {sheet : List ℕ} {sizes : Sizes} (p : ℕ) (inst : Instruction) (next : InstructionSuccessors) → Accepted sheet sizes
     → inst ≡ instruction sheet p → next ≡ as_record (successors sizes.code_count p inst) → next ≡ as_record (sheet_successors sheet p)
 unfolding sheet_successors
 next_is p inst next a e k = k ∙ ap₂ (λ (n : ℕ) (i : Instruction). as_record (successors n p i)) (counted a.are).code_count_is e
@@ -197,44 +192,69 @@ module _ {sheet : List ℕ} {sizes : Sizes} {p : ℕ} {t : TableSlices} {row : R
   pub following_code : (sizes.code_count ≤ 4096) × (p < sizes.code_count)
   following_code = (rw (counted f.accepted.are).code_count_is f.little, rw (counted f.accepted.are).code_count_is f.below)
 
-  module _ (next : InstructionSuccessors) (e : next ≡ as_record (sheet_successors sheet p)) where
-    target_below : (k : ℕ) → k < next.len → get_or next.pcs k 0 < code_count sheet
+  -- the instruction and its successors, as the code reads and finds them
+  module _ {inst : Instruction} {next : InstructionSuccessors} (reads : inst ≡ instruction sheet p) (finds : next ≡ as_record (successors sizes.code_count p inst)) where
+    e : next ≡ as_record (sheet_successors sheet p)
+    e = next_is p inst next f.accepted reads finds
+
+    entries : take next.len next.pcs ≡ sheet_successors sheet p
+    entries = ap (λ (x : InstructionSuccessors). take x.len x.pcs) e ∙ entries_are (sheet_successors sheet p)
+
+    pub few_next : next.len ≤ 2
     unfolding as_record
-    target_below =
-        subst (λ (x : InstructionSuccessors). (k : ℕ) → k < x.len → get_or x.pcs k 0 < code_count sheet) (sym e)
-        (λ k h. successors_below sheet p _ (list_at (sheet_successors sheet p) k h))
+    few_next = omega (arith, ap (λ (x : InstructionSuccessors). x.len) e, list_length sheet p)
 
-    pub first_next : NextRequires next 0 t row
-    first_next = record { among = omega arith; below = λ i. rw f.present_length (target_below 0 i); visitable = f.visitable }
+    module _ {k : ℕ} (h : k < length (take next.len next.pcs)) where
+      place : get_or (take next.len next.pcs) k 0 ≡ get_or (sheet_successors sheet p) k 0
+      place = ap (λ (x : List ℕ). get_or x k 0) entries
 
-    module _ (same : ℕ → ℕ → ℕ → ℕ → Bool) (first : Bool) (t' : TableSlices) (n₁ : NextEnsures same next 0 t row t' first) where
-      first_lie : (rows : List (Option Row)) (copy : Row) → RowsLie (length row.kinds) rows t → RowLies copy row
-          → RowsLie (length row.kinds) (rows_after same copy (at (sheet_successors sheet p) 0) rows) t' × (first ≡ first_news same copy (at (sheet_successors sheet p) 0) rows)
-      unfolding NextEnsures
-      first_lie rows copy l c = rw (ap (λ (x : InstructionSuccessors). successor_at x 0) e ∙ successor_first (sheet_successors sheet p)) at (n₁ rows copy l c)
+      among : k < length (sheet_successors sheet p)
+      among = rw entries at h
 
-      pub second_next : length t'.present ≡ length t.present → length t'.kinds ≡ length t.kinds → length t'.values ≡ length t.values → NextRequires next 1 t' row
-      second_next hp hk hv =
-          let v = f.visitable in record {
-            among = omega arith;
-            below = λ i. rw (hp, f.present_length) (target_below 1 i);
-            visitable = record {
-              row_values_length = v.row_values_length;
-              kinds_length = rw (hk, hp) v.kinds_length;
-              values_length = rw (hv, hp) v.values_length;
-              rows = rows_after same v.copy (at (sheet_successors sheet p) 0) v.rows;
-              copy = v.copy;
-              rows_lie = (first_lie v.rows v.copy v.rows_lie v.copy_lies).0;
-              copy_lies = v.copy_lies;
-            };
-          }
+      target_below : get_or (take next.len next.pcs) k 0 < code_count sheet
+      target_below = rw place (successors_below sheet p _ (member_at (sheet_successors sheet p) k among))
 
-      pub followed : (second : Bool) (t'' : TableSlices) (r : InstructionSuccessors) → NextEnsures same next 1 t' row t'' second → r ≡ with_news next first second
-          → SuccessorsEnsures same (sheet_successors sheet p) t row t'' r
-      unfolding NextEnsures SuccessorsEnsures
-      followed second t'' r n₂ is rows copy l c =
-          let one = first_lie rows copy l c in
-          let two = (rw (ap (λ (x : InstructionSuccessors). successor_at x 1) e ∙ successor_second (sheet_successors sheet p)) at (n₂ (rows_after same copy (at (sheet_successors sheet p) 0) rows) copy one.0 c)) in (
-            rw (rows_both same copy (sheet_successors sheet p) (list_length sheet p) rows) at two.0,
-            rw (is, e, one.1, two.1) (news_both same copy (sheet_successors sheet p) (list_length sheet p) rows),
-          )
+      module _ (same : ℕ → ℕ → ℕ → ℕ → Bool) (t' : TableSlices) (told : InstructionSuccessors)
+          (s : SuccessorsEnsures same (take k (sheet_successors sheet p)) t row t' told)
+          (hp : length t'.present ≡ length t.present) (hk : length t'.kinds ≡ length t.kinds) (hv : length t'.values ≡ length t.values) where
+        pub visit_asks : JoinRequires (get_or (take next.len next.pcs) k 0) t' row
+        unfolding SuccessorsEnsures
+        visit_asks = let v = f.visitable in record {
+          below = rw (hp, f.present_length) target_below;
+          visitable = record {
+            row_values_length = v.row_values_length;
+            kinds_length = rw (hk, hp) v.kinds_length;
+            values_length = rw (hv, hp) v.values_length;
+            rows = rows_after same v.copy (take k (sheet_successors sheet p)) v.rows;
+            copy = v.copy;
+            rows_lie = (s v.rows v.copy v.rows_lie v.copy_lies).0;
+            copy_lies = v.copy_lies;
+          };
+        }
+
+        pub room_for_one : told.len < 2
+        unfolding SuccessorsEnsures as_record
+        room_for_one =
+            let v = f.visitable in
+            let n = ap (λ (x : InstructionSuccessors). x.len) (s v.rows v.copy v.rows_lie v.copy_lies).1 in
+            omega (arith, n, news_length same v.copy (take k (sheet_successors sheet p)) v.rows, length-take k (sheet_successors sheet p), among, list_length sheet p)
+
+        module _ (t'' : TableSlices) (fresh : Bool) (j : JoinEnsures same (get_or (take next.len next.pcs) k 0) t' row t'' fresh) where
+          more : (told' : InstructionSuccessors) → Told fresh (get_or (take next.len next.pcs) k 0) told told'
+              → SuccessorsEnsures same (take (k + 1) (sheet_successors sheet p)) t row t'' told'
+          more told' w =
+              rw (take_more (sheet_successors sheet p) k 0 among, ← place)
+              (one_more same t row (take k (sheet_successors sheet p)) (get_or (take next.len next.pcs) k 0) t' t'' told told' fresh s j visit_asks.below w)
+
+          pub had_news : fresh ≡ true → (told' : InstructionSuccessors)
+              → ((targets : List ℕ) → told ≡ as_record targets → told' ≡ as_record (targets ++ (get_or (take next.len next.pcs) k 0 ∷ [])))
+              → SuccessorsEnsures same (take (k + 1) (sheet_successors sheet p)) t row t'' told'
+          had_news e told' w = more told' (rw e w)
+
+          pub had_none : fresh ≡ false → (told' : InstructionSuccessors) → told' ≡ told
+              → SuccessorsEnsures same (take (k + 1) (sheet_successors sheet p)) t row t'' told'
+          had_none e told' z = more told' (rw e (λ targets i. rw (append-nil targets) (z ∙ i)))
+
+    pub all_visited : (same : ℕ → ℕ → ℕ → ℕ → Bool) (k : ℕ) (t' : TableSlices) (told : InstructionSuccessors)
+        → SuccessorsEnsures same (take k (sheet_successors sheet p)) t row t' told → length (take next.len next.pcs) ≤ k → SuccessorsEnsures same (sheet_successors sheet p) t row t' told
+    all_visited same k t' told s h = rw (take_all k (sheet_successors sheet p) (rw entries at h)) at s

@@ -1,6 +1,6 @@
 -- What a visit asks, and what it makes of the rows that lie in the lent slices.
 -- Assumes nothing.
-use Rattle.std.specs.Prelude.{◌≡◌, Bool, List, ℕ, ◌*◌, ◌≤◌, ◌<◌, length, get_or}
+use Rattle.std.specs.Prelude.{◌≡◌, Bool, List, ℕ, ◌*◌, ◌≤◌, ◌<◌, length}
 use Rattle.std.proofs.Math.Option.{Option}
 use Rattle.model.specs.Fact.{Row}
 use Rattle.model.specs.Run.{row_at, news}
@@ -10,7 +10,7 @@ use Rattle.model.specs.Tables.{TableSlices, RowsLie, RowSlices, RowLies}
 use Rattle.sheet.specs.Measured.{Accepted}
 use Rattle.sheet.specs.declared.Sizes.{Sizes}
 use Rattle.model.specs.declared.InstructionSuccessors.{InstructionSuccessors}
-use Rattle.fixpoint_step.specs.News.{rows_visited, rows_after, news_of, first_news, successor_at}
+use Rattle.fixpoint_step.specs.News.{rows_visited, rows_after, news_of}
 
 -- Tables in which rows lie, and a row to copy or to join. (The lengths follow from what lies there; arithmetic reads them.)
 pub record Visitable (t : TableSlices) (row : RowSlices) : Type 0 where
@@ -32,18 +32,6 @@ unfoldable pub JoinEnsures : (ℕ → ℕ → ℕ → ℕ → Bool) → ℕ → 
 JoinEnsures same q old row new r =
     (rows : List (Option Row)) (copy : Row) → RowsLie (length row.kinds) rows old → RowLies copy row → q < length rows
     → RowsLie (length row.kinds) (rows_visited same copy q rows) new × (r ≡ news same (row_at rows q) copy)
-
--- the k-th of at most two successors: if there is one, it is an instruction
-pub record NextRequires (successors : InstructionSuccessors) (k : ℕ) (t : TableSlices) (row : RowSlices) : Type 0 where
-  pub among : k < 2
-  pub below : k < successors.len → get_or successors.pcs k 0 < length t.present
-  pub visitable : Visitable t row
-
--- What its visit makes of whatever rows lie there.
-unfoldable pub NextEnsures : (ℕ → ℕ → ℕ → ℕ → Bool) → InstructionSuccessors → ℕ → TableSlices → RowSlices → TableSlices → Bool → Type 0
-NextEnsures same successors k old row new r =
-    (rows : List (Option Row)) (copy : Row) → RowsLie (length row.kinds) rows old → RowLies copy row
-    → RowsLie (length row.kinds) (rows_after same copy (successor_at successors k) rows) new × (r ≡ first_news same copy (successor_at successors k) rows)
 
 -- all successors of p
 pub record SuccessorsRequires (sheet : List ℕ) (sizes : Sizes) (p : ℕ) (t : TableSlices) (row : RowSlices) : Type 0 where

@@ -1,11 +1,10 @@
 // The successors of an instruction, at most two.
-ghost use Rattle.std.specs.Prelude.{◌≡◌};
+ghost use Rattle.std.specs.Prelude.{◌≡◌, ◌<◌, List, [], ◌∷◌, ◌++◌, ℕ};
 ghost use Rattle.model.specs.Promise.{lent_rows};
-ghost use Rattle.model.specs.Successors.{sheet_successors};
+ghost use Rattle.model.specs.Successors.{as_record, sheet_successors};
 ghost use Rattle.model.specs.Tables.{row_slices, table_slices};
 ghost use Rattle.sheet_layouts.specs.Classes.{equal_by};
-ghost use Rattle.fixpoint_step.specs.News.{with_news};
-ghost use Rattle.fixpoint_step.specs.Visits.{NextRequires, NextEnsures, SuccessorsRequires, SuccessorsEnsures};
+ghost use Rattle.fixpoint_step.specs.Visits.{SuccessorsRequires, SuccessorsEnsures};
 
 use crate::visits::join_into;
 use cfg::instruction_successors;
@@ -13,57 +12,16 @@ use model::{AnalysisKind, InstructionSuccessors};
 use sheet::Sizes;
 use sheet_fields::instruction_at;
 
-// The k-th successor, if there is one: whether its row is new or changed.
-fn join_next(
-    which: AnalysisKind,
-    classes: &[u16],
-    successors: InstructionSuccessors,
-    k: usize,
-    present: &mut [u8],
-    kinds: &mut [u8],
-    values: &mut [u64],
-    row_kinds: &[u8],
-    row_values: &[u64],
-) -> bool
-    requires { NextRequires successors k (table_slices present.old kinds.old values.old) (row_slices row_kinds.now row_values.now) }
-    ensures { let t = lent_rows present kinds values in
-        let row = row_slices row_kinds.now row_values.now in
-        NextEnsures (equal_by which classes.now) successors k t.entry row t.exit result }
+// One more that had news.
+fn with(news: InstructionSuccessors, q: usize) -> InstructionSuccessors
+    requires { news.len < 2 }
+    ensures { (targets : List ℕ) → news ≡ as_record targets → result ≡ as_record (targets ++ (q ∷ [])) }
 {
-    let len = successors.len as usize;
-    if k < len {
-        let pcs = successors.pcs;
-        let q = pcs[k];
-        return join_into(
-            which, classes, q, present, kinds, values, row_kinds, row_values,
-        );
-    }
-    false
-}
-
-// Those of the successors that had news, in order.
-fn with_news(successors: InstructionSuccessors, first: bool, second: bool) -> InstructionSuccessors
-    ensures { result ≡ with_news successors first second }
-{
-    let pcs = successors.pcs;
-    if first {
-        if second {
-            return successors;
-        }
-        return InstructionSuccessors {
-            pcs: [pcs[0], 0],
-            len: 1,
-        };
-    }
-    if second {
-        return InstructionSuccessors {
-            pcs: [pcs[1], 0],
-            len: 1,
-        };
-    }
+    let mut pcs = news.pcs;
+    pcs[news.len as usize] = q;
     InstructionSuccessors {
-        pcs: [0, 0],
-        len: 0,
+        pcs,
+        len: news.len + 1,
     }
 }
 
@@ -86,11 +44,17 @@ pub fn visit_successors(
         SuccessorsEnsures (equal_by which classes.now) (sheet_successors sheet.now p) t.entry row t.exit result }
 {
     let next = instruction_successors(sizes.code_count, p, instruction_at(sheet, p));
-    let first = join_next(
-        which, classes, next, 0, present, kinds, values, row_kinds, row_values,
-    );
-    let second = join_next(
-        which, classes, next, 1, present, kinds, values, row_kinds, row_values,
-    );
-    with_news(next, first, second)
+    let mut news = InstructionSuccessors {
+        pcs: [0, 0],
+        len: 0,
+    };
+    let targets = &next.pcs[..next.len as usize];
+    for &q in targets {
+        if join_into(
+            which, classes, q, present, kinds, values, row_kinds, row_values,
+        ) {
+            news = with(news, q);
+        }
+    }
+    news
 }

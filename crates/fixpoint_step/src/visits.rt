@@ -5,7 +5,6 @@ ghost use Rattle.sheet_layouts.specs.Classes.{equal_by};
 ghost use Rattle.fixpoint_step.specs.Visits.{JoinRequires, JoinEnsures};
 
 use join::join_row;
-use memory::{copy_u8, copy_u64};
 use model::AnalysisKind;
 
 // "without a row, it gets the copy; with one, the copy is joined into it": whether "the row is new or a kind or value changed".
@@ -28,17 +27,18 @@ pub fn join_into(
     let at = q * s;
     let end = at + s;
     if present[q] == 0 {
-        copy_u8(row_kinds, &mut kinds[at..end]);
-        copy_u64(row_values, &mut values[at..end]);
+        kinds[at..end].copy_from_slice(row_kinds);
+        values[at..end].copy_from_slice(row_values);
         present[q] = 1;
-        return true;
+        true
+    } else {
+        join_row(
+            which,
+            classes,
+            &mut kinds[at..end],
+            &mut values[at..end],
+            row_kinds,
+            row_values,
+        )
     }
-    join_row(
-        which,
-        classes,
-        &mut kinds[at..end],
-        &mut values[at..end],
-        row_kinds,
-        row_values,
-    )
 }

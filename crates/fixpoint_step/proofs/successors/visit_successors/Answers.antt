@@ -1,9 +1,9 @@
--- `visit_successors` meets its contract: the first successor, then the second.
+-- `visit_successors` meets its contract: the successors are visited one after the other.
 -- Assumes nothing.
-use mathlib.Core.Path.{◌≡◌}
-use Rattle.model.specs.Successors.{sheet_successors, as_record}
-use Rattle.fixpoint_step.proofs.TwoSuccessors.{next_is, following_inside, following_code, first_next, second_next, followed}
+use mathlib.Core.Path.{◌∙◌}
+use Rattle.fixpoint_step.proofs.TwoSuccessors.{following_inside, following_code, none_visited, few_next, visit_asks, room_for_one, had_news, had_none, all_visited}
 use Rattle.fixpoint_step.proofs.successors.visit_successors.Goals as goal
+use Rattle.fixpoint_step.proofs.successors.visit_successors.Goals.{then-join_into, else-join_into}
 
 pub instruction_at-requires : goal.instruction_at-requires
 instruction_at-requires c = following_inside c.requires
@@ -11,13 +11,31 @@ instruction_at-requires c = following_inside c.requires
 pub instruction_successors-next-requires : goal.instruction_successors-next-requires
 instruction_successors-next-requires c = following_code c.requires
 
-pub join_next-first-requires : goal.join_next-first-requires
-join_next-first-requires c = first_next c.requires _ (let came : c.instruction_successors-next.result ≡ as_record (sheet_successors c.args.sheet.now c.args.p) = next_is _ _ _ c.requires.accepted c.instruction_at.ensures c.instruction_successors-next.ensures in came)
+pub loop-q-init : goal.loop-q-init
+loop-q-init c = none_visited _ _ _
 
-pub join_next-second-requires : goal.join_next-second-requires
-join_next-second-requires c =
-    second_next c.requires _ (let came : c.instruction_successors-next.result ≡ as_record (sheet_successors c.args.sheet.now c.args.p) = next_is _ _ _ c.requires.accepted c.instruction_at.ensures c.instruction_successors-next.ensures in came) _ _ _ c.join_next-first.ensures c.join_next-first.auto.present c.join_next-first.auto.kinds c.join_next-first.auto.values
+pub shared_ref_as_front-targets : goal.shared_ref_as_front-targets
+shared_ref_as_front-targets c = few_next c.requires c.instruction_at.ensures c.instruction_successors-next.ensures
+
+pub join_into-requires : goal.join_into-requires
+join_into-requires c =
+    visit_asks c.requires c.instruction_at.ensures c.instruction_successors-next.ensures c.loop-q-test.true _ _ _ c.loop-q.invariant c.loop-q.auto.present c.loop-q.auto.kinds c.loop-q.auto.values
+
+pub with-news-requires : goal.with-news-requires
+with-news-requires c =
+    room_for_one c.requires c.instruction_at.ensures c.instruction_successors-next.ensures c.loop-q-test.true _ _ _ c.loop-q.invariant c.loop-q.auto.present c.loop-q.auto.kinds c.loop-q.auto.values
+
+pub loop-q-preserved : goal.loop-q-preserved
+loop-q-preserved c =
+    elim c.if-join_into.branch [
+      | then-join_into w ↦
+          had_news c.requires c.instruction_at.ensures c.instruction_successors-next.ensures c.loop-q-test.true _ _ _ c.loop-q.invariant c.loop-q.auto.present c.loop-q.auto.kinds c.loop-q.auto.values
+          _ _ c.join_into.ensures w.if-join_into.true _ (λ targets e. w.news-is ∙ w.with-news.ensures targets e)
+      | else-join_into w ↦
+          had_none c.requires c.instruction_at.ensures c.instruction_successors-next.ensures c.loop-q-test.true _ _ _ c.loop-q.invariant c.loop-q.auto.present c.loop-q.auto.kinds c.loop-q.auto.values
+          _ _ c.join_into.ensures w.if-join_into.false _ w.news-is
+    ]
 
 pub returns : goal.returns
 returns c =
-    followed c.requires _ (let came : c.instruction_successors-next.result ≡ as_record (sheet_successors c.args.sheet.now c.args.p) = next_is _ _ _ c.requires.accepted c.instruction_at.ensures c.instruction_successors-next.ensures in came) _ _ _ c.join_next-first.ensures _ _ _ c.join_next-second.ensures c.with_news.ensures
+    all_visited c.requires c.instruction_at.ensures c.instruction_successors-next.ensures _ _ _ _ c.loop-q.invariant c.loop-q-test.false
