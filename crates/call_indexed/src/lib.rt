@@ -10,7 +10,6 @@ ghost use Rattle.memory.specs.Front.{Holds};
 ghost use Rattle.sheet.specs.Measured.{Accepted};
 ghost use Rattle.sheet_layouts.specs.Classes.{Classes};
 
-use budget::refuses;
 use call_order::answer_of;
 use call_values::analyze_values;
 use model::{AnalysisKind, Answer, VerifierResources};
@@ -97,7 +96,7 @@ pub fn analyze_indexed(
         work_list,
     );
     let outcome = containers.outcome;
-    let refused = refuses(outcome);
+    let refused = outcome.is_err();
     clear_table_if(
         refused,
         constant_slots,

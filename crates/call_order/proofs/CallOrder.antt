@@ -1,5 +1,6 @@
 -- "Order: flow graph, dependencies, constants, index, containers.": the three analyses, as the code makes them.
 -- Assumes nothing.
+use Rattle.std.specs.Prelude.{Err, is_err}
 use mathlib.Core.Path.{◌≡◌, refl, sym, ap, ◌∙◌}
 use mathlib.Core.Bool.{Bool, true, false}
 use mathlib.Core.List.{List}
@@ -17,8 +18,7 @@ use Rattle.model.specs.declared.Counts.{Counts}
 use Rattle.finality.proofs.Lengths.{SameLengths}
 use Rattle.sheet.specs.declared.Sizes.{Sizes}
 use Rattle.sheet.specs.Measured.{Accepted}
-use Rattle.budget.specs.Outcome.{as_spent, refusing, leaves, leaves_of, refused_by}
-use Rattle.budget.specs.declared.Outcome.{Outcome}
+use Rattle.budget.specs.Outcome.{Outcome, as_spent, leaves, leaves_of, refused_by}
 use Rattle.stage_memory.specs.Stage.{zero_scratch, table_if}
 use Rattle.closure_edges.specs.GraphCharges.{charge_graph}
 use Rattle.stage_memory.specs.Staged.{no_counts, staged, staged_by}
@@ -43,7 +43,7 @@ use Rattle.budget.proofs.Outcomes.{Left, covered, stopped, left_by}
 module _ (sheet : List ℕ) {sizes : Sizes} (accepted : Accepted sheet sizes) (budget : VerifierResources) (C I : Table) (W : Scratch) (lk lv lk' lv' : List ℕ)
     (begun : Outcome) {o₁ o₂ : Outcome} {n₁ n₂ : Counts} {w w₁ w₂ : Scratch} {c₁ i₁ : Table} (wz : w ≡ zero_scratch W) (graph : as_spent begun ≡ charge_graph sheet budget)
     (e₁ : StageEnds Constant sheet (length_table lk lv) begun C w o₁ (staged n₁ c₁ w₁))
-    (lengths : refusing o₁ ≡ false → (x : Analysed) → Stored sheet x n₁ c₁ → Lengthened sheet x lk lv lk' lv')
+    (lengths : is_err o₁ ≡ false → (x : Analysed) → Stored sheet x n₁ c₁ → Lengthened sheet x lk lv lk' lv')
     (e₂ : StageEnds IndexCheck sheet (length_table lk' lv') o₁ I w₁ o₂ (staged n₂ i₁ w₂))
     (same : SameLengths c₁ C) where
   c_zero : w₁ ≡ zero_scratch W
@@ -62,24 +62,23 @@ module _ (sheet : List ℕ) {sizes : Sizes} (accepted : Accepted sheet sizes) (b
   unfolding values ◌>>=◌ ◌>>◌
   values_twice = rw constants_first (continue_twice _ _ (charge_graph sheet budget))
 
-  both_ended : (x y : Analysed) → refusing o₂ ≡ false → staged n₁ c₁ w₁ ≡ staged_by C w x → staged n₂ i₁ w₂ ≡ staged_by I w₁ y
-      → valued (counts_unless (refusing o₂) n₁) n₂ (table_if (refusing o₂) c₁) i₁ w₂ ≡ valued_by C I W (value_facts x y)
+  both_ended : (x y : Analysed) → is_err o₂ ≡ false → staged n₁ c₁ w₁ ≡ staged_by C w x → staged n₂ i₁ w₂ ≡ staged_by I w₁ y
+      → valued (counts_unless (is_err o₂) n₁) n₂ (table_if (is_err o₂) c₁) i₁ w₂ ≡ valued_by C I W (value_facts x y)
   unfolding staged_by valued_by counts_unless table_if
   both_ended x y goes p q = rw (goes, (staged_same p).0, (staged_same p).1, (staged_same q).0, (staged_same q).1, i_zero)
 
-  one_refused : refusing o₂ ≡ true → staged n₂ i₁ w₂ ≡ staged no_counts (zero_table I) (zero_scratch w₁)
-      → valued (counts_unless (refusing o₂) n₁) n₂ (table_if (refusing o₂) c₁) i₁ w₂ ≡ no_values C I W
+  one_refused : is_err o₂ ≡ true → staged n₂ i₁ w₂ ≡ staged no_counts (zero_table I) (zero_scratch w₁)
+      → valued (counts_unless (is_err o₂) n₁) n₂ (table_if (is_err o₂) c₁) i₁ w₂ ≡ no_values C I W
   unfolding no_values counts_unless table_if
   one_refused quit q = rw (quit, zero_same c₁ C same, (staged_same q).0, (staged_same q).1, i_zero)
 
-  pub values_promise : {constant : Counts} {c₂ : Table} {z : Bool} → z ≡ refusing o₂ → constant ≡ counts_unless z n₁ → c₂ ≡ table_if z c₁
+  pub values_promise : {constant : Counts} {c₂ : Table} {z : Bool} → z ≡ is_err o₂ → constant ≡ counts_unless z n₁ → c₂ ≡ table_if z c₁
       → some (leaves o₂ (valued constant n₂ c₂ i₁ w₂)) ≡ leaves_of (valued_by C I W) (no_values C I W) (values sheet (room_in sheet C W) (room_in sheet I W) budget)
-  unfolding refusing
   values_promise p q r =
       rw (q, r, p, ← values_twice) (then_left value_facts (staged_by C w) _ (staged_by I w₁) _ (valued_by C I W) (no_values C I W) _
       (λ x. stage IndexCheck sheet (room_in sheet I W) (length_facts sheet x)) _ e₁ e₂
       (λ x left h o m. ap (λ (s : _). s left) (index_same sheet (room_cleared (code_count sheet) I W c_zero) (length_table lk' lv') (length_facts sheet x)
-      (lengths (ap refusing o) x (output_stored sheet accepted C w (length_table lk lv) begun x left h m)).read)) both_ended one_refused)
+      (lengths (ap (λ (r : Outcome). is_err r) o) x (output_stored sheet accepted C w (length_table lk lv) begun x left h m)).read)) both_ended one_refused)
 
 -- ---- what the first two left
 
@@ -136,7 +135,7 @@ module _ (sheet : List ℕ) {sizes : Sizes} (accepted : Accepted sheet sizes) (b
   unfolding result_of call_end lent_after scratch_zero zero_scratch answer answer_of refused_by
   answered spent {o} {n₁} {n₂} {n₃} {l} e = go (left_by _ _ spent e)
     where
-      quit : (refusal : Refusal) (left : VerifierResources) → spent ≡ stop refusal left → o ≡ refused_by refusal left → l ≡ zero_all
+      quit : (refusal : Refusal) (left : VerifierResources) → spent ≡ stop refusal left → o ≡ Err (refused_by refusal left) → l ≡ zero_all
           → some (call_result (answer_of o n₁ n₂ n₃) l) ≡ result_of budget L (call_end spent)
       quit (over_budget stage requested remaining) left h p q = rw (h, p, q)
       quit no_room left h p q = rw (h, p, q)
@@ -163,18 +162,18 @@ module _ (sheet : List ℕ) {sizes : Sizes} (accepted : Accepted sheet sizes) (b
     w₃_zero : w₃ ≡ zero_scratch W
     w₃_zero = still_clear K W w₂_zero _ e₃
 
-    all_ended : (v : ValueFacts) (k : Analysed) → refusing o₃ ≡ false → valued n₁ n₂ c₂ i₂ w₂ ≡ valued_by C I W v → staged n₃ k₁ w₃ ≡ staged_by K w₂ k
-        → called n₁ n₂ n₃ (lent (table_if (refusing o₃) c₂) (table_if (refusing o₃) i₂) k₁ w₃) ≡ filled_by (all_facts v k)
+    all_ended : (v : ValueFacts) (k : Analysed) → is_err o₃ ≡ false → valued n₁ n₂ c₂ i₂ w₂ ≡ valued_by C I W v → staged n₃ k₁ w₃ ≡ staged_by K w₂ k
+        → called n₁ n₂ n₃ (lent (table_if (is_err o₃) c₂) (table_if (is_err o₃) i₂) k₁ w₃) ≡ filled_by (all_facts v k)
     unfolding valued_by staged_by table_if
     all_ended v k goes p q = rw (goes, (valued_same p).0, (valued_same p).1, (valued_same p).2, (valued_same p).3, (staged_same q).0, (staged_same q).1, w₃_zero)
 
-    any_refused : refusing o₃ ≡ true → staged n₃ k₁ w₃ ≡ staged no_counts (zero_table K) (zero_scratch w₂)
-        → called n₁ n₂ n₃ (lent (table_if (refusing o₃) c₂) (table_if (refusing o₃) i₂) k₁ w₃) ≡ called n₁ n₂ n₃ zero_all
+    any_refused : is_err o₃ ≡ true → staged n₃ k₁ w₃ ≡ staged no_counts (zero_table K) (zero_scratch w₂)
+        → called n₁ n₂ n₃ (lent (table_if (is_err o₃) c₂) (table_if (is_err o₃) i₂) k₁ w₃) ≡ called n₁ n₂ n₃ zero_all
     unfolding table_if
     any_refused quit q = rw (quit, zero_same c₂ C same, zero_same i₂ I same', (staged_same q).1, w₃_zero)
 
     -- what `analyze_indexed` promises, from what the functions that it calls promise
-    pub call_promise : {given : Answer} {c₃ i₃ : Table} {z : Bool} → z ≡ refusing o₃ → c₃ ≡ table_if z c₂ → i₃ ≡ table_if z i₂ → given ≡ answer_of o₃ n₁ n₂ n₃
+    pub call_promise : {given : Answer} {c₃ i₃ : Table} {z : Bool} → z ≡ is_err o₃ → c₃ ≡ table_if z c₂ → i₃ ≡ table_if z i₂ → given ≡ answer_of o₃ n₁ n₂ n₃
         → some (call_result given (lent c₃ i₃ k₁ w₃)) ≡ analyzed sheet budget (lent C I K W)
     call_promise p q r a =
         rw (a, q, r, p, analyzed_is, ← values_first) (answered _ (then_left all_facts (valued_by C I W) _ (staged_by K w₂) _ filled_by _ _

@@ -23,8 +23,7 @@ use Rattle.sheet.proofs.SizeNames.{counted}
 use Rattle.sheet.proofs.SizeLimits.{limited}
 use Rattle.sheet_layouts.specs.Classes.{Classes}
 use Rattle.fixpoint_step.specs.Stepped.{SheetIndex}
-use Rattle.budget.specs.Outcome.{as_spent, leaves, leaves_of}
-use Rattle.budget.specs.declared.Outcome.{Outcome}
+use Rattle.budget.specs.Outcome.{Outcome, as_spent, leaves, leaves_of}
 use Rattle.stage_memory.specs.Stage.{zero_scratch}
 use Rattle.stage_memory.specs.Staged.{ScratchZero, no_counts, StageLeft, staged, staged_by}
 use Rattle.call_order.proofs.PartAfterPart.{left_same}

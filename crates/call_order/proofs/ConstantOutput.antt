@@ -1,5 +1,6 @@
 -- The output that the constant analysis leaves holds its tables.
 -- Assumes nothing.
+use Rattle.std.specs.Prelude.{is_err}
 use mathlib.Core.Path.{◌≡◌, refl, sym, ap, ◌∙◌, subst}
 use mathlib.Core.Bool.{Bool, false, false≢true}
 use mathlib.Core.List.{List}
@@ -26,14 +27,12 @@ use Rattle.sheet.specs.Measured.{Accepted}
 use Rattle.sheet.proofs.AcceptedSheet.{measured}
 use Rattle.sheet.proofs.SizeNames.{counted}
 use Rattle.sheet.proofs.SizeLimits.{limited}
-use Rattle.budget.specs.Outcome.{as_spent, refusing}
-use Rattle.budget.specs.declared.Outcome.{Outcome}
+use Rattle.budget.specs.Outcome.{Outcome, as_spent}
 use Rattle.budget.proofs.Outcomes.{Left, covered, stopped, left_by}
 use Rattle.stage_prepare.proofs.ClosureSlots.{few_below}
 use Rattle.stage_memory.specs.Stage.{zero_scratch}
 use Rattle.stage_memory.specs.Staged.{no_counts, staged, staged_by}
 use Rattle.call_order.specs.Stored.{Stored}
-use Rattle.call_order.proofs.PartAfterPart.{refusing_refused}
 use Rattle.call_order.proofs.ClearedOutputs.{room_in, StageEnds, staged_same}
 
 module _ (sheet : List ℕ) {sizes : Sizes} (accepted : Accepted sheet sizes) (old : Table) (w : Scratch) (f : ℕ → Fact) where
@@ -87,10 +86,10 @@ module _ (sheet : List ℕ) {sizes : Sizes} (accepted : Accepted sheet sizes) (o
         (subst (λ (g : Counts). StoredIn x g (filled_table (tables x) old)) (sym same.0) (filled_stored parts.rest x after parts.after))
 
     -- an outcome that is no refusal tells that they are there
-    pub constants_stored : {o : Outcome} → StageEnds Constant sheet f before old w o (staged given output w') → refusing o ≡ false → (x : Analysed) × StoredIn x given output
+    pub constants_stored : {o : Outcome} → StageEnds Constant sheet f before old w o (staged given output w') → is_err o ≡ false → (x : Analysed) × StoredIn x given output
     constants_stored {o} e goes = go (left_by (staged_by old w) _ _ e)
       where
         go : Left (staged_by old w) (staged no_counts (zero_table old) (zero_scratch w)) (continue (λ _. stage Constant sheet enough f) (as_spent before)) o (staged given output w')
             → (x : Analysed) × StoredIn x given output
         go (covered x left h is m) = (x, output_stored x left h m)
-        go (stopped refusal left h is m) = absurd (false≢true (sym goes ∙ ap refusing is ∙ refusing_refused refusal left))
+        go (stopped refusal left h is m) = absurd (false≢true (sym goes ∙ ap (λ (r : Outcome). is_err r) is))

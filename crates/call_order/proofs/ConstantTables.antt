@@ -7,7 +7,10 @@ use Prim.Native.Nat.{ℕ, ◌*◌, ◌^◌, ◌≤◌, ◌<◌}
 use native.Mathlib.Nat.{mul-le-mul_right}
 use native.Mathlib.Omega.{arith}
 use lib.ListN.{length, take}
-use Rattle.model.specs.Call.{table}
+use mathlib.Core.Bool.{Bool, false}
+use Rattle.std.specs.Prelude.{is_err}
+use Rattle.budget.specs.Outcome.{Outcome}
+use Rattle.model.specs.Call.{Table, table}
 use Rattle.model.specs.Sheet.{code_count, instruction}
 use Rattle.model.specs.Fact.{Row}
 use Rattle.model.specs.Analyses.{Analysed, length_facts}
@@ -61,6 +64,11 @@ module _ {sheet : List ℕ} {a : Analysed} {given : Counts} {slots present kinds
     values_are = (stores a.rows stored_ended).1 ∙ ap (λ (xs : List ℕ). length_values sheet xs a.rows lv) slots_are;
     read = λ pc below op. reads a (sym slots_are) stored_ended pc below op;
   }
+
+-- the output of an analysis that the code finds not refused
+pub stored_there : {sheet : List ℕ} {given : Counts} {t : Table} (before : Outcome) {refused : Bool} → (is_err before ≡ false → (a : Analysed) × Stored sheet a given t) → refused ≡ is_err before → refused ≡ false
+    → (a : Analysed) × Stored sheet a given t
+stored_there before stored test goes = stored (sym test ∙ goes)
 
 pub stored_cells_fit : (n s : ℕ) → n ≤ 4096 → s ≤ 65535 → n * s < 2 ^ 64
 stored_cells_fit n s h k = omega (arith, mul-le-mul_right s h)

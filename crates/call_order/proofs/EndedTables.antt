@@ -13,11 +13,15 @@ use Rattle.model.specs.Run.{row_at}
 use Rattle.model.specs.Lookup.{place}
 use Rattle.model.specs.Tables.{present_byte, row_cells, cells, cell_of, table_slices}
 use Rattle.model.specs.Analyses.{row_fact}
-use Rattle.model.specs.declared.FactCell.{FactCell}
 use Rattle.finality.proofs.Cells.{length_present, present_at, length_cells, cells_part}
 use Rattle.fact_row.proofs.Facts.{fact_cell}
 use Rattle.fact_row.proofs.Places.{fact_placed, fact_untracked, place_inside}
 use Rattle.call_order.specs.Lengths.{EndedRows}
+
+-- "Kind 0 Unknown .., value 0"
+pub unknown_is : fact_cell 0 0 ≡ cell_of unknown
+unfolding cell_of kind value
+unknown_is = refl
 
 module _ {slots : List ℕ} {rows : List (Option Row)} {present kinds values : List ℕ} (e : EndedRows slots rows (table_slices present kinds values)) where
   pub rows_long : length rows ≡ length present
@@ -45,21 +49,21 @@ module _ {slots : List ℕ} {rows : List (Option Row)} {present kinds values : L
       ∙ get_or-map f r j unknown
 
   module _ (pc slot : ℕ) where
-    pub absent_fact : get_or present pc 0 ≡ 0 → {r : FactCell} → r ≡ cell_of unknown → r ≡ cell_of (row_fact slots (row_at rows pc) slot)
+    pub absent_fact : get_or present pc 0 ≡ 0 → fact_cell 0 0 ≡ cell_of (row_fact slots (row_at rows pc) slot)
     unfolding present_byte row_fact
-    absent_fact h {r} u = go (row_at rows pc) (sym (present_at rows pc) ∙ ap (λ (l : List ℕ). get_or l pc 0) (sym e.lie.present_are) ∙ h)
+    absent_fact h = go (row_at rows pc) (sym (present_at rows pc) ∙ ap (λ (l : List ℕ). get_or l pc 0) (sym e.lie.present_are) ∙ h)
       where
-        go : (o : Option Row) → present_byte o ≡ 0 → r ≡ cell_of (row_fact slots o slot)
-        go none p = u
+        go : (o : Option Row) → present_byte o ≡ 0 → fact_cell 0 0 ≡ cell_of (row_fact slots o slot)
+        go none p = unknown_is
         go (some row) p = let z : ◌≡◌ {A = ℕ} 0 1 = sym p in absurd (omega arith)
 
-    pub untracked_fact : place slots slot ≡ none → {r : FactCell} → r ≡ cell_of unknown → r ≡ cell_of (row_fact slots (row_at rows pc) slot)
+    pub untracked_fact : place slots slot ≡ none → fact_cell 0 0 ≡ cell_of (row_fact slots (row_at rows pc) slot)
     unfolding row_fact
-    untracked_fact h {r} u = go (row_at rows pc)
+    untracked_fact h = go (row_at rows pc)
       where
-        go : (o : Option Row) → r ≡ cell_of (row_fact slots o slot)
-        go none = u
-        go (some row) = rw (fact_untracked slots row slot h) u
+        go : (o : Option Row) → fact_cell 0 0 ≡ cell_of (row_fact slots o slot)
+        go none = unknown_is
+        go (some row) = rw (fact_untracked slots row slot h) unknown_is
 
     pub tracked_fact_lem : pc < length present → (get_or present pc 0 ≡ 0 → ⊥) → {j : ℕ} → place slots slot ≡ some j
         → fact_cell (get_or kinds (pc * length slots + j) 0) (get_or values (pc * length slots + j) 0) ≡ cell_of (row_fact slots (row_at rows pc) slot)

@@ -1,13 +1,12 @@
 -- A part that spends after another, as the code makes it: by the outcome of the first.
 -- Assumes nothing.
+use Rattle.std.specs.Prelude.{Err, Ok, is_err}
 use mathlib.Core.Path.{◌≡◌, refl, ap, ◌∙◌}
 use mathlib.Core.Bool.{true, false}
 use mathlib.Core.Option.{some}
 use Rattle.model.specs.Charges.{Refusal, over_budget, no_room, Spent, ok, stop, unfinished, Metered, give, continue}
 use Rattle.model.specs.declared.VerifierResources.{VerifierResources}
-use Rattle.budget.specs.Outcome.{refused_by, as_spent, refusing, Leaves, leaves, leaves_of}
-use Rattle.budget.specs.declared.Outcome.{Outcome}
-use Rattle.budget.specs.declared.Outcome.TheVariants.{Covered}
+use Rattle.budget.specs.Outcome.{Outcome, refused_by, as_spent, Leaves, leaves, leaves_of}
 use Rattle.budget.proofs.Outcomes.{Left, covered, stopped, left_by, stopped_spent}
 
 -- three parts, however they are put together
@@ -16,11 +15,6 @@ unfolding continue
 continue_twice f g (ok a left) = refl
 continue_twice f g (stop refusal left) = refl
 continue_twice f g unfinished = refl
-
-pub refusing_refused : (refusal : Refusal) (left : VerifierResources) → refusing (refused_by refusal left) ≡ true
-unfolding refusing refused_by
-refusing_refused (over_budget stage requested remaining) left = refl
-refusing_refused no_room left = refl
 
 -- what is left the same, whatever the part comes to
 pub left_same : {A M X : Type 0} (given : A → M) (refused : M) (p : M → X) (x : X) → ((a : A) → p (given a) ≡ x) → p refused ≡ x → (spent : Spent A) {outcome : Outcome} {memory : M}
@@ -32,28 +26,28 @@ left_same given refused p x f g spent {outcome} {memory} e = go (left_by given r
     go (stopped refusal left h o m) = ap p m ∙ g
 
 refused_left : {A M : Type 0} (given : A → M) (refused : M) (refusal : Refusal) (left : VerifierResources) {outcome : Outcome} {memory : M}
-    → some (leaves outcome memory) ≡ leaves_of given refused (stop refusal left) → (outcome ≡ refused_by refusal left) × (memory ≡ refused)
+    → some (leaves outcome memory) ≡ leaves_of given refused (stop refusal left) → (outcome ≡ Err (refused_by refusal left)) × (memory ≡ refused)
 unfolding leaves_of
 refused_left {M = M} given refused refusal left {outcome} {memory} e =
-    let same : leaves outcome memory ≡ leaves (refused_by refusal left) refused = cc in
+    let same : leaves outcome memory ≡ leaves (Err (refused_by refusal left)) refused = cc in
     (ap (λ (l : Leaves M). l.outcome) same, ap (λ (l : Leaves M). l.memory) same)
 
 -- Both give what they give; after a refusal all is as after a refusal of the first, since what the first gave is cleared then.
 module _ {A B P M N Q : Type 0} (pair : A → B → P) (given₁ : A → M) (refused₁ : M) (given₂ : B → N) (refused₂ : N) (given : P → Q) (refused : Q) (first : Spent A)
     (second : A → Metered B) (next : Metered B) {o₁ o₂ : Outcome} {m₁ : M} {m₂ : N} {q : Q}
     (e₁ : some (leaves o₁ m₁) ≡ leaves_of given₁ refused₁ first) (e₂ : some (leaves o₂ m₂) ≡ leaves_of given₂ refused₂ (continue (λ _. next) (as_spent o₁)))
-    (same : (a : A) (left : VerifierResources) → first ≡ ok a left → o₁ ≡ Covered left → m₁ ≡ given₁ a → next left ≡ second a left)
-    (both : (a : A) (b : B) → refusing o₂ ≡ false → m₁ ≡ given₁ a → m₂ ≡ given₂ b → q ≡ given (pair a b)) (none : refusing o₂ ≡ true → m₂ ≡ refused₂ → q ≡ refused) where
+    (same : (a : A) (left : VerifierResources) → first ≡ ok a left → o₁ ≡ Ok left → m₁ ≡ given₁ a → next left ≡ second a left)
+    (both : (a : A) (b : B) → is_err o₂ ≡ false → m₁ ≡ given₁ a → m₂ ≡ given₂ b → q ≡ given (pair a b)) (none : is_err o₂ ≡ true → m₂ ≡ refused₂ → q ≡ refused) where
   abbrev whole : Spent P
   whole = continue (λ a left. continue (λ b. give (pair a b)) (second a left)) first
 
-  stops : (refusal : Refusal) (left : VerifierResources) → whole ≡ stop refusal left → o₂ ≡ refused_by refusal left → m₂ ≡ refused₂ → some (leaves o₂ q) ≡ leaves_of given refused whole
+  stops : (refusal : Refusal) (left : VerifierResources) → whole ≡ stop refusal left → o₂ ≡ Err (refused_by refusal left) → m₂ ≡ refused₂ → some (leaves o₂ q) ≡ leaves_of given refused whole
   unfolding leaves_of
-  stops refusal left e o m = rw (e, none (ap refusing o ∙ refusing_refused refusal left) m, o)
+  stops refusal left e o m = rw (e, none (ap (λ (r : Outcome). is_err r) o) m, o)
 
   behind : (a : A) (left : VerifierResources) → first ≡ ok a left → m₁ ≡ given₁ a → Left given₂ refused₂ (second a left) o₂ m₂ → some (leaves o₂ q) ≡ leaves_of given refused whole
-  unfolding leaves_of continue give refusing
-  behind a left h m (covered b rest k o n) = rw (h, k, both a b (ap refusing o) m n, o)
+  unfolding leaves_of continue give
+  behind a left h m (covered b rest k o n) = rw (h, k, both a b (ap (λ (r : Outcome). is_err r) o) m n, o)
   behind a left h m (stopped refusal rest k o n) = stops refusal rest (rw (h, k)) o n
 
   pub then_left : some (leaves o₂ q) ≡ leaves_of given refused whole

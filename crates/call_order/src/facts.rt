@@ -11,7 +11,7 @@ ghost use Rattle.sheet.specs.Measured.{Measured};
 ghost use Rattle.call_order.specs.Lengths.{EndedRows, length_fact, length_kinds, length_values};
 
 use crate::INDEX_CHECK;
-use fact_row::{Place, checked_cell, find, unknown_cell, wide};
+use fact_row::{checked_cell, find, wide};
 use model::FactCell;
 use sheet::Sizes;
 
@@ -29,10 +29,10 @@ fn row_fact(
         → result ≡ cell_of (row_fact slots.now (row_at rows pc) slot) }
 {
     if present[pc] == 0 {
-        return unknown_cell();
+        return FactCell::UNKNOWN;
     }
-    let Place::At(j) = find(slots, slot) else {
-        return unknown_cell();
+    let Some(j) = find(slots, slot) else {
+        return FactCell::UNKNOWN;
     };
     let at = pc * slots.len() + j;
     FactCell {
@@ -58,9 +58,10 @@ fn length_fact(
 {
     let inst = sheet_fields::instruction_at(sheet, pc);
     if inst.op == INDEX_CHECK {
-        return checked_cell(row_fact(slots, present, kinds, values, pc, wide(inst.b)));
+        checked_cell(row_fact(slots, present, kinds, values, pc, wide(inst.b)))
+    } else {
+        FactCell::UNKNOWN
     }
-    unknown_cell()
 }
 
 // For each instruction the fact that `length_fact` names, in the first n places of two tables: at each IndexCheck what it makes of the
@@ -86,11 +87,9 @@ pub fn length_facts(
         → checked_from (length_table out_kinds.new out_values.new pc) ≡ checked_from (length_facts sheet.now constants pc) }
 {
     let n = sizes.code_count;
-    let mut pc = 0;
-    while pc < n {
+    for pc in 0..n {
         let cell = length_fact(sheet, sizes, slots, present, kinds, values, pc);
         out_kinds[pc] = cell.kind;
         out_values[pc] = cell.value as u16;
-        pc += 1;
     }
 }

@@ -2,10 +2,10 @@
 ghost use Rattle.std.specs.Prelude.{◌≡◌};
 ghost use Rattle.call_order.specs.Answer.{counts_unless, answer_of};
 
-use budget::Outcome;
+use budget::{Outcome, Refused};
 use model::{Answer, Counts};
 
-// The counts of an analysis: none where a later one was refused.
+// The counts of an analysis: none where a later one was refused. What C reads is the zero counts, so no Option is given in their place.
 pub fn counts_unless(refused: bool, counts: Counts) -> Counts
     ensures { result ≡ counts_unless refused counts }
 {
@@ -23,23 +23,25 @@ pub fn answer_of(outcome: Outcome, constant: Counts, index: Counts, container: C
     ensures { result ≡ answer_of outcome constant index container }
 {
     match outcome {
-        Outcome::Covered { left } => Answer::Analyzed {
+        Ok(left) => Answer::Analyzed {
             constant,
             index,
             container,
             left,
         },
-        Outcome::Refused {
-            stage,
-            requested,
-            remaining,
-            left,
-        } => Answer::OverBudget {
-            stage,
-            requested,
-            remaining,
-            left,
+        Err(refused) => match refused {
+            Refused::OverBudget {
+                stage,
+                requested,
+                remaining,
+                left,
+            } => Answer::OverBudget {
+                stage,
+                requested,
+                remaining,
+                left,
+            },
+            Refused::NoRoom { left } => Answer::NoRoom { left },
         },
-        Outcome::NoRoom { left } => Answer::NoRoom { left },
     }
 }

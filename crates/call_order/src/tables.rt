@@ -1,13 +1,12 @@
 // What the index analysis reads of the constants.
-ghost use Rattle.std.specs.Prelude.{◌≡◌, true, false, ◌≤◌, length};
+ghost use Rattle.std.specs.Prelude.{◌≡◌, true, false, ◌≤◌, is_err, length};
 ghost use Rattle.model.specs.Call.{table};
 ghost use Rattle.model.specs.Analyses.{Analysed};
 ghost use Rattle.sheet.specs.Measured.{Measured};
-ghost use Rattle.budget.specs.Outcome.{refusing};
 ghost use Rattle.call_order.specs.Stored.{Stored, Lengthened};
 
 use crate::facts::length_facts;
-use budget::{Outcome, refuses};
+use budget::Outcome;
 use model::Counts;
 use sheet::Sizes;
 
@@ -25,15 +24,15 @@ pub fn store_lengths(
     length_values: &mut [u16],
 )
     requires measured { Measured sheet.now sizes × (sizes.code_count ≤ length length_kinds.old) × (sizes.code_count ≤ length length_values.old) }
-    requires constants_stored { refusing before ≡ false
+    requires constants_stored { is_err before ≡ false
         → (a : Analysed) × Stored sheet.now a constant (table slots.now present.now kinds.now values.now) }
-    ensures stored { refusing before ≡ false
+    ensures stored { is_err before ≡ false
         → (a : Analysed) → Stored sheet.now a constant (table slots.now present.now kinds.now values.now)
         → Lengthened sheet.now a length_kinds.old length_values.old length_kinds.new length_values.new }
-    ensures kept { refusing before ≡ true
+    ensures kept { is_err before ≡ true
         → (length_kinds.new ≡ length_kinds.old) × (length_values.new ≡ length_values.old) }
 {
-    if refuses(before) {
+    if before.is_err() {
         return;
     }
     let n = sizes.code_count;

@@ -12,7 +12,7 @@ ghost use Rattle.sheet.specs.Measured.{Accepted};
 ghost use Rattle.budget.specs.Outcome.{leaves, leaves_of};
 ghost use Rattle.call_order.specs.Values.{values, valued, valued_by, no_values};
 
-use budget::{Outcome, refuses};
+use budget::Outcome;
 use call_order::{counts_unless, store_lengths};
 use closure_edges::charge_graph;
 use fixpoint_list::clear;
@@ -21,7 +21,8 @@ use sheet::Sizes;
 use stage::analyze_stage;
 use stage_memory::{clear_scratch, clear_table_if};
 
-// What the first two come to: s and the pop count of each, none after a refusal, and the outcome.
+// What the first two come to: s and the pop count of each, none after a refusal, and the outcome. It is no Result of the counts, as `stage::Staged`
+// is none: the third analysis takes the outcome as it is.
 #[derive(Clone, Copy)]
 pub struct Values {
     pub constant: Counts,
@@ -121,7 +122,7 @@ pub fn analyze_values(
     );
     let index = staged.counts;
     let outcome = staged.outcome;
-    let refused = refuses(outcome);
+    let refused = outcome.is_err();
     clear_table_if(
         refused,
         constant_slots,

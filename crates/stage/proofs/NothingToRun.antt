@@ -18,19 +18,17 @@ use Rattle.model.specs.Call.{Table, Scratch, table, scratch, counts, tables, zer
 use Rattle.model.specs.declared.AnalysisKind.{AnalysisKind}
 use Rattle.model.specs.declared.Counts.{Counts}
 use Rattle.finality.proofs.Lengths.{zeros_length}
-use Rattle.budget.specs.Outcome.{Leaves, leaves, leaves_of}
-use Rattle.budget.specs.declared.Outcome.{Outcome}
+use Rattle.budget.specs.Outcome.{Outcome, Leaves, leaves, leaves_of}
 use Rattle.budget.proofs.Outcomes.{Left, covered, stopped, left_by}
 use Rattle.fixpoint.proofs.LoopState.{no_cells, no_present}
 use Rattle.stage_memory.specs.Stage.{zero_scratch}
 use Rattle.stage_memory.proofs.RecordEqualities.{table_path, scratch_path}
-use Rattle.stage_prepare.specs.declared.Prepared.{Prepared}
 use Rattle.stage_prepare.specs.Prepare.{something, PrepareEnd, prepared, prepared_by, unprepared}
 use Rattle.stage_prepare.proofs.StageParts.{go_on, enters_at_once, runs_at_once}
 use Rattle.stage_prepare.proofs.RoomAndRow.{room_parts, unknown_cells}
 use Rattle.stage_prepare.proofs.ZeroFronts.{zero_filled, cleared_zero}
 use Rattle.stage_memory.specs.Staged.{ScratchZero, no_counts, StageLeft, staged, staged_by}
-use Rattle.stage.proofs.StageBegun.{begun_after, stage_after, stage_after_lem, PreparedTold, Ready, begun_ready}
+use Rattle.stage.proofs.StageBegun.{Answered, begun_after, stage_after, stage_after_lem, PreparedTold, Ready, begun_ready}
 
 pub stage_path : {o o' : Outcome} {c c' : Counts} {t t' : Table} {w w' : Scratch} → o ≡ o' → c ≡ c' → t ≡ t' → w ≡ w'
     → ◌≡◌ {A = Option (Leaves StageLeft)} (some (leaves o (staged c t w))) (some (leaves o' (staged c' t' w')))
@@ -52,7 +50,7 @@ nothing n s e = go (eqb n 0) (eqb s 0) refl refl e
     go false false p q h = let z : ◌≡◌ {A = ℕ} 0 1 = cc in absurd (omega arith)
 
 module _ (before : Outcome) (which : AnalysisKind) (sheet : List ℕ) (t : Table) (w : Scratch) (length_fact : ℕ → Fact) (z : ScratchZero sheet w)
-    {r : Prepared} {slots' rk rv : List ℕ} (told : PreparedTold before which sheet t w r slots' rk rv) (idle : r.runs ≡ false)
+    {r : Answered} {slots' rk rv : List ℕ} (told : PreparedTold before which sheet t w r slots' rk rv) (idle : r.runs ≡ false)
     {present' kinds' values' marks' stack' : List ℕ} (no-present' : present' ≡ zeros t.present) (no-kinds' : kinds' ≡ zeros t.kinds) (no-values' : values' ≡ zeros t.values)
     (no-marks' : marks' ≡ zeros w.marks) (no_stack' : stack' ≡ zeros w.stack) where
   -- the scratch is zero

@@ -1,5 +1,6 @@
 -- What a stage has begun, from what `begin` gives.
 -- Assumes nothing.
+use Rattle.std.specs.Prelude.{Result, Ok, Err}
 use mathlib.Core.Path.{◌≡◌, refl, sym, ap, ◌∙◌, subst}
 use mathlib.Core.Bool.{Bool, true, false}
 use mathlib.Core.List.{List, map}
@@ -18,12 +19,11 @@ use Rattle.model.specs.declared.AnalysisKind.{AnalysisKind}
 use Rattle.model.proofs.Metered.{bound_parts, then_parts, given, left_given}
 use Rattle.finality.proofs.Closure.{closure_exact}
 use Rattle.finality.proofs.Lawful.{entry_length}
-use Rattle.budget.specs.Outcome.{as_spent, leaves, leaves_of}
-use Rattle.budget.specs.declared.Outcome.{Outcome}
-use Rattle.budget.specs.declared.Outcome.TheVariants.{Covered}
+use Rattle.budget.specs.Outcome.{Outcome, as_spent, leaves, leaves_of}
 use Rattle.budget.proofs.Outcomes.{Left, covered, stopped, left_by}
 use Rattle.stage_memory.specs.Room.{room_by}
 use Rattle.stage_prepare.specs.declared.Prepared.{Prepared}
+use Rattle.budget.specs.declared.Refused.{Refused}
 use Rattle.stage_prepare.specs.Begin.{entering, enter_if, Begun, begin}
 use Rattle.stage_prepare.specs.Prepare.{something, PrepareEnd, prepared, prepared_by, unprepared}
 use Rattle.stage_prepare.proofs.StageParts.{go_on, stage_begins}
@@ -86,14 +86,24 @@ stage_after_lem before which sheet t w length_fact = go (as_spent before)
     go (stop refusal left) = refl
     go unfinished = refl
 
+-- What `prepare` answers: the outcome so far, whether something runs, and over how many slots.
+pub record Answered : Type 0 where
+  pub outcome : Outcome
+  pub runs : Bool
+  pub s : ℕ
+
+abbrev pub answered : Result Prepared Refused → Answered
+answered (Ok p) = record { outcome = Ok p.left; runs = p.runs; s = p.s }
+answered (Err refused) = record { outcome = Err refused; runs = false; s = 0 }
+
 -- what `prepare` promises, by lengths that cleared slices have kept
-abbrev pub PreparedTold : Outcome → AnalysisKind → List ℕ → Table → Scratch → Prepared → List ℕ → List ℕ → List ℕ → Type 0
+abbrev pub PreparedTold : Outcome → AnalysisKind → List ℕ → Table → Scratch → Answered → List ℕ → List ℕ → List ℕ → Type 0
 PreparedTold before which sheet t w r slots row_kinds row_values =
     some (leaves r.outcome (prepared r.runs r.s slots row_kinds row_values))
     ≡ leaves_of (prepared_by (code_count sheet) t.slots w.row_kinds w.row_values) (unprepared t.slots w.row_kinds w.row_values) (begun_after before which sheet t w)
 
 pub asked_lent : (before : Outcome) (which : AnalysisKind) (sheet : List ℕ) (t : Table) (w : Scratch) {lp lk lv : ℕ} → lp ≡ length t.present → lk ≡ length t.kinds → lv ≡ length t.values
-    → (r : Prepared) (slots row_kinds row_values : List ℕ)
+    → (r : Answered) (slots row_kinds row_values : List ℕ)
     → some (leaves r.outcome (prepared r.runs r.s slots row_kinds row_values))
     ≡ leaves_of (prepared_by (code_count sheet) t.slots w.row_kinds w.row_values) (unprepared t.slots w.row_kinds w.row_values)
     (continue (λ _. begin which sheet (λ s. room_by (code_count sheet) s (length t.slots) lp lk lv (length w.row_kinds) (length w.row_values) (length w.work_list))) (as_spent before))
@@ -101,20 +111,20 @@ pub asked_lent : (before : Outcome) (which : AnalysisKind) (sheet : List ℕ) (t
 asked_lent before which sheet t w p k v r slots row_kinds row_values e = rw (p, k, v) at e
 
 -- a stage that was begun: what is to run
-pub record Ready (before : Outcome) (which : AnalysisKind) (sheet : List ℕ) (t : Table) (w : Scratch) (r : Prepared) (slots row_kinds row_values : List ℕ) : Type 0 where
+pub record Ready (before : Outcome) (which : AnalysisKind) (sheet : List ℕ) (t : Table) (w : Scratch) (r : Answered) (slots row_kinds row_values : List ℕ) : Type 0 where
   pub b : Begun
   pub rest : VerifierResources
   pub came : begun_after before which sheet t w ≡ ok b rest
   pub begun : Begins which sheet (room_asked sheet t w) b rest
-  pub outcome_is : r.outcome ≡ Covered rest
+  pub outcome_is : r.outcome ≡ Ok rest
   pub runs_is : r.runs ≡ something (code_count sheet) (length b.slots)
   pub s_is : r.s ≡ length b.slots
   pub slots_are : slots ≡ filled b.slots t.slots
   pub row_kinds_are : row_kinds ≡ filled (map kind b.entry) w.row_kinds
   pub row_values_are : row_values ≡ filled (map value b.entry) w.row_values
 
-module _ (before : Outcome) (which : AnalysisKind) (sheet : List ℕ) (t : Table) (w : Scratch) {r : Prepared} {slots row_kinds row_values : List ℕ} where
-  pub begun_ready : (b : Begun) (rest : VerifierResources) → begun_after before which sheet t w ≡ ok b rest → r.outcome ≡ Covered rest
+module _ (before : Outcome) (which : AnalysisKind) (sheet : List ℕ) (t : Table) (w : Scratch) {r : Answered} {slots row_kinds row_values : List ℕ} where
+  pub begun_ready : (b : Begun) (rest : VerifierResources) → begun_after before which sheet t w ≡ ok b rest → r.outcome ≡ Ok rest
       → prepared r.runs r.s slots row_kinds row_values ≡ prepared_by (code_count sheet) t.slots w.row_kinds w.row_values b
       → Ready before which sheet t w r slots row_kinds row_values
   begun_ready b rest came o m = record {
@@ -150,7 +160,7 @@ module _ (before : Outcome) (which : AnalysisKind) (sheet : List ℕ) (t : Table
 
 -- the same, from what the calls before it ensure
 module _ (before : Outcome) (which : AnalysisKind) (sheet : List ℕ) (t : Table) (w : Scratch) where
-  pub ready_there : {lp lk lv : ℕ} → lp ≡ length t.present → lk ≡ length t.kinds → lv ≡ length t.values → (r : Prepared) {slots row_kinds row_values : List ℕ}
+  pub ready_there : {lp lk lv : ℕ} → lp ≡ length t.present → lk ≡ length t.kinds → lv ≡ length t.values → (r : Answered) {slots row_kinds row_values : List ℕ}
       → some (leaves r.outcome (prepared r.runs r.s slots row_kinds row_values))
       ≡ leaves_of (prepared_by (code_count sheet) t.slots w.row_kinds w.row_values) (unprepared t.slots w.row_kinds w.row_values)
       (continue (λ _. begin which sheet (λ s. room_by (code_count sheet) s (length t.slots) lp lk lv (length w.row_kinds) (length w.row_values) (length w.work_list))) (as_spent before))

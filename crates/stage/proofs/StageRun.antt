@@ -1,5 +1,6 @@
 -- A stage that runs: what its run is lent, and what it leaves.
 -- Assumes nothing.
+use Rattle.std.specs.Prelude.{Result, Err, Ok, is_err}
 use mathlib.Core.Path.{◌≡◌, refl, sym, ap, ap₂, ◌∙◌}
 use mathlib.Core.Bool.{Bool, true, false, cond, not, ◌&&◌}
 use mathlib.Core.List.{List, ◌++◌, map}
@@ -22,32 +23,30 @@ use Rattle.model.specs.declared.AnalysisKind.{AnalysisKind}
 use Rattle.model.specs.declared.Counts.{Counts}
 use Rattle.model.proofs.Facts.{facts_back}
 use Rattle.finality.proofs.Lengths.{zeros_length, zeros_same}
-use Rattle.budget.specs.Outcome.{as_spent, refused_by, refusing, left_of, leaves, leaves_of}
-use Rattle.budget.specs.declared.Outcome.{Outcome}
-use Rattle.budget.specs.declared.Outcome.TheVariants.{Covered}
+use Rattle.budget.specs.Outcome.{Outcome, as_spent, refused_by, left_of, leaves, leaves_of}
 use Rattle.budget.proofs.Outcomes.{Left, covered, stopped, left_by}
 use Rattle.sheet.specs.declared.Sizes.{Sizes}
 use Rattle.sheet.proofs.AcceptedSheet.{measured}
 use Rattle.sheet.proofs.SizeNames.{counted}
 use Rattle.sheet.proofs.SizeLimits.{limited}
 use Rattle.fixpoint_step.specs.Stepped.{SheetIndex, TrackedSlots}
-use Rattle.fixpoint.specs.declared.Ran.{Ran}
 use Rattle.fixpoint.specs.Memory.{RunMemory, run_memory, zero_run}
 use Rattle.fixpoint.specs.Turn.{RunRequires}
-use Rattle.fixpoint.specs.Result.{RunLeft, ran, ran_tables}
+use Rattle.fixpoint.specs.declared.Ran.{Ran}
+use Rattle.budget.specs.declared.Refused.{Refused}
+use Rattle.fixpoint.specs.Result.{outcome_of, pops_of, RunLeft, ran, ran_tables}
 use Rattle.fixpoint.proofs.RunEnds.{RunLengths}
 use Rattle.stage_memory.proofs.RoomTests.{some_room, cells_fit}
 use Rattle.stage_memory.specs.Stage.{zero_scratch, counts_if}
 use Rattle.stage_memory.proofs.RecordEqualities.{table_path, scratch_path}
 use Rattle.stage_prepare.specs.Begin.{begin}
 use Rattle.stage_memory.specs.Room.{room_by}
-use Rattle.stage_prepare.specs.declared.Prepared.{Prepared}
 use Rattle.stage_prepare.specs.Prepare.{unprepared, prepared_by, prepared, something}
 use Rattle.stage_prepare.proofs.ClosureSlots.{few_below}
 use Rattle.stage_prepare.proofs.RoomAndRow.{room_parts}
 use Rattle.stage_prepare.proofs.ZeroFronts.{take_zero, front_filled, front_cleared, cleared_zero}
 use Rattle.stage_memory.specs.Staged.{ScratchZero, no_counts, staged, staged_by}
-use Rattle.stage.proofs.StageBegun.{stage_after, stage_after_lem, Ready, ready_there}
+use Rattle.stage.proofs.StageBegun.{Answered, stage_after, stage_after_lem, Ready, ready_there}
 use Rattle.stage.proofs.NothingToRun.{stage_path, filled_zeros}
 
 -- ---- parts of what is lent
@@ -113,10 +112,23 @@ fed_slots : (which : AnalysisKind) (sheet slots : List ℕ) (length_fact : ℕ �
 unfolding propagate
 fed_slots which sheet slots length_fact entry started e = ran_slots (run (analysis which sheet slots length_fact entry) started.work) which slots entry started e
 
-refused_by_lem : (refusal : Refusal) {outcome : Outcome} (left : VerifierResources) → outcome ≡ refused_by refusal left → refusing outcome ≡ true
-unfolding refusing refused_by
+refused_by_lem : (refusal : Refusal) {outcome : Outcome} (left : VerifierResources) → outcome ≡ Err (refused_by refusal left) → is_err outcome ≡ true
+unfolding refused_by
 refused_by_lem (over_budget stage requested remaining) left e = rw e
 refused_by_lem no_room left e = rw e
+
+-- what is left where all was covered
+pub left_covered : (left : VerifierResources) → left ≡ left_of (Ok left)
+unfolding left_of
+left_covered left = refl
+
+-- What a run answers: its pop count and the outcome of its charges.
+pub record Ended : Type 0 where
+  pub pops : ℕ
+  pub outcome : Outcome
+
+abbrev pub ended : Result Ran Refused → Ended
+ended r = record { pops = pops_of r; outcome = outcome_of r }
 
 -- ---- what the run is lent, and what it leaves
 
@@ -134,7 +146,7 @@ pub record RunLent (sheet : List ℕ) (n s : ℕ) (slots : List ℕ) (m : RunMem
 
 module _ (before : Outcome) (which : AnalysisKind) (sheet : List ℕ) {sizes : Sizes} {firsts classes length_kinds length_values : List ℕ}
     (i : SheetIndex sheet sizes firsts classes length_kinds length_values) (t : Table) (w : Scratch) (z : ScratchZero sheet w)
-    {n : ℕ} (all : n ≡ code_count sheet) {r : Prepared} {slots' rk rv : List ℕ} (y : Ready before which sheet t w r slots' rk rv) (runs : r.runs ≡ true) where
+    {n : ℕ} (all : n ≡ code_count sheet) {r : Answered} {slots' rk rv : List ℕ} (y : Ready before which sheet t w r slots' rk rv) (runs : r.runs ≡ true) where
   above : (0 < code_count sheet) × (0 < length y.b.slots)
   above = some_both (code_count sheet) (length y.b.slots) (sym y.runs_is ∙ runs)
 
@@ -235,9 +247,9 @@ module _ (before : Outcome) (which : AnalysisKind) (sheet : List ℕ) {sizes : S
 
     -- what it leaves in the first places is what the stage leaves in the whole
     module _ {marks' stack' : List ℕ} (no-marks' : marks' ≡ zeros w.marks) (no_stack' : stack' ≡ zeros w.stack) {resources : VerifierResources} (left_is : resources ≡ left_of r.outcome)
-        (ended : Ran) (m : RunMemory)
+        (end : Ended) (m : RunMemory)
         (long : RunLengths m (run_memory (take n present') (take (n * r.s) kinds') (take (n * r.s) values') (take r.s rk) (take r.s rv) w.work_list))
-        {counts' : Counts} {slots'' : List ℕ} (counts-are : counts' ≡ counts_if (refusing ended.outcome) r.s ended.pops) (slots-left : slots'' ≡ cond (refusing ended.outcome) (zeros slots') slots') where
+        {counts' : Counts} {slots'' : List ℕ} (counts-are : counts' ≡ counts_if (is_err end.outcome) r.s end.pops) (slots-left : slots'' ≡ cond (is_err end.outcome) (zeros slots') slots') where
       -- the run's part of the definitions
       abbrev spent : Spent Analysed
       spent = propagate which sheet y.b.slots (length_table length_kinds length_values) y.b.entry y.rest
@@ -260,8 +272,8 @@ module _ (before : Outcome) (which : AnalysisKind) (sheet : List ℕ) {sizes : S
       abbrev behind : Scratch
       behind = scratch marks' stack' (m.row_kinds ++ drop r.s rk) (m.row_values ++ drop r.s rv) m.work_list
 
-      by_end : Left (ran_tables (zero_run lent)) (ran 0 (zero_run lent)) spent ended.outcome (ran ended.pops m)
-          → some (leaves ended.outcome (staged counts' output behind)) ≡ leaves_of (staged_by t w) (staged no_counts (zero_table t) (zero_scratch w)) spent
+      by_end : Left (ran_tables (zero_run lent)) (ran 0 (zero_run lent)) spent end.outcome (ran end.pops m)
+          → some (leaves end.outcome (staged counts' output behind)) ≡ leaves_of (staged_by t w) (staged no_counts (zero_table t) (zero_scratch w)) spent
       unfolding leaves_of ran_tables zero_run staged_by counts tables filled_table zero_table
       by_end (covered a left came o e) =
           let f = tables_fit in
@@ -274,11 +286,11 @@ module _ (before : Outcome) (which : AnalysisKind) (sheet : List ℕ) {sizes : S
           (front_made (n * r.s) t.values no-values' f.2 (ap (λ (x : RunLeft). x.memory.values) e) long.values))
           (rows_emptied (ap (λ (x : RunLeft). x.memory.row_kinds) e) (ap (λ (x : RunLeft). x.memory.row_values) e) (ap (λ (x : RunLeft). x.memory.work_list) e)))
         where
-          kept_counts : {left : VerifierResources} → ended.outcome ≡ Covered left → counts_if (refusing ended.outcome) r.s ended.pops ≡ record { tracked = r.s; pops = ended.pops }
-          kept_counts o = unfold counts_if refusing in (rw o)
+          kept_counts : {left : VerifierResources} → end.outcome ≡ Ok left → counts_if (is_err end.outcome) r.s end.pops ≡ record { tracked = r.s; pops = end.pops }
+          kept_counts o = unfold counts_if in (rw o)
 
-          kept_slots : {left : VerifierResources} → ended.outcome ≡ Covered left → cond (refusing ended.outcome) (zeros slots') slots' ≡ slots'
-          kept_slots o = unfold refusing in (rw o)
+          kept_slots : {left : VerifierResources} → end.outcome ≡ Ok left → cond (is_err end.outcome) (zeros slots') slots' ≡ slots'
+          kept_slots o = (rw o)
       by_end (stopped refusal left came o e) =
           let f = tables_fit in
           rw came (stage_path o
@@ -289,27 +301,27 @@ module _ (before : Outcome) (which : AnalysisKind) (sheet : List ℕ) {sizes : S
           (front_lost (n * r.s) t.values no-values' f.2 (ap (λ (x : RunLeft). x.memory.values) e)))
           (rows_emptied (ap (λ (x : RunLeft). x.memory.row_kinds) e) (ap (λ (x : RunLeft). x.memory.row_values) e) (ap (λ (x : RunLeft). x.memory.work_list) e)))
         where
-          lost_counts : counts_if (refusing ended.outcome) r.s ended.pops ≡ no_counts
+          lost_counts : counts_if (is_err end.outcome) r.s end.pops ≡ no_counts
           lost_counts = unfold counts_if in (rw (refused_by_lem refusal left o))
 
-          lost_slots : cond (refusing ended.outcome) (zeros slots') slots' ≡ zeros t.slots
+          lost_slots : cond (is_err end.outcome) (zeros slots') slots' ≡ zeros t.slots
           lost_slots = (rw (refused_by_lem refusal left o) (zeros_same slots' t.slots slots_long))
 
-      pub concluded : some (leaves ended.outcome (ran ended.pops m))
+      pub concluded : {outcome' : Outcome} → outcome' ≡ end.outcome → some (leaves end.outcome (ran end.pops m))
           ≡ leaves_of (ran_tables (zero_run lent)) (ran 0 (zero_run lent)) (propagate which sheet (take r.s slots') (length_table length_kinds length_values) (facts_of (take r.s rk) (take r.s rv)) resources)
-          → some (leaves ended.outcome (staged counts' output behind))
+          → some (leaves outcome' (staged counts' output behind))
           ≡ leaves_of (staged_by t w) (staged no_counts (zero_table t) (zero_scratch w)) (stage_after before which sheet t w (length_table length_kinds length_values))
       unfolding continue
-      concluded told =
-          by_end (left_by (ran_tables (zero_run lent)) (ran 0 (zero_run lent)) spent (rw (slots_front, row_is, started) at told))
-          ∙ ap (leaves_of (staged_by t w) (staged no_counts (zero_table t) (zero_scratch w))) (sym (stage_after_lem before which sheet t w (length_table length_kinds length_values) ∙ rw y.came))
+      concluded is told =
+          rw is (by_end (left_by (ran_tables (zero_run lent)) (ran 0 (zero_run lent)) spent (rw (slots_front, row_is, started) at told))
+          ∙ ap (leaves_of (staged_by t w) (staged no_counts (zero_table t) (zero_scratch w))) (sym (stage_after_lem before which sheet t w (length_table length_kinds length_values) ∙ rw y.came)))
 
 -- what the run is lent, from what the calls before it ensure
 pub lent_there : (before : Outcome) (which : AnalysisKind) (sheet : List ℕ) {sizes : Sizes} {firsts classes length_kinds length_values : List ℕ}
     → SheetIndex sheet sizes firsts classes length_kinds length_values → (t : Table) (w : Scratch) → ScratchZero sheet w → {n : ℕ} → n ≡ code_count sheet
     → {lp lk lv : ℕ} → lp ≡ length t.present → lk ≡ length t.kinds → lv ≡ length t.values
     → {present kinds values : List ℕ} → (present ≡ zeros t.present) × (kinds ≡ zeros t.kinds) × (values ≡ zeros t.values)
-    → (r : Prepared) {slots row_kinds row_values : List ℕ}
+    → (r : Answered) {slots row_kinds row_values : List ℕ}
     → some (leaves r.outcome (prepared r.runs r.s slots row_kinds row_values))
     ≡ leaves_of (prepared_by (code_count sheet) t.slots w.row_kinds w.row_values) (unprepared t.slots w.row_kinds w.row_values)
     (continue (λ _. begin which sheet (λ s. room_by (code_count sheet) s (length t.slots) lp lk lv (length w.row_kinds) (length w.row_values) (length w.work_list))) (as_spent before))

@@ -14,14 +14,18 @@ ghost use Rattle.fixpoint_step.specs.Stepped.{SheetIndex};
 ghost use Rattle.stage_memory.specs.Stage.{zero_scratch};
 ghost use Rattle.stage_memory.specs.Staged.{ScratchZero, no_counts, staged, staged_by};
 
-use budget::{Outcome, left_of};
+mod conclusion;
+
+use crate::conclusion::conclude_run;
+use budget::Outcome;
 use fixpoint::run_to_fixpoint;
 use model::{AnalysisKind, Counts};
 use sheet::Sizes;
-use stage_memory::{clear_rows, conclude};
+use stage_memory::clear_rows;
 use stage_prepare::{Room, prepare};
 
-// The counts of an analysis, none after a refusal, and the outcome with its charges.
+// The counts of an analysis, none after a refusal, and the outcome with its charges. It is no Result of the counts: the next analysis takes the outcome
+// whether or not it is a refusal, since it clears its own output after one, and the counts go on apart from it.
 #[derive(Clone, Copy)]
 pub struct Staged {
     pub counts: Counts,
@@ -65,19 +69,29 @@ pub fn analyze_stage(
         values: values.len(),
         work_list: work_list.len(),
     };
-    let prepared = prepare(
+    let prepared = match prepare(
         which, sheet, sizes, room, before, slots, marks, stack, row_kinds, row_values,
-    );
+    ) {
+        Ok(prepared) => prepared,
+        Err(refused) => {
+            return Staged {
+                counts: Counts {
+                    tracked: 0,
+                    pops: 0,
+                },
+                outcome: Err(refused),
+            };
+        }
+    };
     let s = prepared.s;
-    let begun = prepared.outcome;
+    let left = prepared.left;
     if !prepared.runs {
-        let counts = Counts {
-            tracked: s as u64,
-            pops: 0,
-        };
         return Staged {
-            counts,
-            outcome: begun,
+            counts: Counts {
+                tracked: s as u64,
+                pops: 0,
+            },
+            outcome: Ok(left),
         };
     }
     let n = sizes.code_count;
@@ -91,7 +105,7 @@ pub fn analyze_stage(
         length_kinds,
         length_values,
         &slots[..s],
-        left_of(begun),
+        left,
         &mut present[..n],
         &mut kinds[..cells],
         &mut values[..cells],
@@ -99,7 +113,5 @@ pub fn analyze_stage(
         &mut row_values[..s],
         work_list,
     );
-    let outcome = ran.outcome;
-    let counts = conclude(s, ran.pops, outcome, slots);
-    Staged { counts, outcome }
+    conclude_run(s, ran, slots)
 }

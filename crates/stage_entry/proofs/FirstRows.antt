@@ -17,9 +17,8 @@ use Rattle.model.specs.Analyses.{unknown_row, container_row, first_row}
 use Rattle.model.specs.declared.AnalysisKind.{AnalysisKind}
 use Rattle.model.specs.declared.AnalysisKind.TheVariants.{Constant, IndexCheck, Container}
 use Rattle.model.specs.declared.VerifierResources.{VerifierResources}
-use Rattle.budget.specs.Outcome.{as_spent, leaves, leaves_of}
-use Rattle.budget.specs.declared.Outcome.{Outcome}
-use Rattle.budget.specs.declared.Outcome.TheVariants.{Covered}
+use Rattle.budget.specs.Outcome.{Outcome, as_spent, leaves, leaves_of}
+use Rattle.std.specs.Prelude.{Ok}
 use Rattle.budget.proofs.Outcomes.{NotCovered, covered_leaves, stopped_then, stopped_leaves, spent_stopped, left_covered, left_stopped}
 use Rattle.budget.proofs.Spending.{covered, then_covered}
 use Rattle.stage_entry.specs.First.{RowZero, row_laid, zero_row}
@@ -29,7 +28,7 @@ use Rattle.stage_entry.proofs.RowsMade.{blank_lies, row_laid_lem}
 
 module _ (sheet slots : List ℕ) (budget : VerifierResources) (row : Row) {o : Option ℕ} (is : o ≡ param_start sheet) where
   pub param_none : o ≡ none → {kinds values : List ℕ} → RowLies row (row_slices kinds values)
-      → some (leaves (Covered budget) (row_slices kinds values)) ≡ leaves_of row_laid (zero_row (length slots)) (param_row sheet slots (param_start sheet) row budget)
+      → some (leaves (Ok budget) (row_slices kinds values)) ≡ leaves_of row_laid (zero_row (length slots)) (param_row sheet slots (param_start sheet) row budget)
   unfolding param_row give
   param_none e l = rw (← is, e) (covered_leaves _ _ refl refl (row_laid_lem l))
 
@@ -54,7 +53,7 @@ module _ (sheet slots : List ℕ) (budget : VerifierResources) where
     unfolding container_row ◌>>=◌
     params_refused h = let u = left_stopped _ _ _ came h in stopped_leaves (stopped_then u.0 _) _ u.1
 
-    module _ {left : VerifierResources} (e : seeded ≡ Covered left) (charged : Outcome) (notes : as_spent charged ≡ charge_instruction_facts sheet left) where
+    module _ {left : VerifierResources} (e : seeded ≡ Ok left) (charged : Outcome) (notes : as_spent charged ≡ charge_instruction_facts sheet left) where
       -- a note's charge is refused
       pub notes_refused : {cleared : RowSlices} → NotCovered charged → cleared ≡ zero_row (length slots) → Entered charged cleared
       unfolding container_row ◌>>=◌ ◌>>◌ continue
@@ -63,7 +62,7 @@ module _ (sheet slots : List ℕ) (budget : VerifierResources) where
           rw r.1 (stopped_leaves (stopped_then (spent_stopped charged notes h) (λ _. give r.0)) _ z)
 
       -- all is covered
-      pub notes_covered : {rest : VerifierResources} → charged ≡ Covered rest → Entered charged memory
+      pub notes_covered : {rest : VerifierResources} → charged ≡ Ok rest → Entered charged memory
       unfolding container_row ◌>>=◌ continue give
       notes_covered f =
           let r = left_covered _ _ _ came e in
@@ -76,11 +75,11 @@ module _ (which : AnalysisKind) (sheet slots : List ℕ) (budget : VerifierResou
   abbrev First : Outcome → RowSlices → Type 0
   First outcome memory = some (leaves outcome memory) ≡ leaves_of row_laid (zero_row (length slots)) (first_row which sheet slots budget)
 
-  pub constant_row : {kinds values : List ℕ} → which ≡ Constant → RowZero slots kinds values → First (Covered budget) (row_slices kinds values)
+  pub constant_row : {kinds values : List ℕ} → which ≡ Constant → RowZero slots kinds values → First (Ok budget) (row_slices kinds values)
   unfolding first_row give
   constant_row e b = rw e (covered_leaves _ _ refl refl (row_laid_lem (blank_lies b)))
 
-  pub index_row : {kinds values : List ℕ} → which ≡ IndexCheck → RowZero slots kinds values → First (Covered budget) (row_slices kinds values)
+  pub index_row : {kinds values : List ℕ} → which ≡ IndexCheck → RowZero slots kinds values → First (Ok budget) (row_slices kinds values)
   unfolding first_row give
   index_row e b = rw e (covered_leaves _ _ refl refl (row_laid_lem (blank_lies b)))
 

@@ -6,3 +6,4 @@ pub mod ParamStarts
 pub mod RowsMade
 pub mod ParamSeeds
 pub mod FirstRows
+pub mod Refusals

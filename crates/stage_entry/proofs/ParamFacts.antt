@@ -1,4 +1,4 @@
--- The facts that parameters bring, by what is read of them.
+-- The facts that parameters bring, by their cells.
 -- Assumes nothing.
 use mathlib.Core.Path.{◌≡◌, refl, sym, ap, ◌∙◌}
 use mathlib.Core.Logic.{◌≢◌}
@@ -7,31 +7,12 @@ use mathlib.Core.Option.{Option, none, some}
 use Prim.Native.Nat.{ℕ, zero, suc}
 use native.Mathlib.Omega.{arith}
 use Rattle.model.specs.Fact.{Fact, kind}
-use Rattle.model.specs.Sheet.{param_kind, param_a, param_b}
+use Rattle.model.specs.Sheet.{param_kind}
 use Rattle.model.specs.Tables.{cell_of}
 use Rattle.model.specs.Transfer.{map_fact, queue_fact, or_unknown}
 use Rattle.model.specs.Parameters.{param_fact_by, param_fact}
 use Rattle.model.specs.declared.FactCell.{FactCell}
 use Rattle.fact_row.proofs.Facts.{kind_of}
-
-module _ (sheet : List ℕ) (i : ℕ) {k : ℕ} (is : k ≡ param_kind sheet i) where
-  pub map_param : k ≡ 1 → some (map_fact (param_a sheet i) (param_b sheet i)) ≡ param_fact sheet i
-  unfolding param_fact param_fact_by
-  map_param h = rw (← is, h)
-
-  pub queue_param : k ≡ 2 → some (queue_fact (param_a sheet i)) ≡ param_fact sheet i
-  unfolding param_fact param_fact_by
-  queue_param h = rw (← is, h)
-
-  pub plain_param : k ≢ 1 → k ≢ 2 → none ≡ param_fact sheet i
-  unfolding param_fact param_fact_by
-  plain_param h l = rw (← is) (go k h l)
-    where
-      go : (k : ℕ) → k ≢ 1 → k ≢ 2 → none ≡ param_fact_by k sheet i
-      go zero h l = refl
-      go (suc zero) h l = absurd (h refl)
-      go (suc (suc zero)) h l = absurd (l refl)
-      go (suc (suc (suc k))) h l = refl
 
 -- a fact that a parameter brings is known, so its cell tells it from none
 module _ (sheet : List ℕ) (i : ℕ) {cell : FactCell} (is : cell ≡ cell_of (or_unknown (param_fact sheet i))) where

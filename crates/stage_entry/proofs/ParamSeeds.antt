@@ -19,9 +19,8 @@ use Rattle.model.specs.Transfer.{put}
 use Rattle.model.specs.Parameters.{param_fact, charge_layouts, seed_param, seed_params}
 use Rattle.model.specs.declared.FactCell.{FactCell}
 use Rattle.model.specs.declared.VerifierResources.{VerifierResources}
-use Rattle.budget.specs.Outcome.{as_spent, leaves, leaves_of}
-use Rattle.budget.specs.declared.Outcome.{Outcome}
-use Rattle.budget.specs.declared.Outcome.TheVariants.{Covered}
+use Rattle.budget.specs.Outcome.{Outcome, as_spent, leaves, leaves_of}
+use Rattle.std.specs.Prelude.{Ok}
 use Rattle.budget.proofs.Outcomes.{Stopped, NotCovered, covered_leaves, stopped_then, stopped_leaves, spent_stopped, left_covered, left_stopped}
 use Rattle.budget.proofs.Spending.{covered, then_covered}
 use Rattle.sheet.proofs.Sums.{SumUpto, added_none, added_more}
@@ -37,7 +36,7 @@ use Rattle.stage_entry.proofs.RowsMade.{row_laid_lem, lies_of}
 module _ (sheet slots : List ℕ) (slot : ℕ) (resources : VerifierResources) {row : Row} {kinds values : List ℕ} (lies : RowLies row (row_slices kinds values)) where
   -- without a fact
   pub seed_none : (o : Option Fact) → o ≡ none
-      → some (leaves (Covered resources) (row_slices kinds values)) ≡ leaves_of row_laid (zero_row (length slots)) (seed_param sheet slots slot o row resources)
+      → some (leaves (Ok resources) (row_slices kinds values)) ≡ leaves_of row_laid (zero_row (length slots)) (seed_param sheet slots slot o row resources)
   unfolding seed_param give
   seed_none o e = rw e (covered_leaves _ _ refl refl (row_laid_lem lies))
 
@@ -45,7 +44,7 @@ module _ (sheet slots : List ℕ) (slot : ℕ) (resources : VerifierResources) {
     came_by : as_spent whole ≡ charge_layouts sheet fact resources
     came_by = came ∙ ap (λ (f : Fact). charge_layouts sheet f resources) (read fact is)
 
-    pub seed_covered : {left : VerifierResources} {k v : List ℕ} → whole ≡ Covered left → WritableRow slots kinds values
+    pub seed_covered : {left : VerifierResources} {k v : List ℕ} → whole ≡ Ok left → WritableRow slots kinds values
         → k ≡ set_at (place slots slot) kinds cell.kind → v ≡ set_at (place slots slot) values cell.value
         → some (leaves whole (row_slices k v)) ≡ leaves_of row_laid (zero_row (length slots)) (seed_param sheet slots slot (some fact) row resources)
     unfolding seed_param give
@@ -110,7 +109,7 @@ module _ (sheet slots : List ℕ) (start : ℕ) (budget : VerifierResources) whe
           ∙ ap (λ (p : ℕ). leaves_of row_laid (zero_row (length slots)) (seed_param sheet slots (start + p) (param_fact sheet i) o.0 left)) s.added.is
           ∙ ap (leaves_of row_laid (zero_row (length slots))) (sym (seeded_next i row o.1))
 
-      pub seeded_more : {rest : VerifierResources} {width : ℕ} → outcome ≡ Covered rest → width ≡ param_width sheet i → width ≤ 65535 → length k' ≡ length slots → length v' ≡ length slots
+      pub seeded_more : {rest : VerifierResources} {width : ℕ} → outcome ≡ Ok rest → width ≡ param_width sheet i → width ≤ 65535 → length k' ≡ length slots → length v' ≡ length slots
           → Seeded k' v' rest (passed + width) (i + 1)
       seeded_more e w b lk lv = record {
         added = added_more s.added h w b;
@@ -123,7 +122,7 @@ module _ (sheet slots : List ℕ) (start : ℕ) (budget : VerifierResources) whe
       seeded_refused e n row l =
           let u = left_stopped _ _ _ (came_next row l) e in stopped_leaves (stays_stopped row (i + 1) (param_count sheet) (omega arith) u.0) _ u.1
 
-    pub seeded_all : {k v : List ℕ} {left : VerifierResources} {passed i : ℕ} → Seeded k v left passed i → count ≤ i → count ≡ param_count sheet → SeededTo (param_count sheet) (Covered left) k v
+    pub seeded_all : {k v : List ℕ} {left : VerifierResources} {passed i : ℕ} → Seeded k v left passed i → count ≤ i → count ≡ param_count sheet → SeededTo (param_count sheet) (Ok left) k v
     seeded_all {k} {v} {left} {passed} {i} s h n row l =
         let p : i ≡ param_count sheet = omega (arith, s.added.within) in
         let o = s.is row l in covered_leaves _ _ (ap (λ (m : ℕ). seeded m row) (sym p) ∙ o.1) refl (row_laid_lem o.2)

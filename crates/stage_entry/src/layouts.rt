@@ -20,7 +20,8 @@ fn charge_layout(sheet: &[u8], sizes: Sizes, layout: usize, resources: VerifierR
     metered(5, resources, charge_bytes(resources, slots))
 }
 
-// A map charges its key layout, then its value layout; any other known fact its one.
+// A map charges its key layout, then its value layout; any other known fact its one. The kind and both layouts are read from the cell's numbers,
+// which are what C reads of a fact.
 pub fn charge_layouts(
     sheet: &[u8],
     sizes: Sizes,
@@ -31,7 +32,7 @@ pub fn charge_layouts(
     ensures { as_spent result ≡ charge_layouts sheet.now (fact_in cell) resources }
 {
     if cell.kind < 2 {
-        return Outcome::Covered { left: resources };
+        return Ok(resources);
     }
     let a = (cell.value / 65536) as usize;
     let b = (cell.value % 65536) as usize;
@@ -39,10 +40,7 @@ pub fn charge_layouts(
     if cell.kind != 2 {
         return first;
     }
-    let Outcome::Covered { left } = first else {
-        return first;
-    };
-    charge_layout(sheet, sizes, b, left)
+    charge_layout(sheet, sizes, b, first?)
 }
 
 // The layout bytes of all notes' facts, in code order, also where the instruction is not reachable or its target not tracked.
@@ -52,15 +50,9 @@ pub fn charge_instruction_facts(sheet: &[u8], sizes: Sizes, resources: VerifierR
 {
     let n = sizes.code_count;
     let mut left = resources;
-    let mut pc = 0;
-    while pc < n {
+    for pc in 0..n {
         let op = instruction_at(sheet, pc).op;
-        let charged = charge_layouts(sheet, sizes, instruction_fact(sheet, sizes, pc, op), left);
-        let Outcome::Covered { left: rest } = charged else {
-            return charged;
-        };
-        left = rest;
-        pc += 1;
+        left = charge_layouts(sheet, sizes, instruction_fact(sheet, sizes, pc, op), left)?;
     }
-    Outcome::Covered { left }
+    Ok(left)
 }

@@ -9,6 +9,7 @@ use budget::{Outcome, charge_bytes, metered, stage_number};
 use model::{AnalysisKind, VerifierResources};
 
 // "constant fact 32, index fact 4, container fact 40"
+#[tactic(auto, unfolding(model::specs::Analyses::fact_bytes))]
 fn fact_bytes(which: AnalysisKind) -> u64
     ensures { (result ≡ fact_bytes which) × (result ≤ 40) }
 {

@@ -6,17 +6,16 @@ ghost use Rattle.model.specs.Parameters.{transfer_slots, param_start, param_fact
 ghost use Rattle.sheet.specs.Measured.{Measured};
 ghost use Rattle.stage_entry.specs.Start.{param_start_of};
 
-use fact_row::{map_cell, queue_cell, unknown_cell};
+use fact_row::{map_cell, queue_cell};
 use model::FactCell;
 use sheet::Sizes;
 use sheet_fields::{param_a_at, param_b_at, param_kind_at, param_width_at};
 
-// The slot of the first parameter, if there is one.
-#[derive(Clone, Copy)]
-pub enum ParamStart {
-    At(u16),
-    Nowhere,
-}
+// "0 no container, 1 map, 2 queue". The kinds stay the sheet's bytes: an enum would need a case for the bytes that question 5 refuses, and no
+// caller would meet it.
+const MAP_PARAM: u8 = 1;
+
+const QUEUE_PARAM: u8 = 2;
 
 // The sum of the parameter widths.
 fn transfer_slots(sheet: &[u8], sizes: Sizes) -> usize
@@ -25,54 +24,50 @@ fn transfer_slots(sheet: &[u8], sizes: Sizes) -> usize
 {
     let count = sizes.param_count;
     let mut sum: usize = 0;
-    let mut i = 0;
-    while i < count {
+    for i in 0..count {
         sum += param_width_at(sheet, sizes, i) as usize;
-        i += 1;
     }
     sum
 }
 
 // Behind receiver and closure, where these and the parameters fill the parameter slots; else behind the closure, where there is a receiver
-// and closure and parameters fill them; else nowhere. Sums past 16 bits leave it out.
-pub fn param_start(sheet: &[u8], sizes: Sizes) -> ParamStart
+// and closure and parameters fill them; else there is no start. Sums past 16 bits leave it out.
+pub fn param_start(sheet: &[u8], sizes: Sizes) -> Option<u16>
     requires { Measured sheet.now sizes }
     ensures { param_start_of result ≡ param_start sheet.now }
 {
     if sizes.param_count == 0 {
-        return ParamStart::Nowhere;
+        return None;
     }
     let transfer = transfer_slots(sheet, sizes);
     if 65535 < transfer {
-        return ParamStart::Nowhere;
+        return None;
     }
     let implicit = sizes.recv_slots + sizes.is_closure;
     if 65535 < implicit {
-        return ParamStart::Nowhere;
+        return None;
     }
     if sizes.param_slots == implicit + transfer {
-        return ParamStart::At(implicit as u16);
+        return Some(implicit as u16);
     }
     if sizes.recv_slots == 0 {
-        return ParamStart::Nowhere;
+        return None;
     }
     if sizes.param_slots == sizes.is_closure + transfer {
-        return ParamStart::At(sizes.is_closure as u16);
+        return Some(sizes.is_closure as u16);
     }
-    ParamStart::Nowhere
+    None
 }
 
-// "0 no container, 1 map, 2 queue": the fact that parameter i brings; Unknown where it brings none.
+// The fact that parameter i brings; Unknown where it brings none.
+#[tactic(auto, unfolding(model::specs::Fact::kind, model::specs::Fact::value, model::specs::Tables::cell_of, model::specs::Parameters::param_fact, model::specs::Parameters::param_fact_by, model::specs::Transfer::or_unknown))]
 pub fn param_fact(sheet: &[u8], sizes: Sizes, i: usize) -> FactCell
     requires { Measured sheet.now sizes × (i < sizes.param_count) }
     ensures { result ≡ cell_of (or_unknown (param_fact sheet.now i)) }
 {
-    let kind = param_kind_at(sheet, sizes, i);
-    if kind == 1 {
-        return map_cell(param_a_at(sheet, sizes, i), param_b_at(sheet, sizes, i));
+    match param_kind_at(sheet, sizes, i) {
+        MAP_PARAM => map_cell(param_a_at(sheet, sizes, i), param_b_at(sheet, sizes, i)),
+        QUEUE_PARAM => queue_cell(param_a_at(sheet, sizes, i)),
+        _ => FactCell::UNKNOWN,
     }
-    if kind == 2 {
-        return queue_cell(param_a_at(sheet, sizes, i));
-    }
-    unknown_cell()
 }

@@ -10,7 +10,7 @@ ghost use Rattle.stage_entry.specs.First.{RowZero, row_laid, zero_row};
 use crate::layouts::charge_instruction_facts;
 use crate::seeds::param_row;
 use budget::Outcome;
-use memory::{clear_u8, clear_u64};
+use memory::clear;
 use model::{AnalysisKind, VerifierResources};
 use sheet::Sizes;
 
@@ -27,16 +27,12 @@ fn container_row(
     ensures { some (leaves result (row_slices row_kinds.new row_values.new))
         ≡ leaves_of row_laid (zero_row (length slots.now)) (container_row false sheet.now slots.now resources) }
 {
-    let seeded = param_row(sheet, sizes, slots, resources, row_kinds, row_values);
-    let Outcome::Covered { left } = seeded else {
-        return seeded;
-    };
+    let left = param_row(sheet, sizes, slots, resources, row_kinds, row_values)?;
     let charged = charge_instruction_facts(sheet, sizes, left);
-    let Outcome::Covered { left: _ } = charged else {
-        clear_u8(row_kinds);
-        clear_u64(row_values);
-        return charged;
-    };
+    if charged.is_err() {
+        clear(row_kinds);
+        clear(row_values);
+    }
     charged
 }
 
@@ -55,8 +51,8 @@ pub fn first_row(
         ≡ leaves_of row_laid (zero_row (length slots.now)) (first_row which sheet.now slots.now resources) }
 {
     match which {
-        AnalysisKind::Constant => Outcome::Covered { left: resources },
-        AnalysisKind::IndexCheck => Outcome::Covered { left: resources },
+        AnalysisKind::Constant => Ok(resources),
+        AnalysisKind::IndexCheck => Ok(resources),
         AnalysisKind::Container => {
             container_row(sheet, sizes, slots, resources, row_kinds, row_values)
         }

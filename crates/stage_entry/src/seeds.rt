@@ -12,10 +12,10 @@ ghost use Rattle.fact_row.specs.Rows.{WritableRow};
 ghost use Rattle.stage_entry.specs.First.{RowZero, row_laid, zero_row};
 
 use crate::layouts::charge_layouts;
-use crate::params::{ParamStart, param_fact, param_start};
+use crate::params::{param_fact, param_start};
 use budget::Outcome;
 use fact_row::{set_fact, wide};
-use memory::{clear_u8, clear_u64};
+use memory::clear;
 use model::{FactCell, VerifierResources};
 use sheet::Sizes;
 use sheet_fields::param_width_at;
@@ -38,11 +38,11 @@ fn seed_fact(
         (seed_param sheet.now slots.now slot (some fact) row resources) }
 {
     let charged = charge_layouts(sheet, sizes, cell, resources);
-    let Outcome::Covered { left: _ } = charged else {
-        clear_u8(row_kinds);
-        clear_u64(row_values);
+    if charged.is_err() {
+        clear(row_kinds);
+        clear(row_values);
         return charged;
-    };
+    }
     set_fact(slots, slot, cell, row_kinds, row_values);
     charged
 }
@@ -66,7 +66,7 @@ fn seed_param(
 {
     let cell = param_fact(sheet, sizes, i);
     if cell.kind == 0 {
-        return Outcome::Covered { left: resources };
+        return Ok(resources);
     }
     seed_fact(
         sheet, sizes, slots, slot, cell, resources, row_kinds, row_values,
@@ -93,18 +93,12 @@ fn seed_params(
     let begin = wide(start);
     let mut left = resources;
     let mut passed: usize = 0;
-    let mut i = 0;
-    while i < count {
+    for i in 0..count {
         let slot = begin + passed;
-        let seeded = seed_param(sheet, sizes, slots, slot, i, left, row_kinds, row_values);
-        let Outcome::Covered { left: rest } = seeded else {
-            return seeded;
-        };
-        left = rest;
+        left = seed_param(sheet, sizes, slots, slot, i, left, row_kinds, row_values)?;
         passed += wide(param_width_at(sheet, sizes, i));
-        i += 1;
     }
-    Outcome::Covered { left }
+    Ok(left)
 }
 
 // "for containers with the Parameters facts in it": a row that is zero, with these facts in it if there is a start.
@@ -121,8 +115,8 @@ pub fn param_row(
         ≡ leaves_of row_laid (zero_row (length slots.now))
         (param_row sheet.now slots.now (param_start sheet.now) (unknown_row slots.now) resources) }
 {
-    let ParamStart::At(start) = param_start(sheet, sizes) else {
-        return Outcome::Covered { left: resources };
+    let Some(start) = param_start(sheet, sizes) else {
+        return Ok(resources);
     };
     seed_params(sheet, sizes, slots, start, resources, row_kinds, row_values)
 }

@@ -4,22 +4,22 @@ ghost use Rattle.model.specs.Call.{zeros, zero_table};
 ghost use Rattle.model.specs.Promise.{lent_table};
 ghost use Rattle.stage_memory.specs.Stage.{table_if};
 
-use memory::{clear_u8, clear_u16, clear_u64};
+use memory::clear;
 
 // The rows of an output become zero.
 pub fn clear_rows(present: &mut [u8], kinds: &mut [u8], values: &mut [u64])
     ensures { (present.new ≡ zeros present.old) × (kinds.new ≡ zeros kinds.old) × (values.new ≡ zeros values.old) }
 {
-    clear_u8(present);
-    clear_u8(kinds);
-    clear_u64(values);
+    clear(present);
+    clear(kinds);
+    clear(values);
 }
 
 // An output becomes zero.
 pub fn clear_table(slots: &mut [u16], present: &mut [u8], kinds: &mut [u8], values: &mut [u64])
     ensures { let t = lent_table slots present kinds values in t.exit ≡ zero_table t.entry }
 {
-    clear_u16(slots);
+    clear(slots);
     clear_rows(present, kinds, values);
 }
 
@@ -33,13 +33,14 @@ pub fn clear_scratch(
     ensures { (marks.new ≡ zeros marks.old) × (stack.new ≡ zeros stack.old)
         × (row_kinds.new ≡ zeros row_kinds.old) × (row_values.new ≡ zeros row_values.old) }
 {
-    clear_u8(marks);
-    clear_u16(stack);
-    clear_u8(row_kinds);
-    clear_u64(row_values);
+    clear(marks);
+    clear(stack);
+    clear(row_kinds);
+    clear(row_values);
 }
 
-// An output becomes zero where the test holds.
+// An output becomes zero where the test holds. The flag is one for two tables, so an Option or a Result in its place would be made twice and say
+// no more.
 pub fn clear_table_if(
     test: bool,
     slots: &mut [u16],

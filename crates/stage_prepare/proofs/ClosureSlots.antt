@@ -1,5 +1,6 @@
 -- The closure's slots, and what follows it, as the code makes them.
 -- Assumes nothing.
+use Rattle.std.specs.Prelude.{Ok}
 use mathlib.Core.Path.{◌≡◌, refl, sym, ap, ◌∙◌}
 use mathlib.Core.Bool.{Bool, true, false}
 use mathlib.Core.List.Memᴰ.{head}
@@ -22,9 +23,7 @@ use Rattle.model.specs.Lookup.{ascends}
 use Rattle.model.specs.CallDemand.{TrackedExactly}
 use Rattle.model.specs.declared.VerifierResources.{VerifierResources}
 use Rattle.model.specs.declared.AnalysisKind.{AnalysisKind}
-use Rattle.budget.specs.Outcome.{Leaves, leaves, leaves_of}
-use Rattle.budget.specs.declared.Outcome.{Outcome}
-use Rattle.budget.specs.declared.Outcome.TheVariants.{Covered}
+use Rattle.budget.specs.Outcome.{Outcome, Leaves, leaves, leaves_of}
 use Rattle.budget.proofs.Outcomes.{NotCovered, covered_leaves, stopped_then, stopped_leaves, left_covered, left_stopped}
 use Rattle.finality.proofs.Closure.{closure_exact}
 use Rattle.finality.proofs.Lengths.{zeros_same}
@@ -96,7 +95,7 @@ module _ (which : AnalysisKind) (sheet slots row_kinds row_values : List ℕ) (r
         let kept = ap (λ (c : Closed). c.slots) u.1 ∙ no_slots in
         stopped_leaves (stopped_then u.0 _) _ (cc)
 
-    module _ {left : VerifierResources} (is : tracked ≡ Covered left) where
+    module _ {left : VerifierResources} (is : tracked ≡ Ok left) where
       done : (ts : List ℕ) × (tracked_slots which sheet budget ≡ ok ts left) × (closed s slots' ≡ closed_by slots ts)
       done = left_covered _ _ _ came is
 
@@ -168,7 +167,7 @@ module _ (which : AnalysisKind) (sheet slots row_kinds row_values : List ℕ) (r
             rw begins (stopped_leaves (stopped_then u.0 _) _ (rw (clear, u.1)))
 
         -- all is covered
-        pub begin_covered : {rest : VerifierResources} {runs : Bool} → outcome ≡ Covered rest → runs ≡ something (code_count sheet) s
+        pub begin_covered : {rest : VerifierResources} {runs : Bool} → outcome ≡ Ok rest → runs ≡ something (code_count sheet) s
             → some (leaves outcome (prepared runs s slots' memory.kinds memory.values)) ≡ goal
         unfolding continue give
         begin_covered {rest} {runs} e r =

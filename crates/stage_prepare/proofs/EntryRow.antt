@@ -1,5 +1,6 @@
 -- The matrix charge and the first row, as the code makes them.
 -- Assumes nothing.
+use Rattle.std.specs.Prelude.{Ok}
 use mathlib.Core.Path.{◌≡◌, sym, ap, ◌∙◌}
 use mathlib.Core.List.{List}
 use mathlib.Core.Option.{some}
@@ -11,9 +12,7 @@ use Rattle.model.specs.Closure.{stage_number}
 use Rattle.model.specs.Analyses.{fact_bytes, charge_matrix, first_row}
 use Rattle.model.specs.declared.VerifierResources.{VerifierResources}
 use Rattle.model.specs.declared.AnalysisKind.{AnalysisKind}
-use Rattle.budget.specs.Outcome.{as_spent, leaves, leaves_of}
-use Rattle.budget.specs.declared.Outcome.{Outcome}
-use Rattle.budget.specs.declared.Outcome.TheVariants.{Covered}
+use Rattle.budget.specs.Outcome.{Outcome, as_spent, leaves, leaves_of}
 use Rattle.budget.proofs.Outcomes.{NotCovered, stopped_then, stopped_leaves, spent_stopped}
 use Rattle.budget.proofs.Spending.{covered}
 use Rattle.sheet.specs.Measured.{Measured}
@@ -37,7 +36,7 @@ module _ (which : AnalysisKind) (sheet : List ℕ) (sizes : Sizes) (slots : List
   unfolding entering ◌>>◌
   enter_refused h b = stopped_leaves (stopped_then (spent_stopped charged matrix h) _) _ (blank_is b)
 
-  pub enter_covered : {left : VerifierResources} {outcome : Outcome} {memory : RowSlices} → charged ≡ Covered left
+  pub enter_covered : {left : VerifierResources} {outcome : Outcome} {memory : RowSlices} → charged ≡ Ok left
       → some (leaves outcome memory) ≡ leaves_of row_laid (zero_row (length slots)) (first_row which sheet slots left)
       → some (leaves outcome memory) ≡ leaves_of row_laid (zero_row (length slots)) (entering which sheet slots budget)
   enter_covered {left} c k = k ∙ ap (leaves_of row_laid (zero_row (length slots))) (sym (matrix_covered which sheet slots budget left (covered matrix c)))

@@ -1,6 +1,7 @@
 -- What is to run after an outcome, as the code makes it.
 -- Assumes nothing.
-use mathlib.Core.Path.{◌≡◌, refl, ap, ◌∙◌}
+use Rattle.std.specs.Prelude.{Ok, Err}
+use mathlib.Core.Path.{◌≡◌, refl, sym, ap, ◌∙◌}
 use mathlib.Core.Bool.{false}
 use mathlib.Core.List.{List, ◌++◌, map}
 use mathlib.Core.Option.{Option, some}
@@ -12,10 +13,10 @@ use Rattle.model.specs.Fact.{kind, value}
 use Rattle.model.specs.Call.{zeros, filled}
 use Rattle.model.specs.declared.VerifierResources.{VerifierResources}
 use Rattle.model.specs.declared.AnalysisKind.{AnalysisKind}
-use Rattle.budget.specs.Outcome.{as_spent, Leaves, leaves, leaves_of}
-use Rattle.budget.specs.declared.Outcome.{Outcome}
-use Rattle.budget.specs.declared.Outcome.TheVariants.{Covered}
-use Rattle.budget.proofs.Outcomes.{NotCovered, stopped_then, stopped_leaves, spent_stopped}
+use Rattle.budget.specs.Outcome.{Outcome, as_spent, Leaves, leaves, leaves_of}
+use Rattle.budget.specs.declared.Refused.{Refused}
+use Rattle.stage_entry.proofs.Refusals.{refused_not_covered}
+use Rattle.budget.proofs.Outcomes.{stopped_then, stopped_leaves, spent_stopped}
 use Rattle.budget.proofs.Spending.{covered}
 use Rattle.finality.proofs.Lengths.{zeros_length}
 use Rattle.stage_memory.specs.Room.{room_by}
@@ -29,11 +30,12 @@ module _ (which : AnalysisKind) (sheet slots row_kinds row_values : List ℕ) (r
       (continue (λ _. begin which sheet (enough room sheet slots row_kinds row_values)) (as_spent before))
 
   -- nothing, after a refusal
-  pub prepared_none : row_kinds ≡ zeros row_kinds → row_values ≡ zeros row_values → NotCovered before → some (leaves before (prepared false 0 cleared row_kinds row_values)) ≡ goal
-  prepared_none zk zv h = stopped_leaves (stopped_then (spent_stopped before refl h) _) _ (cc)
+  pub prepared_none : {refused : Refused} → row_kinds ≡ zeros row_kinds → row_values ≡ zeros row_values → before ≡ Err refused
+      → some (leaves (Err refused) (prepared false 0 cleared row_kinds row_values)) ≡ goal
+  prepared_none zk zv e = rw (sym e) (stopped_leaves (stopped_then (spent_stopped before refl (refused_not_covered e)) _) _ (cc))
 
   -- what was begun in slots that are clear
-  pub prepared_begun : {left : VerifierResources} {outcome : Outcome} {end : PrepareEnd} → before ≡ Covered left
+  pub prepared_begun : {left : VerifierResources} {outcome : Outcome} {end : PrepareEnd} → before ≡ Ok left
       → some (leaves outcome end)
       ≡ leaves_of (prepared_by (code_count sheet) cleared row_kinds row_values) (unprepared cleared row_kinds row_values)
       (begin which sheet (enough room sheet cleared row_kinds row_values) left)

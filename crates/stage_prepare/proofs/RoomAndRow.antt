@@ -1,5 +1,7 @@
 -- The closure's slots, question 8 and the entry row, as the code makes them.
 -- Assumes nothing.
+use Rattle.std.specs.Prelude.{Err, Ok}
+use Rattle.budget.specs.declared.Refused.TheVariants.{NoRoom}
 use mathlib.Core.Path.{◌≡◌, refl, sym, ap, ◌∙◌}
 use mathlib.Core.Bool.{Bool, true, false}
 use mathlib.Core.Logic.{◌⊎◌, inl, inr}
@@ -19,9 +21,7 @@ use Rattle.model.specs.Lookup.{ascends}
 use Rattle.model.specs.declared.VerifierResources.{VerifierResources}
 use Rattle.model.specs.declared.AnalysisKind.{AnalysisKind}
 use Rattle.model.proofs.Tests.{both}
-use Rattle.budget.specs.Outcome.{refused_by, Leaves, leaves, leaves_of}
-use Rattle.budget.specs.declared.Outcome.{Outcome}
-use Rattle.budget.specs.declared.Outcome.TheVariants.{Covered, NoRoom}
+use Rattle.budget.specs.Outcome.{Outcome, refused_by, Leaves, leaves, leaves_of}
 use Rattle.budget.proofs.Outcomes.{Left, covered, stopped, left_by, covered_leaves, stopped_leaves}
 use Rattle.sheet.specs.Measured.{Accepted, Measured}
 use Rattle.sheet.specs.declared.Sizes.{Sizes}
@@ -56,6 +56,15 @@ module _ (n s slots present kinds values row_kinds row_values list : ℕ) (e : r
         seven.1,
       )
 
+-- what the code was answered, for what it was lent
+module _ (n s : ℕ) (slots row_kinds row_values : List ℕ) (room : Room) {given : Bool}
+    (asked : given ≡ room_by n s (length slots) room.present room.kinds room.values (length row_kinds) (length row_values) room.work_list) (yes : given ≡ true) where
+  pub room_given : room_by n s (length slots) room.present room.kinds room.values (length row_kinds) (length row_values) room.work_list ≡ true
+  room_given = sym asked ∙ yes
+
+  pub places_fit : (s ≤ length slots) × (s ≤ length row_kinds) × (s ≤ length row_values)
+  places_fit = let fit = room_parts n s _ _ _ _ _ _ _ room_given in (fit.0, fit.1, fit.2)
+
 -- ---- the entry row
 
 -- Unknown is zero
@@ -76,7 +85,7 @@ module _ (which : AnalysisKind) (sheet : List ℕ) (n s : ℕ) (all : n ≡ code
   abbrev goal : Option (Leaves RowSlices)
   goal = leaves_of (row_filled row_kinds row_values) (cleared_row row_kinds row_values) (enter_if (enough room sheet slots row_kinds row_values s) which sheet (take s slots) left)
 
-  pub refused_room : asked ≡ false → some (leaves (NoRoom left) (row_slices row_kinds row_values)) ≡ goal
+  pub refused_room : asked ≡ false → some (leaves (Err (NoRoom left)) (row_slices row_kinds row_values)) ≡ goal
   unfolding enter_if leaves_of refused_by
   refused_room e = rw (sym same ∙ e) (cc)
 
@@ -88,7 +97,7 @@ module _ (which : AnalysisKind) (sheet : List ℕ) (n s : ℕ) (all : n ≡ code
     unfolding enter_if
     with_room = rw (sym same ∙ e)
 
-    pub ended_at_once : (n ≡ 0) ⊎ (s ≡ 0) → some (leaves (Covered left) (row_slices row_kinds row_values)) ≡ goal
+    pub ended_at_once : (n ≡ 0) ⊎ (s ≡ 0) → some (leaves (Ok left) (row_slices row_kinds row_values)) ≡ goal
     ended_at_once none_here = covered_leaves _ _ (enters_at_once which sheet (take s slots) left (here none_here)) refl unknown_is ∙ with_room
       where
         here : (n ≡ 0) ⊎ (s ≡ 0) → (code_count sheet ≡ 0) ⊎ (length (take s slots) ≡ 0)

@@ -8,13 +8,13 @@ ghost use Rattle.model.specs.Call.{zeros};
 ghost use Rattle.budget.specs.Outcome.{leaves, leaves_of};
 ghost use Rattle.sheet.specs.Measured.{Accepted};
 ghost use Rattle.stage_prepare.specs.Begin.{begin, enter_if, enough, MarksAndRowZero, row_filled, cleared_row};
-ghost use Rattle.stage_prepare.specs.Prepare.{something, prepared, prepared_by, unprepared};
+ghost use Rattle.stage_prepare.specs.Prepare.{something, outcome_of, prepared_in, prepared_by, unprepared};
 
 use crate::entry::entry_row;
 use crate::{Prepared, Room};
-use budget::Outcome;
+use budget::{Outcome, Refused};
 use closure::tracked_slots;
-use memory::clear_u16;
+use memory::clear;
 use model::{AnalysisKind, VerifierResources};
 use sheet::Sizes;
 use stage_memory::room_for;
@@ -60,13 +60,13 @@ fn enter_tracked(
         row_values.len(),
         room.work_list,
     ) {
-        return Outcome::NoRoom { left: resources };
+        return Err(Refused::NoRoom { left: resources });
     }
     if n == 0 {
-        return Outcome::Covered { left: resources };
+        return Ok(resources);
     }
     if s == 0 {
-        return Outcome::Covered { left: resources };
+        return Ok(resources);
     }
     entry_row(
         which,
@@ -92,39 +92,30 @@ pub fn begin_stage(
     stack: &mut [u16],
     row_kinds: &mut [u8],
     row_values: &mut [u64],
-) -> Prepared
+) -> Result<Prepared, Refused>
     requires { Accepted sheet.now sizes × (slots.old ≡ zeros slots.old) × MarksAndRowZero sheet.now marks.old stack.old row_kinds.old row_values.old }
     ensures { let n = code_count sheet.now in
         let ss = slots.old in let rk = row_kinds.old in let rv = row_values.old in
-        (some (leaves result.outcome (prepared result.runs result.s slots.new row_kinds.new row_values.new))
+        (some (leaves (outcome_of result) (prepared_in result slots.new row_kinds.new row_values.new))
         ≡ leaves_of (prepared_by n ss rk rv) (unprepared ss rk rv)
         (begin which sheet.now (enough room sheet.now ss rk rv) resources))
         × (marks.new ≡ zeros marks.old) × (stack.new ≡ zeros stack.old) }
 {
-    let closed = tracked_slots(which, sheet, sizes, resources, slots, marks, stack);
-    let tracked = closed.outcome;
-    let Outcome::Covered { left } = tracked else {
-        return Prepared {
-            runs: false,
-            s: 0,
-            outcome: tracked,
-        };
-    };
-    let s = closed.s;
-    let outcome = enter_tracked(
+    let tracked = tracked_slots(which, sheet, sizes, resources, slots, marks, stack)?;
+    let s = tracked.s;
+    let left = tracked.left;
+    let entered = enter_tracked(
         which, sheet, sizes, room, s, slots, left, row_kinds, row_values,
     );
-    let Outcome::Covered { left: _ } = outcome else {
-        clear_u16(slots);
-        return Prepared {
-            runs: false,
-            s: 0,
-            outcome,
-        };
-    };
-    Prepared {
-        runs: is_something(sizes.code_count, s),
-        s,
-        outcome,
+    match entered {
+        Ok(left) => Ok(Prepared {
+            runs: is_something(sizes.code_count, s),
+            s,
+            left,
+        }),
+        Err(refused) => {
+            clear(slots);
+            Err(refused)
+        }
     }
 }

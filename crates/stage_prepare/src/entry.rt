@@ -27,9 +27,6 @@ pub fn entry_row(
     ensures { some (leaves result (row_slices row_kinds.new row_values.new))
         ≡ leaves_of row_laid (zero_row (length slots.now)) (entering which sheet.now slots.now resources) }
 {
-    let charged = charge_matrix(which, sizes.code_count, slots.len(), resources);
-    let Outcome::Covered { left } = charged else {
-        return charged;
-    };
+    let left = charge_matrix(which, sizes.code_count, slots.len(), resources)?;
     first_row(which, sheet, sizes, slots, left, row_kinds, row_values)
 }

@@ -5,7 +5,7 @@ mod begin;
 mod entry;
 mod preparation;
 
-use budget::Outcome;
+use model::VerifierResources;
 pub use preparation::prepare;
 
 // How long the tables and the work list are, of which question 8 asks.
@@ -17,10 +17,11 @@ pub struct Room {
     pub work_list: usize,
 }
 
-// What is to run: whether anything is, and how many slots are tracked; and the outcome so far.
+// What is to run: whether anything is, and how many slots are tracked; and what the charges so far left. `runs` is no Option of the count: with
+// no instruction nothing runs, and the tracked slots are counted all the same.
 #[derive(Clone, Copy)]
 pub struct Prepared {
     pub runs: bool,
     pub s: usize,
-    pub outcome: Outcome,
+    pub left: VerifierResources,
 }

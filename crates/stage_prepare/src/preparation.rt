@@ -7,12 +7,12 @@ ghost use Rattle.model.specs.Call.{zeros};
 ghost use Rattle.budget.specs.Outcome.{as_spent, leaves, leaves_of};
 ghost use Rattle.sheet.specs.Measured.{Accepted};
 ghost use Rattle.stage_prepare.specs.Begin.{begin, enough, MarksAndRowZero};
-ghost use Rattle.stage_prepare.specs.Prepare.{prepared, prepared_by, unprepared};
+ghost use Rattle.stage_prepare.specs.Prepare.{outcome_of, prepared_in, prepared_by, unprepared};
 
 use crate::begin::begin_stage;
 use crate::{Prepared, Room};
-use budget::Outcome;
-use memory::clear_u16;
+use budget::{Outcome, Refused};
+use memory::clear;
 use model::AnalysisKind;
 use sheet::Sizes;
 
@@ -28,23 +28,17 @@ pub fn prepare(
     stack: &mut [u16],
     row_kinds: &mut [u8],
     row_values: &mut [u64],
-) -> Prepared
+) -> Result<Prepared, Refused>
     requires { Accepted sheet.now sizes × MarksAndRowZero sheet.now marks.old stack.old row_kinds.old row_values.old }
     ensures { let n = code_count sheet.now in
         let ss = slots.old in let rk = row_kinds.old in let rv = row_values.old in
-        (some (leaves result.outcome (prepared result.runs result.s slots.new row_kinds.new row_values.new))
+        (some (leaves (outcome_of result) (prepared_in result slots.new row_kinds.new row_values.new))
         ≡ leaves_of (prepared_by n ss rk rv) (unprepared ss rk rv)
         (continue (λ _. begin which sheet.now (enough room sheet.now ss rk rv)) (as_spent before)))
         × (marks.new ≡ zeros marks.old) × (stack.new ≡ zeros stack.old) }
 {
-    clear_u16(slots);
-    let Outcome::Covered { left } = before else {
-        return Prepared {
-            runs: false,
-            s: 0,
-            outcome: before,
-        };
-    };
+    clear(slots);
+    let left = before?;
     begin_stage(
         which, sheet, sizes, room, left, slots, marks, stack, row_kinds, row_values,
     )

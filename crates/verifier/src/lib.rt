@@ -13,7 +13,7 @@ ghost use Rattle.model.specs.declared.VerifierResources.{VerifierResources};
 use call_indexed::analyze_indexed;
 use model::{Answer, VerifierResources};
 use sheet_index::index_sheet;
-use sheet_questions::{Admission, admit};
+use sheet_questions::admit;
 
 // "Questions, in order", the charges and the three analyses. What it answers and what every lent buffer holds afterwards is the call that the
 // definitions give (`analyzed`); and of an answer with facts, each analysis took at most n × (1 + 2 × s) entries from its work list, and with
@@ -53,40 +53,40 @@ pub fn analyze(
         (constant index container : Counts) (left : VerifierResources) → result ≡ Analyzed constant index container left
         → LentDemand sheet.now resources l.entry constant index container left l.exit }
 {
-    let admission = admit(sheet, marks.len(), stack.len());
-    match admission {
-        Admission::Refused { number } => Answer::Invalid {
-            number,
-            left: resources,
-        },
-        Admission::Admitted { sizes } => {
-            let mut firsts = [0u16; 4096];
-            let mut classes = [0u16; 1025];
-            index_sheet(sheet, sizes, &mut firsts, &mut classes);
-            analyze_indexed(
-                sheet,
-                sizes,
-                &firsts,
-                &classes,
-                resources,
-                constant_slots,
-                constant_present,
-                constant_kinds,
-                constant_values,
-                index_slots,
-                index_present,
-                index_kinds,
-                index_values,
-                container_slots,
-                container_present,
-                container_kinds,
-                container_values,
-                marks,
-                stack,
-                row_kinds,
-                row_values,
-                work_list,
-            )
+    let sizes = match admit(sheet, marks.len(), stack.len()) {
+        Ok(sizes) => sizes,
+        Err(question) => {
+            return Answer::Invalid {
+                question,
+                left: resources,
+            };
         }
-    }
+    };
+    let mut firsts = [0u16; 4096];
+    let mut classes = [0u16; 1025];
+    index_sheet(sheet, sizes, &mut firsts, &mut classes);
+    analyze_indexed(
+        sheet,
+        sizes,
+        &firsts,
+        &classes,
+        resources,
+        constant_slots,
+        constant_present,
+        constant_kinds,
+        constant_values,
+        index_slots,
+        index_present,
+        index_kinds,
+        index_values,
+        container_slots,
+        container_present,
+        container_kinds,
+        container_values,
+        marks,
+        stack,
+        row_kinds,
+        row_values,
+        work_list,
+    )
 }

@@ -69,4 +69,4 @@ pub returns : goal.returns
 returns c =
     call_promise _ c.requires.0 c.args.resources (table c.args.constant_slots.now c.args.constant_present.now c.args.constant_kinds.now c.args.constant_values.now) (table c.args.index_slots.now c.args.index_present.now c.args.index_kinds.now c.args.index_values.now) (table c.args.container_slots.now c.args.container_present.now c.args.container_kinds.now c.args.container_values.now) (scratch c.args.marks.now c.args.stack.now c.args.row_kinds.now c.args.row_values.now c.args.work_list.now) c.requires.3 c.requires.4 _ _ c.analyze_values-values.ensures c.analyze_stage-containers.ensures
     (record { slots = c.analyze_values-values.auto.constant_slots; present = c.analyze_values-values.auto.constant_present; kinds = c.analyze_values-values.auto.constant_kinds; values = c.analyze_values-values.auto.constant_values }) (record { slots = c.analyze_values-values.auto.index_slots; present = c.analyze_values-values.auto.index_present; kinds = c.analyze_values-values.auto.index_kinds; values = c.analyze_values-values.auto.index_values })
-    c.refuses-refused.ensures c.clear_table_if.ensures c.clear_table_if-2.ensures c.answer_of.ensures
+    c.is_err-refused.ensures.value c.clear_table_if.ensures c.clear_table_if-2.ensures c.answer_of.ensures

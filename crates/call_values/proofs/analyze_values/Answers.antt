@@ -79,4 +79,4 @@ returns c =
     c.clear_scratch.new.row_values c.clear.new.work_list ≡ zero_scratch (scratch c.args.marks.now c.args.stack.now c.args.row_kinds.now c.args.row_values.now c.args.work_list.now) = let a = c.args in
     scratch_zeroed a.marks.now a.stack.now a.row_kinds.now a.row_values.now a.work_list.now c.clear_scratch.ensures c.clear.ensures in came) c.charge_graph-begun.ensures c.analyze_stage-constants.ensures c.store_lengths.ensures.stored
     c.analyze_stage-staged.ensures (record { slots = c.analyze_stage-constants.auto.slots; present = c.analyze_stage-constants.auto.present; kinds = c.analyze_stage-constants.auto.kinds; values = c.analyze_stage-constants.auto.values })
-    c.refuses-refused.ensures c.counts_unless.ensures c.clear_table_if.ensures
+    c.is_err-refused.ensures.value c.counts_unless.ensures c.clear_table_if.ensures

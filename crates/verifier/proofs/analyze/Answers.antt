@@ -10,20 +10,20 @@ use Rattle.verifier.proofs.analyze.Goals as goal
 -- ---- the needs
 pub index_sheet-requires : goal.index_sheet-requires
 index_sheet-requires c =
-    let asks = admitted_lengths _ _ _ c.admit-admission.ensures c.in-Admitted.is in
+    let asks = admitted_lengths _ _ _ c.admit.ensures c.in-Ok.is in
     (asks.0, few_code asks.0, few_layouts asks.0)
 
 pub analyze_indexed-requires : goal.analyze_indexed-requires
 analyze_indexed-requires c =
-    let asks = admitted_lengths _ _ _ c.admit-admission.ensures c.in-Admitted.is in
+    let asks = admitted_lengths _ _ _ c.admit.ensures c.in-Ok.is in
     (asks.0, firsts_found asks.0 _ (few_code asks.0) c.index_sheet.ensures.0, classes_found asks.0 _ (few_layouts asks.0) c.index_sheet.ensures.1, asks.1, asks.2)
 
-pub returns-in-Refused : goal.returns-in-Refused
-returns-in-Refused c =
+pub returns-in-Err : goal.returns-in-Err
+returns-in-Err c =
     let call = turned_away _ (lent (table c.args.constant_slots.now c.args.constant_present.now c.args.constant_kinds.now c.args.constant_values.now)
     (table c.args.index_slots.now c.args.index_present.now c.args.index_kinds.now c.args.index_values.now)
     (table c.args.container_slots.now c.args.container_present.now c.args.container_kinds.now c.args.container_values.now)
-    (scratch c.args.marks.now c.args.stack.now c.args.row_kinds.now c.args.row_values.now c.args.work_list.now)) c.admit-admission.ensures c.args.resources c.in-Refused.is in
+    (scratch c.args.marks.now c.args.stack.now c.args.row_kinds.now c.args.row_values.now c.args.work_list.now)) c.admit.ensures c.args.resources c.in-Err.is in
     record {
       call = call;
       demand = demanded _ c.args.resources (lent (table c.args.constant_slots.now c.args.constant_present.now c.args.constant_kinds.now c.args.constant_values.now)
@@ -86,8 +86,8 @@ shape_of-row_values c = c.analyze_indexed.auto.row_values
 pub shape_of-work_list : goal.shape_of-work_list
 shape_of-work_list c = c.analyze_indexed.auto.work_list
 
-pub returns-in-Admitted : goal.returns-in-Admitted
-returns-in-Admitted c =
+pub returns : goal.returns
+returns c =
     record {
       call = c.analyze_indexed.ensures;
       demand = demanded _ c.args.resources (lent (table c.args.constant_slots.now c.args.constant_present.now c.args.constant_kinds.now c.args.constant_values.now)

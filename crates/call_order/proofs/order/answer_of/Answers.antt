@@ -3,14 +3,14 @@
 use Rattle.call_order.specs.Answer.{answer_of}
 use Rattle.call_order.proofs.order.answer_of.Goals as goal
 
-pub returns-in-Covered : goal.returns-in-Covered
+pub returns-in-Ok : goal.returns-in-Ok
 unfolding answer_of
-returns-in-Covered c = rw c.in-Covered.is
+returns-in-Ok c = rw c.in-Ok.is
 
-pub returns-in-Refused : goal.returns-in-Refused
+pub returns-in-OverBudget : goal.returns-in-OverBudget
 unfolding answer_of
-returns-in-Refused c = rw c.in-Refused.is
+returns-in-OverBudget c = rw (c.in-Err.is, c.in-OverBudget.is)
 
 pub returns-in-NoRoom : goal.returns-in-NoRoom
 unfolding answer_of
-returns-in-NoRoom c = rw c.in-NoRoom.is
+returns-in-NoRoom c = rw (c.in-Err.is, c.in-NoRoom.is)

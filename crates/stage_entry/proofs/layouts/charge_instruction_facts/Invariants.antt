@@ -1,5 +1,4 @@
 -- `stage_entry::layouts::charge_instruction_facts` meets its contract: so far all charges were covered. Assumes nothing.
-use Prim.Native.Nat.{◌-◌}
 use Rattle.model.specs.Transfer.{instruction_fact}
 use Rattle.model.specs.Parameters.{charge_fact}
 use Rattle.budget.proofs.Spending.{Charged}
@@ -7,6 +6,3 @@ use Rattle.stage_entry.proofs.layouts.charge_instruction_facts.Given as goal
 
 abbrev pub invariant-loop-pc : goal.invariant-loop-pc
 invariant-loop-pc l = Charged (λ i. charge_fact l.sheet (instruction_fact l.sheet i)) l.n l.initial.left l.left l.pc
-
-abbrev pub decreases-loop-pc : goal.decreases-loop-pc
-decreases-loop-pc l = l.n - l.pc

@@ -8,6 +8,7 @@ use Rattle.budget.specs.Outcome.{leaves_of}
 use Rattle.sheet.proofs.SizeLimits.{limited}
 use Rattle.sheet.proofs.SizeNames.{counted}
 use Rattle.stage_entry.specs.First.{row_laid, zero_row}
+use Rattle.stage_entry.proofs.Refusals.{refused_not_covered, leaves_again}
 use Rattle.stage_entry.proofs.ParamSeeds.{seeded_none, seeded_more, seeded_refused, seeded_all}
 use native.Mathlib.Omega.{arith}
 use Rattle.stage_entry.proofs.seeds.seed_params.Goals as goal
@@ -18,26 +19,24 @@ loop-i-init c = seeded_none _ _ _ _ _ _ _ c.requires.1
 pub overflow_add-slot : goal.overflow_add-slot
 overflow_add-slot c = let l = limited c.requires.0 in omega arith
 
-pub seed_param-seeded-requires : goal.seed_param-seeded-requires
-seed_param-seeded-requires c =
+pub seed_param-requires : goal.seed_param-requires
+seed_param-requires c =
     let asked = c.requires in
     (asked.0, c.loop-i-test.true, record { ascending = asked.1.ascending; kinds_long = c.loop-i.invariant.kinds_long; values_long = c.loop-i.invariant.values_long })
 
-pub returns-in_default : goal.returns-in_default
-returns-in_default c row l =
-    seeded_refused _ _ _ _ _ _ _ c.loop-i.invariant c.loop-i-test.true _ c.seed_param-seeded.ensures c.in_default.not-Covered (counted c.requires.0.are).param_count_is row l
+pub returns-in_err-left : goal.returns-in_err-left
+returns-in_err-left c row l =
+    leaves_again c.from_residual.result c.in_err-left.was c.from_residual.ensures.1
+    (seeded_refused _ _ _ _ _ _ _ c.loop-i.invariant c.loop-i-test.true _ c.seed_param.ensures (refused_not_covered c.in_err-left.was) (counted c.requires.0.are).param_count_is row l
     ∙ (let a = c.args in
-    ap (λ (n : ℕ). leaves_of row_laid (zero_row (length a.slots.now)) (seed_params a.sheet.now a.slots.now n (param_count a.sheet.now) row a.resources)) c.wide-begin.ensures.0)
+    ap (λ (n : ℕ). leaves_of row_laid (zero_row (length a.slots.now)) (seed_params a.sheet.now a.slots.now n (param_count a.sheet.now) row a.resources)) c.wide-begin.ensures.0))
 
 pub overflow_add-passed : goal.overflow_add-passed
 overflow_add-passed c = let l = limited c.requires.0 in omega arith
 
-pub overflow_add-i : goal.overflow_add-i
-overflow_add-i c = let l = limited c.requires.0 in omega arith
-
 pub loop-i-preserved : goal.loop-i-preserved
 loop-i-preserved c =
-    seeded_more _ _ _ _ _ _ _ c.loop-i.invariant c.loop-i-test.true _ c.seed_param-seeded.ensures c.in-Covered.is
+    seeded_more _ _ _ _ _ _ _ c.loop-i.invariant c.loop-i-test.true _ c.seed_param.ensures c.in_ok-left.was
     (c.wide-passed.ensures.0 ∙ c.param_width_at.ensures) (omega arith) (omega arith) (omega arith)
 
 pub returns : goal.returns

@@ -1,11 +1,7 @@
 -- `stage_entry::seeds::seed_params` meets its contract: so far all charges were covered. Assumes nothing.
-use Prim.Native.Nat.{◌-◌}
 use Rattle.stage_entry.proofs.ParamSeeds.{Seeded}
 use Rattle.stage_entry.proofs.seeds.seed_params.Given as goal
 
 abbrev pub invariant-loop-i : goal.invariant-loop-i
 invariant-loop-i l =
     Seeded l.sheet l.slots l.begin l.initial.left l.initial.row_kinds l.initial.row_values l.count l.row_kinds l.row_values l.left l.passed l.i
-
-abbrev pub decreases-loop-i : goal.decreases-loop-i
-decreases-loop-i l = l.count - l.i

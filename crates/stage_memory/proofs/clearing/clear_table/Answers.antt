@@ -7,4 +7,4 @@ use Rattle.stage_memory.proofs.clearing.clear_table.Goals as goal
 pub returns : goal.returns
 unfolding zero_table
 returns c =
-    table_path c.clear_u16.ensures c.clear_rows.ensures.0 c.clear_rows.ensures.1 c.clear_rows.ensures.2
+    table_path c.clear.ensures c.clear_rows.ensures.0 c.clear_rows.ensures.1 c.clear_rows.ensures.2

@@ -4,12 +4,12 @@ use mathlib.Core.Path.{sym, ◌∙◌}
 use Rattle.stage_memory.specs.Stage.{counts_if}
 use Rattle.stage_memory.proofs.conclusion.conclude.Goals as goal
 
-pub returns-then-refuses : goal.returns-then-refuses
+pub returns-then-is_err : goal.returns-then-is_err
 unfolding counts_if
-returns-then-refuses c =
-    let is = sym c.refuses.ensures ∙ c.if-refuses.true in
-    (rw is, rw is c.clear_u16.ensures)
+returns-then-is_err c =
+    let is = sym c.is_err.ensures.value ∙ c.if-is_err.true in
+    (rw is, rw is c.clear.ensures)
 
 pub returns : goal.returns
 unfolding counts_if
-returns c = let is = sym c.refuses.ensures ∙ c.if-refuses.false in (rw is, rw is)
+returns c = let is = sym c.is_err.ensures.value ∙ c.if-is_err.false in (rw is, rw is)
