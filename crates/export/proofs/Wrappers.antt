@@ -10,8 +10,7 @@ use lib.ListN.{length, drop}
 use Rattle.model.specs.Call.{Lent, answer_numbered, call_result, analyzed}
 use Rattle.model.specs.declared.VerifierResources.{VerifierResources}
 use Rattle.model.specs.declared.Answer.{Answer}
-use Rattle.model.specs.declared.SlotFact.{SlotFact}
-use Rattle.model.specs.Lookup.{WithNumbers, fact_with_numbers}
+use Rattle.model.specs.Lookup.{SlotFact, WithNumbers, fact_with_numbers}
 use Rattle.model.specs.Interface.{twelve, exported, handed, exported_of, looked, looked_up}
 
 module _ (sheet : List ℕ) (budget : VerifierResources) (lent : Lent) (old : List ℕ) where

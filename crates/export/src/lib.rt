@@ -12,12 +12,15 @@ ghost use Rattle.model.specs.Promise.{lent_table, lent_scratch, lent_call};
 ghost use Rattle.model.specs.Interface.{exported, exported_of, looked, looked_up, reached_number};
 
 use export_numbers::{put_answer, put_slot_fact, reached};
-use lookup::{
-    constant_fact_for_slot, container_fact_for_slot, fixed_fact, index_check_fact_for_slot,
-    is_reachable,
-};
-use model::VerifierResources;
+use lookup::{Tables, is_reachable};
+use model::{AnalysisKind, VerifierResources};
 use verifier::analyze;
+
+// The functions that C calls keep their names, their parameters one by one, and their answers as numbers: C has no struct of slices, no enum with values
+// and no Result.
+
+// What C is told: the memory for the answer is too short.
+const TOO_SHORT: u8 = 255;
 
 // 0, or the number of the first question that refuses; the first 12 entries of answer hold the answer's numbers. 255 where it has fewer: nothing
 // lent changes then. The result, what is lent and answer are those of the call that the definitions give (`exported_of`).
@@ -54,7 +57,7 @@ pub extern "C" fn vo_facts_analyze(
         ≡ exported_of (leb 12 (length answer.old)) sheet.now (record { bytes = bytes; work = work }) l.entry answer.old }
 {
     if answer.len() < 12 {
-        return 255;
+        return TOO_SHORT;
     }
     let ended = analyze(
         sheet,
@@ -94,7 +97,13 @@ pub extern "C" fn vo_facts_constant(
     ensures { let fact = fact_for_slot Constant slots.now present.now kinds.now values.now pc slot in
         looked result out.new ≡ looked_up (leb 2 (length out.old)) fact out.old }
 {
-    let fact = constant_fact_for_slot(slots, present, kinds, values, pc, slot);
+    let tables = Tables {
+        slots,
+        present,
+        kinds,
+        values,
+    };
+    let fact = tables.fact_for_slot(AnalysisKind::Constant, pc, slot);
     put_slot_fact(fact, out)
 }
 
@@ -112,7 +121,13 @@ pub extern "C" fn vo_facts_index_check(
     ensures { let fact = fact_for_slot IndexCheck slots.now present.now kinds.now values.now pc slot in
         looked result out.new ≡ looked_up (leb 2 (length out.old)) fact out.old }
 {
-    let fact = index_check_fact_for_slot(slots, present, kinds, values, pc, slot);
+    let tables = Tables {
+        slots,
+        present,
+        kinds,
+        values,
+    };
+    let fact = tables.fact_for_slot(AnalysisKind::IndexCheck, pc, slot);
     put_slot_fact(fact, out)
 }
 
@@ -130,7 +145,13 @@ pub extern "C" fn vo_facts_container(
     ensures { let fact = fact_for_slot Container slots.now present.now kinds.now values.now pc slot in
         looked result out.new ≡ looked_up (leb 2 (length out.old)) fact out.old }
 {
-    let fact = container_fact_for_slot(slots, present, kinds, values, pc, slot);
+    let tables = Tables {
+        slots,
+        present,
+        kinds,
+        values,
+    };
+    let fact = tables.fact_for_slot(AnalysisKind::Container, pc, slot);
     put_slot_fact(fact, out)
 }
 
@@ -147,7 +168,13 @@ pub extern "C" fn vo_facts_fixed(
     ensures { let fact = fixed slots.now present.now kinds.now values.now slot in
         looked result out.new ≡ looked_up (leb 2 (length out.old)) fact out.old }
 {
-    let fact = fixed_fact(slots, present, kinds, values, slot);
+    let tables = Tables {
+        slots,
+        present,
+        kinds,
+        values,
+    };
+    let fact = tables.fixed_fact(slot);
     put_slot_fact(fact, out)
 }
 

@@ -11,7 +11,7 @@ use native.Mathlib.Omega.{arith}
 use lib.Dec.{leb, ltb}
 use lib.ListN.{length, set}
 use borrow.Author.Tests.{le-leb, lt-leb, lt-ltb, le-ltb}
-use Rattle.model.specs.Sheet.{code_count, local_slots, layout_count, sheet_refusal}
+use Rattle.model.specs.Sheet.{code_count, local_slots, layout_count, question_number, sheet_refusal}
 use Rattle.model.specs.Charges.{ok}
 use Rattle.model.specs.Closure.{tracked_slots}
 use Rattle.model.specs.Call.{zeros}
@@ -19,8 +19,8 @@ use Rattle.model.specs.Listing.{lowest}
 use Rattle.model.specs.declared.VerifierResources.{VerifierResources}
 use Rattle.model.specs.declared.AnalysisKind.{AnalysisKind}
 use Rattle.model.specs.declared.AnalysisKind.TheVariants.{Constant, IndexCheck, Container}
-use Rattle.budget.specs.Outcome.{leaves, leaves_of}
-use Rattle.budget.specs.declared.Outcome.{Outcome}
+use Rattle.std.specs.Prelude.{Result, Ok, Err}
+use Rattle.budget.specs.Outcome.{Outcome, leaves, leaves_of}
 use Rattle.budget.proofs.Outcomes.{Left, covered, stopped, left_by}
 use Rattle.sheet.specs.Measured.{Measured}
 use Rattle.sheet.specs.declared.Sizes.{Sizes}
@@ -28,8 +28,8 @@ use Rattle.sheet.proofs.SizeNames.{counted}
 use Rattle.sheet.proofs.SizeLimits.{limited}
 use Rattle.sheet_questions.specs.Check.{sheet_check}
 use Rattle.sheet_questions.specs.Admitted.{admission}
-use Rattle.sheet_questions.specs.declared.Admission.{Admission}
-use Rattle.sheet_questions.specs.declared.Admission.TheVariants.{Admitted, Refused}
+use Rattle.model.specs.declared.Question.{Question}
+use Rattle.model.specs.declared.Question.TheVariants.{ClosureRoom}
 use Rattle.sheet_questions.proofs.FirstRefusal.{accepted, refused}
 use Rattle.sheet_questions.proofs.AdmissionTests.{admitted_lengths, refused_by_lem}
 use Rattle.closure.specs.Closed.{Closed, closed, closed_by}
@@ -86,19 +86,19 @@ module _ (sheet marks stack out : List ℕ) where
   unfolding room_of
   out_too_short h = rw (lt-leb 4 (length out) h) refl
 
-  module _ (long : 4 ≤ length out) {given : Admission} (e : given ≡ admission sheet (length marks) (length stack)) where
-    pub room_refused : {number : ℕ} → given ≡ Refused number → room number marks stack out ≡ room_of (leb 4 (length out)) sheet marks stack out
+  module _ (long : 4 ≤ length out) {given : Result Sizes Question} (e : given ≡ admission sheet (length marks) (length stack)) where
+    pub room_refused : {question : Question} → given ≡ Err question → room (question_number question) marks stack out ≡ room_of (leb 4 (length out)) sheet marks stack out
     unfolding room_of room_after_five room_if
     room_refused c = rw (le-leb 4 (length out) long) (go (refused_by_lem sheet _ _ e c))
       where
-        go : {number : ℕ}
-            → (sheet_refusal sheet ≡ some number) ⊎ ((sheet_refusal sheet ≡ none) × (leb (local_slots sheet) (length marks) && leb (local_slots sheet) (length stack) ≡ false) × (number ≡ 6))
-            → room number marks stack out ≡ room_after_five (sheet_refusal sheet) sheet marks stack out
+        go : {question : Question}
+            → (sheet_refusal sheet ≡ some question) ⊎ ((sheet_refusal sheet ≡ none) × (leb (local_slots sheet) (length marks) && leb (local_slots sheet) (length stack) ≡ false) × (question ≡ ClosureRoom))
+            → room (question_number question) marks stack out ≡ room_after_five (sheet_refusal sheet) sheet marks stack out
         go (inl h) = rw h
         go (inr h) = rw (h.0, h.1, h.2)
 
     -- all four room-told
-    pub room_told : {sizes : Sizes} {marks' stack' out' : List ℕ} → given ≡ Admitted sizes → marks' ≡ zeros marks → stack' ≡ zeros stack → out' ≡ in_front (room_numbers sheet) out
+    pub room_told : {sizes : Sizes} {marks' stack' out' : List ℕ} → given ≡ Ok sizes → marks' ≡ zeros marks → stack' ≡ zeros stack → out' ≡ in_front (room_numbers sheet) out
         → room 0 marks' stack' out' ≡ room_of (leb 4 (length out)) sheet marks stack out
     unfolding room_of room_after_five room_if
     room_told c p q o =
@@ -125,12 +125,12 @@ module _ (sheet : List ℕ) (layout : ℕ) (out : List ℕ) where
   unfolding lowest_of
   no_entry h = rw (lt-leb 1 (length out) h) refl
 
-  module _ (long : 1 ≤ length out) {checked : Admission} (e : checked ≡ sheet_check sheet) where
-    pub sheet_refused : {number : ℕ} → checked ≡ Refused number → looked number out ≡ lowest_of (leb 1 (length out)) sheet layout out
+  module _ (long : 1 ≤ length out) {checked : Result Sizes Question} (e : checked ≡ sheet_check sheet) where
+    pub sheet_refused : {question : Question} → checked ≡ Err question → looked (question_number question) out ≡ lowest_of (leb 1 (length out)) sheet layout out
     unfolding lowest_of lowest_after_five
     sheet_refused c = rw (le-leb 1 (length out) long, refused sheet (sym c ∙ e))
 
-    pub searched : {sizes : Sizes} {returned : ℕ} {out' : List ℕ} → checked ≡ Admitted sizes
+    pub searched : {sizes : Sizes} {returned : ℕ} {out' : List ℕ} → checked ≡ Ok sizes
         → looked returned out' ≡ lowest_if (ltb layout (layout_count sheet)) sheet layout out → looked returned out' ≡ lowest_of (leb 1 (length out)) sheet layout out
     unfolding lowest_of lowest_after_five
     searched c p = rw (le-leb 1 (length out) long, (accepted sheet (sym c ∙ e)).accepted) p

@@ -8,7 +8,12 @@ ghost use Rattle.model.specs.Room.{lowest_if, lowest_of};
 use sheet::Sizes;
 use sheet_index::layout_starts;
 use sheet_layouts::lowest;
-use sheet_questions::{Admission, check_sheet};
+use sheet_questions::check_sheet;
+
+// What C is told, which has no Result: the number names no layout; the memory for the answer has no entry.
+const NO_LAYOUT: u8 = 254;
+
+const TOO_SHORT: u8 = 255;
 
 // Of a sheet that questions 1 to 5 do not refuse: the lowest number of a layout with this one's content, or 254.
 fn put_lowest(sheet: &[u8], sizes: Sizes, layout: u64, out: &mut [u64]) -> u8
@@ -16,7 +21,7 @@ fn put_lowest(sheet: &[u8], sizes: Sizes, layout: u64, out: &mut [u64]) -> u8
     ensures { looked result out.new ≡ lowest_if (ltb layout (layout_count sheet.now)) sheet.now layout out.old }
 {
     if sizes.layout_count as u64 <= layout {
-        return 254;
+        return NO_LAYOUT;
     }
     let mut starts = [0u16; 1024];
     layout_starts(sheet, sizes, &mut starts);
@@ -30,11 +35,10 @@ pub fn lowest_layout(sheet: &[u8], layout: u64, out: &mut [u64]) -> u8
     ensures { looked result out.new ≡ lowest_of (leb 1 (length out.old)) sheet.now layout out.old }
 {
     if out.len() < 1 {
-        return 255;
+        return TOO_SHORT;
     }
-    let checked = check_sheet(sheet);
-    match checked {
-        Admission::Refused { number } => number,
-        Admission::Admitted { sizes } => put_lowest(sheet, sizes, layout, out),
+    match check_sheet(sheet) {
+        Ok(sizes) => put_lowest(sheet, sizes, layout, out),
+        Err(question) => question.number(),
     }
 }

@@ -6,10 +6,13 @@ ghost use Rattle.model.specs.Interface.{in_front};
 ghost use Rattle.model.specs.Room.{closure_slots, room, room_numbers, room_of};
 
 use closure::tracked_slots;
-use memory::{clear_u8, clear_u16};
+use memory::clear;
 use model::{AnalysisKind, VerifierResources};
 use sheet::Sizes;
-use sheet_questions::{Admission, admit};
+use sheet_questions::admit;
+
+// What C is told, which has no Result: the memory for the numbers has fewer than four entries.
+const TOO_SHORT: u8 = 255;
 
 // The s of one analysis. No charge of its closure is refused: marks and stack are charged with 3 for each of L, and each of at most L turns with at
 // most 2 for each instruction.
@@ -30,19 +33,19 @@ fn count_tracked(
     };
     // The slots are not wanted: where they do not fit, they are only counted.
     let mut slots = [0u16; 1];
-    let closed = tracked_slots(which, sheet, sizes, plenty, &mut slots, marks, stack);
-    closed.s as u64
+    match tracked_slots(which, sheet, sizes, plenty, &mut slots, marks, stack) {
+        Ok(tracked) => tracked.s as u64,
+        Err(_) => 0,
+    }
 }
 
 // Four numbers at the front of out, which keeps those behind them.
+#[tactic(auto, unfolding(model::specs::Interface::in_front))]
 fn put_four(n: u64, constant: u64, index: u64, container: u64, out: &mut [u64])
     requires { 4 ≤ length out.old }
     ensures { out.new ≡ in_front (n ∷ constant ∷ index ∷ container ∷ []) out.old }
 {
-    out[0] = n;
-    out[1] = constant;
-    out[2] = index;
-    out[3] = container;
+    out[..4].copy_from_slice(&[n, constant, index, container]);
 }
 
 // n and the s of each analysis, by marks and stack that are zero, before and after.
@@ -64,8 +67,8 @@ fn put_room(sheet: &[u8], sizes: Sizes, marks: &mut [u8], stack: &mut [u16], out
     ensures { (marks.new ≡ zeros marks.old) × (stack.new ≡ zeros stack.old)
         × (out.new ≡ in_front (room_numbers sheet.now) out.old) }
 {
-    clear_u8(marks);
-    clear_u16(stack);
+    clear(marks);
+    clear(stack);
     put_counts(sheet, sizes, marks, stack, out);
 }
 
@@ -76,14 +79,13 @@ pub fn room_of(sheet: &[u8], marks: &mut [u8], stack: &mut [u16], out: &mut [u64
         ≡ room_of (leb 4 (length out.old)) sheet.now marks.old stack.old out.old }
 {
     if out.len() < 4 {
-        return 255;
+        return TOO_SHORT;
     }
-    let admission = admit(sheet, marks.len(), stack.len());
-    match admission {
-        Admission::Refused { number } => number,
-        Admission::Admitted { sizes } => {
+    match admit(sheet, marks.len(), stack.len()) {
+        Ok(sizes) => {
             put_room(sheet, sizes, marks, stack, out);
             0
         }
+        Err(question) => question.number(),
     }
 }

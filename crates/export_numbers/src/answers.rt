@@ -6,8 +6,14 @@ ghost use Rattle.export_numbers.specs.Numbers.{entries, nothing};
 
 use model::{Answer, Counts, VerifierResources};
 
-// All twelve at the front of out, which keeps those behind them.
-fn put_twelve(
+const NO_COUNTS: Counts = Counts {
+    tracked: 0,
+    pops: 0,
+};
+
+// All twelve, in the order that the C interface gives them.
+#[tactic(auto, unfolding(crate::specs::Numbers::numbers_compute))]
+fn entries(
     number: u8,
     constant: Counts,
     index: Counts,
@@ -16,51 +22,47 @@ fn put_twelve(
     stage: u8,
     requested: u64,
     remaining: u64,
-    out: &mut [u64],
-)
-    requires { 12 ≤ length out.old }
-    ensures { out.new ≡ entries number constant index container left stage requested remaining ++ drop 12 out.old }
+) -> [u64; 12]
+    ensures { result ≡ entries number constant index container left stage requested remaining }
 {
-    out[0] = number as u64;
-    out[1] = constant.tracked;
-    out[2] = constant.pops;
-    out[3] = index.tracked;
-    out[4] = index.pops;
-    out[5] = container.tracked;
-    out[6] = container.pops;
-    out[7] = left.bytes;
-    out[8] = left.work;
-    out[9] = stage as u64;
-    out[10] = requested;
-    out[11] = remaining;
+    [
+        number as u64,
+        constant.tracked,
+        constant.pops,
+        index.tracked,
+        index.pops,
+        container.tracked,
+        container.pops,
+        left.bytes,
+        left.work,
+        stage as u64,
+        requested,
+        remaining,
+    ]
 }
 
-// An outcome without counts.
-fn put_refusal(
+// The number of an outcome without counts, and its twelve numbers.
+#[tactic(auto, unfolding(crate::specs::Numbers::numbers_compute))]
+fn refusal(
     number: u8,
     left: VerifierResources,
     stage: u8,
     requested: u64,
     remaining: u64,
-    out: &mut [u64],
-) -> u8
-    requires { 12 ≤ length out.old }
-    ensures { (out.new ≡ entries number nothing nothing nothing left stage requested remaining ++ drop 12 out.old) × (result ≡ number) }
+) -> (u8, [u64; 12])
+    ensures { (result.0 ≡ number) × (result.1 ≡ entries number nothing nothing nothing left stage requested remaining) }
 {
-    let none = Counts {
-        tracked: 0,
-        pops: 0,
-    };
-    put_twelve(
-        number, none, none, none, left, stage, requested, remaining, out,
-    );
-    number
+    (
+        number,
+        entries(
+            number, NO_COUNTS, NO_COUNTS, NO_COUNTS, left, stage, requested, remaining,
+        ),
+    )
 }
 
-// The answer's numbers at the front of out, which has at least 12 entries and keeps those behind them; the first of them is the result.
-pub fn put_answer(answer: Answer, out: &mut [u64]) -> u8
-    requires { 12 ≤ length out.old }
-    ensures { (out.new ≡ twelve (answer_numbered answer) ++ drop 12 out.old) × (result ≡ (answer_numbered answer).number) }
+// The number of an answer, and its twelve numbers.
+fn numbered(answer: Answer) -> (u8, [u64; 12])
+    ensures { (result.0 ≡ (answer_numbered answer).number) × (result.1 ≡ twelve (answer_numbered answer)) }
 {
     match answer {
         Answer::Analyzed {
@@ -68,17 +70,24 @@ pub fn put_answer(answer: Answer, out: &mut [u64]) -> u8
             index,
             container,
             left,
-        } => {
-            put_twelve(0, constant, index, container, left, 0, 0, 0, out);
-            0
-        }
-        Answer::Invalid { number, left } => put_refusal(number, left, 0, 0, 0, out),
+        } => (0, entries(0, constant, index, container, left, 0, 0, 0)),
+        Answer::Invalid { question, left } => refusal(question.number(), left, 0, 0, 0),
         Answer::OverBudget {
             stage,
             requested,
             remaining,
             left,
-        } => put_refusal(7, left, stage, requested, remaining, out),
-        Answer::NoRoom { left } => put_refusal(8, left, 0, 0, 0, out),
+        } => refusal(7, left, stage, requested, remaining),
+        Answer::NoRoom { left } => refusal(8, left, 0, 0, 0),
     }
+}
+
+// The answer's numbers at the front of out, which has at least 12 entries and keeps those behind them; the first of them is the result.
+pub fn put_answer(answer: Answer, out: &mut [u64]) -> u8
+    requires { 12 ≤ length out.old }
+    ensures { (out.new ≡ twelve (answer_numbered answer) ++ drop 12 out.old) × (result ≡ (answer_numbered answer).number) }
+{
+    let (number, twelve) = numbered(answer);
+    out[..12].copy_from_slice(&twelve);
+    number
 }

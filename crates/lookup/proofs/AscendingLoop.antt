@@ -1,14 +1,15 @@
--- Strictly ascending slots: how a loop recognises them.
+-- Strictly ascending slots: what a test of all neighbours shows.
 -- Assumes nothing.
-use mathlib.Core.Path.{◌≡◌, refl}
+use mathlib.Core.Path.{◌≡◌, refl, sym}
 use mathlib.Core.Bool.{Bool, true, false}
 use mathlib.Core.List.{List, [], ◌∷◌}
-use Prim.Native.Nat.{ℕ, suc, ◌+◌, ◌-◌, ◌<◌, ◌≤◌}
-use native.Mathlib.Nat.{eq-or-lt_of_le}
+use Prim.Native.Nat.{ℕ, suc, ◌+◌, ◌<◌}
 use native.Mathlib.Omega.{arith}
-use mathlib.Core.Logic.{◌⊎◌, inl, inr}
+use native.Mathlib.Numerals.{add-one}
+use lib.Dec.{ltb}
 use lib.ListN.{length, get_or}
-use borrow.Author.Tests.{lt-ltb}
+use borrow.Author.Tests.{lt-ltb, ltb-true, ltb-false}
+use Rattle.std.specs.List.{IsAllAdjacentAnswer}
 use Rattle.model.specs.Lookup.{ascends}
 use Rattle.fact_row.proofs.Ascending.{ascends_lt}
 
@@ -23,16 +24,14 @@ rising_all (x ∷ []) h = refl
 rising_all (x ∷ y ∷ rest) h = rw (lt-ltb x y (h 0 (omega arith))) (rising_all (y ∷ rest) (λ k l. h (suc k) (omega arith)))
 
 -- one that is not above the one before it
-pub falling : (xs : List ℕ) (i : ℕ) → 1 ≤ i → i < length xs → get_or xs i 0 ≤ get_or xs (i - 1) 0 → false ≡ ascends xs
-falling xs i h l e = go (ascends xs) refl
+falling : (xs : List ℕ) (i : ℕ) → i + 1 < length xs → ltb (get_or xs i 0) (get_or xs (i + 1) 0) ≡ false → false ≡ ascends xs
+falling xs i l e = go (ascends xs) refl
   where
     go : (b : Bool) → ascends xs ≡ b → false ≡ b
-    go true q = absurd (omega (arith, ascends_lt xs q (i - 1) i (omega arith) l))
+    go true q = absurd (omega (arith, ascends_lt xs q i (i + 1) (omega arith) l, ltb-false _ _ e))
     go false q = refl
 
-pub rising_more : (xs : List ℕ) (i : ℕ) → 1 ≤ i → Rising xs i → get_or xs (i - 1) 0 < get_or xs i 0 → Rising xs (i + 1)
-rising_more xs i h r e k l = let u : suc k ≤ i = omega arith in go (eq-or-lt_of_le u)
-  where
-    go : (suc k ≡ i) ⊎ (suc k < i) → get_or xs k 0 < get_or xs (suc k) 0
-    go (inl q) = let p : i - 1 ≡ k = omega arith in rw (q, ← p) e
-    go (inr q) = r k q
+-- what the library's test of all neighbours answers
+pub neighbours_ascend : (xs : List ℕ) (r : Bool) → IsAllAdjacentAnswer (λ x y b. b ≡ ltb x y) xs r → r ≡ ascends xs
+neighbours_ascend xs true a = sym (rising_all xs (λ k l. let e : true ≡ ltb (get_or xs k 0) (get_or xs (suc k) 0) = rw add-one at (a k 0 (omega arith)) in ltb-true _ _ (sym e)))
+neighbours_ascend xs false (i, l, e) = falling xs i l (sym (e 0))

@@ -1,44 +1,44 @@
 -- What the instructions but 0 show of a slot.
 -- Assumes nothing.
 use mathlib.Core.Path.{◌≡◌, ap}
+use mathlib.Core.Bool.{true, false, ◌&&◌}
 use mathlib.Core.List.{List}
 use Prim.Native.Nat.{ℕ, suc, ◌+◌, ◌*◌, ◌-◌, ◌≤◌, ◌<◌}
 use native.Mathlib.Nat.{suc-mul}
 use native.Mathlib.Omega.{arith}
 use lib.Dec.{leb, eqb}
 use lib.ListN.{get_or}
-use borrow.Author.Tests.{le-leb, lt-leb, eq-eqb, ne_eqb}
+use borrow.Author.Tests.{le-leb, lt-leb}
 use Rattle.model.specs.Lookup.{Shown, one_shown, mixed_shown, show, show_if, shown, cell_at}
+use Rattle.model.specs.declared.FactCell.{FactCell}
 use Rattle.lookup.specs.Shown.{shown_by}
 use Rattle.lookup.proofs.Rows.{in_table}
-use Rattle.lookup.specs.declared.shown.Seen.{Seen}
-use Rattle.lookup.specs.declared.shown.Seen.TheVariants.{Nothing, One, Mixed}
+use Rattle.lookup.specs.declared.tables.shown.Seen.{Seen}
+use Rattle.lookup.specs.declared.tables.shown.Seen.TheVariants.{Nothing, One, Mixed}
 
-module _ (kind value : ℕ) (seen : Seen) where
-  pub not_known : kind < 2 → mixed_shown ≡ show (leb 2 kind) kind value (shown_by seen)
+module _ (cell : FactCell) (seen : Seen) where
+  pub not_known : cell.kind < 2 → mixed_shown ≡ show (leb 2 cell.kind) cell.kind cell.value (shown_by seen)
   unfolding show
-  not_known h = rw (lt-leb 2 kind h)
+  not_known h = rw (lt-leb 2 cell.kind h)
 
-  module _ (h : 2 ≤ kind) where
-    pub first_shown : seen ≡ Nothing → one_shown kind value ≡ show (leb 2 kind) kind value (shown_by seen)
+  module _ (h : 2 ≤ cell.kind) where
+    pub first_shown : seen ≡ Nothing → one_shown cell.kind cell.value ≡ show (leb 2 cell.kind) cell.kind cell.value (shown_by seen)
     unfolding show
-    first_shown e = rw (le-leb 2 kind h, e)
+    first_shown e = rw (le-leb 2 cell.kind h, e)
 
-    pub shows_other_kind : (k v : ℕ) → seen ≡ One k v → (kind ≡ k → ⊥) → mixed_shown ≡ show (leb 2 kind) kind value (shown_by seen)
+    pub shown_again : (first : FactCell) → seen ≡ One first → (eqb cell.kind first.kind && eqb cell.value first.value) ≡ true
+        → one_shown first.kind first.value ≡ show (leb 2 cell.kind) cell.kind cell.value (shown_by seen)
     unfolding show
-    shows_other_kind k v e d = rw (le-leb 2 kind h, e, ne_eqb kind k d)
+    shown_again first e s = rw (le-leb 2 cell.kind h, e, s)
 
-    pub other_value : (k v : ℕ) → seen ≡ One k v → kind ≡ k → (value ≡ v → ⊥) → mixed_shown ≡ show (leb 2 kind) kind value (shown_by seen)
+    pub shows_other : (first : FactCell) → seen ≡ One first → (eqb cell.kind first.kind && eqb cell.value first.value) ≡ false
+        → mixed_shown ≡ show (leb 2 cell.kind) cell.kind cell.value (shown_by seen)
     unfolding show
-    other_value k v e s d = rw (le-leb 2 kind h, e, eq-eqb kind k s, ne_eqb value v d)
+    shows_other first e s = rw (le-leb 2 cell.kind h, e, s)
 
-    pub same_shown : (k v : ℕ) → seen ≡ One k v → kind ≡ k → value ≡ v → one_shown k v ≡ show (leb 2 kind) kind value (shown_by seen)
+    pub still_mixed : seen ≡ Mixed → mixed_shown ≡ show (leb 2 cell.kind) cell.kind cell.value (shown_by seen)
     unfolding show
-    same_shown k v e s d = rw (le-leb 2 kind h, e, eq-eqb kind k s, eq-eqb value v d)
-
-    pub still_mixed : seen ≡ Mixed → mixed_shown ≡ show (leb 2 kind) kind value (shown_by seen)
-    unfolding show
-    still_mixed e = rw (le-leb 2 kind h, e)
+    still_mixed e = rw (le-leb 2 cell.kind h, e)
 
 -- the next instruction's cell of the slot lies s cells on, and in the table
 pub next_cell : (s j i pc n cells : ℕ) → 1 ≤ pc → pc < n → j < s → cells ≡ n * s → i ≡ (pc - 1) * s + j → (i + s ≡ pc * s + j) × (i + s < cells)

@@ -1,4 +1,4 @@
--- What the tests of slots and lengths show. Agreement is for other crates to cite.
+-- What the tests of slots and lengths show
 pub mod AscendingLoop
 pub mod Agreement
 -- What the tests of a row and its cell show

@@ -15,10 +15,9 @@ use Rattle.model.specs.Fact.{Fact, unknown, kind, value, Row}
 use Rattle.model.specs.Transfer.{fact_for}
 use Rattle.model.specs.Run.{row_at}
 use Rattle.model.specs.Tables.{present_byte, present_bytes, row_cells, cells}
-use Rattle.model.specs.Lookup.{last_kind, ascends, place_from, place, tables_agree, cell_at, kind_named, row_named, cell, or_damaged, fact_for_slot, reached_by, is_reachable, fixed_at, fixed}
+use Rattle.model.specs.Lookup.{last_kind, ascends, place_from, place, tables_agree, cell_at, cell_found, kind_named, row_named, cell, or_damaged, fact_for_slot, reached_by, is_reachable, fixed_at, fixed}
 use Rattle.model.specs.declared.AnalysisKind.{AnalysisKind}
 use Rattle.model.specs.declared.AnalysisKind.TheVariants.{Constant}
-use Rattle.model.specs.declared.SlotFact.TheVariants.{Cell}
 use Rattle.finality.proofs.Cells.{Sized, length_present, present_at, length_cells, cells_part}
 use Rattle.lookup.specs.Run.{tracked_fact, run_fact, run_reached}
 use Rattle.lookup.proofs.NamedKinds.{Named, AllNamed}
@@ -84,7 +83,7 @@ module _ (slots : List ℕ) (rows : List (Option Row)) (order : ascends slots �
     row_cell p (some r) (some j) e q =
         let below : j < length slots = omega (arith, (place_within 0 slots slot j q).1) in
         let at : fact_for slots r slot ≡ get_or r j unknown = fact_at 0 slots r slot j (sized p r e) (q ∙ ap some (omega arith)) in
-        rw (present_at rows p, e, q, at) (ap₂ Cell (cell_is kind p j r refl below e) (cell_is value p j r refl below e))
+        rw (present_at rows p, e, q, at) (ap₂ cell_found (cell_is kind p j r refl below e) (cell_is value p j r refl below e))
 
   pub looked_up_lem : (which : AnalysisKind) → AllNamed (last_kind which) rows → (pc slot : ℕ)
       → fact_for_slot which slots (present_bytes rows) (cells kind (length slots) rows) (cells value (length slots) rows) pc slot ≡ run_fact slots (row_at rows pc) slot

@@ -1,26 +1,22 @@
 -- One instruction's present byte and its cell of a slot: what the tests show of the definitions, and that the cell lies in the table.
 -- Assumes nothing.
 use mathlib.Core.Path.{◌≡◌, refl, sym, ap, ◌∙◌}
-use mathlib.Core.Bool.{Bool, true, false, ◌&&◌, ◌||◌}
+use mathlib.Core.Bool.{Bool, true, false, ◌&&◌, ◌||◌, and-false, and-true}
 use mathlib.Core.List.{List}
-use mathlib.Core.Option.{Option}
+use mathlib.Core.Option.{Option, none, some}
 use Prim.Native.Nat.{ℕ, zero, suc, ◌+◌, ◌*◌, ◌≤◌, ◌<◌}
 use mathlib.Core.Logic.{◌⊎◌, inl, inr}
 use native.Mathlib.Nat.{mul-le-mul_right, not-suc-le-zero, eq-or-lt_of_le}
 use native.Mathlib.Numerals.{add-one}
 use native.Mathlib.Omega.{arith}
+use Rattle.std.specs.Prelude.{Ok, Err}
 use lib.Dec.{leb, ltb, eqb}
 use lib.ListN.{length, get_or, get_or-eq_default}
 use borrow.Author.Tests.{lt-leb, eq-eqb, ne_eqb, ltb-true, ltb-false}
+use Rattle.model.specs.Call.{Table}
 use Rattle.model.specs.Count.{every}
-use Rattle.model.specs.Lookup.{last_kind, cell_at, kind_named, row_named, cell, is_reachable, reached_by}
-use Rattle.model.specs.declared.SlotFact.TheVariants.{Cell, Absent}
-use Rattle.model.specs.declared.Reachability.TheVariants.{Yes, No, Unreadable}
-use Rattle.fact_row.specs.Place.{placed}
-use Rattle.lookup.specs.Inside.{Inside, rows_named}
-use Rattle.fact_row.specs.declared.Place.{Place}
-use Rattle.fact_row.specs.declared.Place.TheVariants.{At, Untracked}
-use mathlib.Core.Bool.{and-false, and-true}
+use Rattle.model.specs.Lookup.{last_kind, cell_at, cell_found, none_found, kind_named, row_named, cell, damaged, is_reachable, reached_by}
+use Rattle.lookup.specs.Inside.{HasColumn, rows_named}
 
 -- a byte that is not 0 stands below n
 pub present_below : (present : List ℕ) (pc : ℕ) → 0 < get_or present pc 0 → pc < length present
@@ -34,67 +30,62 @@ present_below present pc h = go (ltb pc (length present)) refl
 pub in_table : (pc n s j cells : ℕ) → pc < n → j < s → cells ≡ n * s → pc * s + j < cells
 in_table pc n s j cells h k e = omega (arith, mul-le-mul_right s h)
 
-pub inside_at : (s n cells j : ℕ) (at : Place) → at ≡ At j → Inside s n cells (placed at) → (j < s) × (cells ≡ n * s)
-inside_at s n cells j at e h = rw e at h
-
 -- and so does the cell of a tracked slot in a present row
-pub cell_inside : (s : ℕ) (present : List ℕ) (cells pc j byte : ℕ) (at : Place) → at ≡ At j → Inside s (length present) cells (placed at)
-    → byte ≡ get_or present pc 0 → 0 < byte → pc * s + j < cells
-cell_inside s present cells pc j byte at e h b l =
-    let i = inside_at s (length present) cells j at e h in
-    in_table pc (length present) s j cells (present_below present pc (omega arith)) i.0 i.1
+pub cell_inside : (t : Table) (pc j byte : ℕ) → HasColumn t j → byte ≡ get_or t.present pc 0 → 0 < byte → pc * length t.slots + j < length t.kinds
+cell_inside t pc j byte h b l = in_table pc (length t.present) (length t.slots) j (length t.kinds) (present_below t.present pc (omega arith)) h.below h.kinds_length
 
 -- ---- question 9 of a row, and its cell
 
-module _ (last s : ℕ) (present kinds : List ℕ) (pc byte : ℕ) (e : byte ≡ get_or present pc 0) where
-  pub untracked_row : (at : Place) → at ≡ Untracked → leb byte 1 ≡ row_named last s present kinds (placed at) pc
+module _ (last : ℕ) (t : Table) (pc byte : ℕ) (e : byte ≡ get_or t.present pc 0) where
+  pub untracked_row : leb byte 1 ≡ row_named last (length t.slots) t.present t.kinds none pc
   unfolding row_named kind_named
-  untracked_row at p = rw (p, ← e) (sym (and-true (leb byte 1)))
+  untracked_row = rw (← e) (sym (and-true (leb byte 1)))
 
-  pub present_row_lem : (at : Place) (j : ℕ) → at ≡ At j → byte ≡ 1 → leb (get_or kinds (pc * s + j) 0) last ≡ row_named last s present kinds (placed at) pc
+  pub present_row_lem : (j : ℕ) → byte ≡ 1 → leb (get_or t.kinds (pc * length t.slots + j) 0) last ≡ row_named last (length t.slots) t.present t.kinds (some j) pc
   unfolding row_named kind_named cell_at
-  present_row_lem at j p h = rw (p, ← e, h)
+  present_row_lem j h = rw (← e, h)
 
   -- any other byte is named where it is 0
-  pub other_row : (at : Place) (j : ℕ) → at ≡ At j → (byte ≡ 1 → ⊥) → eqb byte 0 ≡ row_named last s present kinds (placed at) pc
+  pub other_row : (j : ℕ) → (byte ≡ 1 → ⊥) → eqb byte 0 ≡ row_named last (length t.slots) t.present t.kinds (some j) pc
   unfolding row_named kind_named
-  other_row at j p h = rw (p, ← e) (go byte h)
+  other_row j h = rw (← e) (go byte h)
     where
-      go : (b : ℕ) → (b ≡ 1 → ⊥) → eqb b 0 ≡ (leb b 1 && (eqb b 0 || leb (cell_at s kinds pc j) last))
+      go : (b : ℕ) → (b ≡ 1 → ⊥) → eqb b 0 ≡ (leb b 1 && (eqb b 0 || leb (cell_at (length t.slots) t.kinds pc j) last))
       go zero k = refl
       go (suc zero) k = absurd (k refl)
       go (suc (suc b)) k = rw (lt-leb (suc (suc b)) 1 (omega arith), ne_eqb (suc (suc b)) 0 (λ q. omega arith))
 
-module _ (s : ℕ) (present kinds values : List ℕ) (pc byte : ℕ) (e : byte ≡ get_or present pc 0) where
-  pub no_row : (j : Option ℕ) → (byte ≡ 1 → ⊥) → Absent ≡ cell (eqb (get_or present pc 0) 1) s kinds values pc j
+module _ (t : Table) (pc byte : ℕ) (e : byte ≡ get_or t.present pc 0) where
+  pub no_row : (j : Option ℕ) → (byte ≡ 1 → ⊥) → none_found ≡ cell (eqb (get_or t.present pc 0) 1) (length t.slots) t.kinds t.values pc j
   unfolding cell
   no_row j h = rw (← e, ne_eqb byte 1 h)
 
-  pub no_slot : (at : Place) → at ≡ Untracked → byte ≡ 1 → Absent ≡ cell (eqb (get_or present pc 0) 1) s kinds values pc (placed at)
+  pub no_slot : byte ≡ 1 → none_found ≡ cell (eqb (get_or t.present pc 0) 1) (length t.slots) t.kinds t.values pc none
   unfolding cell
-  no_slot at p h = rw (p, ← e, eq-eqb byte 1 h)
+  no_slot h = rw (← e, eq-eqb byte 1 h)
 
-  pub the_cell : (at : Place) (j : ℕ) → at ≡ At j → byte ≡ 1
-      → Cell (get_or kinds (pc * s + j) 0) (get_or values (pc * s + j) 0) ≡ cell (eqb (get_or present pc 0) 1) s kinds values pc (placed at)
+  pub the_cell : (j : ℕ) → byte ≡ 1
+      → cell_found (get_or t.kinds (pc * length t.slots + j) 0) (get_or t.values (pc * length t.slots + j) 0)
+      ≡ cell (eqb (get_or t.present pc 0) 1) (length t.slots) t.kinds t.values pc (some j)
   unfolding cell cell_at
-  the_cell at j p h = rw (p, ← e, eq-eqb byte 1 h)
+  the_cell j h = rw (← e, eq-eqb byte 1 h)
 
 -- ---- `is_reachable`
 
 module _ (present : List ℕ) (pc byte : ℕ) (e : byte ≡ get_or present pc 0) where
-  pub not_reached : byte ≡ 0 → No ≡ is_reachable present pc
+  pub not_reached : byte ≡ 0 → Ok false ≡ is_reachable present pc
   unfolding is_reachable reached_by
   not_reached h = rw (← e, h)
 
-  pub reached : byte ≡ 1 → Yes ≡ is_reachable present pc
+  pub reached : byte ≡ 1 → Ok true ≡ is_reachable present pc
   unfolding is_reachable reached_by
   reached h = rw (← e, h)
 
-  pub unreadable : (byte ≡ 0 → ⊥) → (byte ≡ 1 → ⊥) → Unreadable ≡ is_reachable present pc
+  pub unreadable : (byte ≡ 0 → ⊥) → (byte ≡ 1 → ⊥) → Err damaged ≡ is_reachable present pc
   unfolding is_reachable reached_by
   unreadable h k = rw (← e) (go byte h k)
     where
-      go : (b : ℕ) → (b ≡ 0 → ⊥) → (b ≡ 1 → ⊥) → Unreadable ≡ reached_by b
+      go : (b : ℕ) → (b ≡ 0 → ⊥) → (b ≡ 1 → ⊥) → Err damaged ≡ reached_by b
       go zero h k = absurd (h refl)
       go (suc zero) h k = absurd (k refl)
       go (suc (suc b)) h k = refl

@@ -1,15 +1,22 @@
 -- Where a place lies in tables, and question 9 of the constants' rows.
 -- Assumes nothing.
-use Rattle.std.specs.Prelude.{◌≡◌, Bool, List, ℕ, ◌*◌, ◌<◌}
+use Rattle.std.specs.Prelude.{◌≡◌, Bool, List, ℕ, ◌*◌, ◌<◌, length}
 use Rattle.std.proofs.Math.Option.{Option, none, some}
 use Rattle.model.specs.Count.{every}
+use Rattle.model.specs.Call.{Table}
 use Rattle.model.specs.Lookup.{last_kind, row_named}
 use Rattle.model.specs.declared.AnalysisKind.TheVariants.{Constant}
 
--- a place among s slots, in a table of n rows of s cells
-abbrev pub Inside : ℕ → ℕ → ℕ → Option ℕ → Type 0
-Inside s n cells none = Unit {0}
-Inside s n cells (some j) = (j < s) × (cells ≡ n * s)
+-- the slot at this place has a cell in each row
+pub record HasColumn (t : Table) (j : ℕ) : Type 0 where
+  pub below : j < length t.slots
+  pub kinds_length : length t.kinds ≡ length t.present * length t.slots
+  pub values_length : length t.values ≡ length t.present * length t.slots
+
+-- a place among the slots, if there is one
+abbrev pub Inside : Table → Option ℕ → Type 0
+Inside t none = Unit {0}
+Inside t (some j) = HasColumn t j
 
 -- question 9 of the first count rows, as "fixed" asks it
 unfoldable pub rows_named : ℕ → List ℕ → List ℕ → Option ℕ → ℕ → Bool

@@ -1,6 +1,6 @@
 -- What a lookup answers of the rows of a run, and which part of the lent tables is used.
 -- Assumes nothing.
-use Rattle.std.specs.Prelude.{◌≡◌, List, ℕ, ◌*◌, length, take}
+use Rattle.std.specs.Prelude.{◌≡◌, true, false, Ok, List, ℕ, ◌*◌, length, take}
 use Rattle.std.proofs.Math.Option.{Option, none, some}
 use Rattle.model.specs.Sheet.{code_count}
 use Rattle.model.specs.Fact.{Fact, kind, value, Row}
@@ -8,28 +8,24 @@ use Rattle.model.specs.Transfer.{fact_for}
 use Rattle.model.specs.Analyses.{Analysed, Facts}
 use Rattle.model.specs.Run.{row_at}
 use Rattle.model.specs.Call.{Table, Lent, table_of}
-use Rattle.model.specs.Lookup.{place, fact_for_slot, is_reachable, fixed_at, fixed}
+use Rattle.model.specs.Lookup.{place, SlotFact, Reachability, none_found, cell_found, fact_for_slot, is_reachable, fixed_at, fixed}
 use Rattle.model.specs.declared.AnalysisKind.{AnalysisKind}
 use Rattle.model.specs.declared.AnalysisKind.TheVariants.{Constant, IndexCheck, Container}
-use Rattle.model.specs.declared.SlotFact.{SlotFact}
-use Rattle.model.specs.declared.SlotFact.TheVariants.{Cell, Absent}
-use Rattle.model.specs.declared.Reachability.{Reachability}
-use Rattle.model.specs.declared.Reachability.TheVariants.{Yes, No}
 
 -- "none" of an untracked slot, the fact's kind and value of a tracked one
 unfoldable pub tracked_fact : Option ℕ → Fact → SlotFact
-tracked_fact none fact = Absent
-tracked_fact (some j) fact = Cell (kind fact) (value fact)
+tracked_fact none fact = none_found
+tracked_fact (some j) fact = cell_found (kind fact) (value fact)
 
 -- "none" of an absent instruction; of a present one the run's fact
 unfoldable pub run_fact : List ℕ → Option Row → ℕ → SlotFact
-run_fact slots none slot = Absent
+run_fact slots none slot = none_found
 run_fact slots (some row) slot = tracked_fact (place slots slot) (fact_for slots row slot)
 
 -- "yes" of a present instruction
 unfoldable pub run_reached : Option Row → Reachability
-run_reached none = No
-run_reached (some row) = Yes
+run_reached none = Ok false
+run_reached (some row) = Ok true
 
 -- the facts of one analysis of a call
 unfoldable pub analysed_of : Facts → AnalysisKind → Analysed

@@ -11,7 +11,7 @@ use Rattle.model.specs.declared.AnalysisKind.{AnalysisKind}
 use Rattle.model.specs.declared.AnalysisKind.TheVariants.{Constant, IndexCheck, Container}
 use Rattle.sheet_layouts.specs.Classes.{class_of, Classes}
 use Rattle.sheet_layouts.proofs.Classes.{class_is}
-use Rattle.text_facts.specs.Text.{container_text_by, fact_text_by}
+use Rattle.text_facts.specs.Text.{pair_word, container_text_by, fact_text_by}
 
 -- ---- constants
 
@@ -41,15 +41,14 @@ module _ (sheet : List ℕ) where
 -- ---- containers
 
 module _ (classes : List ℕ) where
-  pub map_text : (kind v a b : ℕ) → kind ≡ 2 → a ≡ class_of classes (v / 65536) → b ≡ class_of classes (v % 65536)
-      → ascii "map " ++ decimal a ++ space ++ decimal b ≡ container_text_by classes (fact_of kind v)
-  unfolding container_text_by fact_of
-  map_text kind v a b e p q = rw (e, p, q)
-
-  pub iter_text : (kind v a b : ℕ) → 2 ≤ kind → kind ≤ 3 → (kind ≡ 2 → ⊥) → a ≡ class_of classes (v / 65536) → b ≡ class_of classes (v % 65536)
-      → ascii "iter " ++ decimal a ++ space ++ decimal b ≡ container_text_by classes (fact_of kind v)
-  unfolding container_text_by fact_of
-  iter_text kind v a b h l k p q = let e : kind ≡ 3 = omega arith in rw (e, p, q)
+  pub pair_text : (kind v : ℕ) (word : List ℕ) (a b : ℕ) → 2 ≤ kind → kind ≤ 3 → word ≡ pair_word kind → a ≡ class_of classes (v / 65536)
+      → b ≡ class_of classes (v % 65536) → word ++ decimal a ++ space ++ decimal b ≡ container_text_by classes (fact_of kind v)
+  unfolding container_text_by fact_of pair_word
+  pair_text zero v word a b h l e p q = absurd (omega arith)
+  pair_text (suc zero) v word a b h l e p q = absurd (omega arith)
+  pair_text (suc (suc zero)) v word a b h l e p q = rw (e, p, q)
+  pair_text (suc (suc (suc zero))) v word a b h l e p q = rw (e, p, q)
+  pair_text (suc (suc (suc (suc kind)))) v word a b h l e p q = absurd (omega arith)
 
   pub queue_text : (kind v a : ℕ) → 3 < kind → a ≡ class_of classes (v / 65536) → ascii "queue " ++ decimal a ≡ container_text_by classes (fact_of kind v)
   unfolding container_text_by fact_of

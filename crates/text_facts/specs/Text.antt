@@ -1,11 +1,15 @@
 -- The text of a fact, with layouts by their classes: for whatever sheet these are the classes of, it is the text of `model` (`text-by`).
 -- Assumes nothing.
-use Rattle.std.specs.Prelude.{List, [], ◌++◌, ℕ, zero, suc, ◌/◌, ◌%◌}
+use Rattle.std.specs.Prelude.{List, [], ◌++◌, ◌==◌, if◌then◌else◌, ℕ, zero, suc, ◌/◌, ◌%◌}
 use Rattle.model.specs.Fact.{Fact, unknown, conflict, known}
 use Rattle.model.specs.Listing.{ascii, decimal, space, constant_text, index_text}
 use Rattle.model.specs.declared.AnalysisKind.{AnalysisKind}
 use Rattle.model.specs.declared.AnalysisKind.TheVariants.{Constant, IndexCheck, Container}
 use Rattle.sheet_layouts.specs.Classes.{class_of}
+
+-- the word of a container with two layouts
+unfoldable pub pair_word : ℕ → List ℕ
+pair_word kind = if kind == 2 then ascii "map " else ascii "iter "
 
 -- "`map 0 1`, `iter 0 1`, `queue 2`"
 unfoldable pub container_text_by : List ℕ → Fact → List ℕ

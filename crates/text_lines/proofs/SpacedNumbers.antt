@@ -8,7 +8,9 @@ use native.Mathlib.Omega.{arith}
 use lib.ListN.{length, get_or, take}
 use lib.Seq.{take-suc, take_all}
 use Rattle.model.specs.Listing.{decimal, space}
-use Rattle.text_lines.specs.Text.{Added, spaced_all}
+use Rattle.text_lines.specs.Text.{spaced_all}
+use Rattle.text_lines.specs.Page.{Written}
+use Rattle.text_lines.specs.declared.page.Page.{Page}
 use Rattle.text_lines.proofs.TextWritten.{then, reword, no_text}
 
 spaced_last : (xs : List ℕ) (x : ℕ) → spaced_all (xs ++ (x ∷ [])) ≡ spaced_all xs ++ (space ++ decimal x)
@@ -18,18 +20,18 @@ spaced_last (y ∷ ys) x =
     ap (λ (t : List ℕ). (space ++ decimal y) ++ t) (spaced_last ys x) ∙ sym (append_assoc (space ++ decimal y) (spaced_all ys) (space ++ decimal x))
 
 module _ (xs : List ℕ) where
-  pub none : (old : List ℕ) (at : ℕ) → at ≤ length old → Added (21 * 0) (spaced_all (take 0 xs)) at old at old
+  pub none : (page : Page) → Written (21 * 0) (spaced_all (take 0 xs)) page page
   unfolding spaced_all
-  none old at h = no_text old at h
+  none page = no_text page
 
   -- one more
-  pub more : {old mid new : List ℕ} {at a next i : ℕ} → i < length xs → Added (21 * i) (spaced_all (take i xs)) at old a mid
-      → Added 21 (space ++ decimal (get_or xs i 0)) a mid next new → Added (21 * (i + 1)) (spaced_all (take (i + 1) xs)) at old next new
+  pub more : {old mid new : Page} {i : ℕ} → i < length xs → Written (21 * i) (spaced_all (take i xs)) old mid
+      → Written 21 (space ++ decimal (get_or xs i 0)) mid new → Written (21 * (i + 1)) (spaced_all (take (i + 1) xs)) old new
   more {i} h w v =
       let e : spaced_all (take i xs) ++ (space ++ decimal (get_or xs i 0)) ≡ spaced_all (take (i + 1) xs) = rw (add-one, take-suc xs i 0 h) (sym (spaced_last (take i xs) (get_or xs i 0))) in
       reword (omega arith) e (then w v)
 
   -- all of them
-  pub all : {old new : List ℕ} {at next i : ℕ} → i ≤ length xs → length xs ≤ i → Added (21 * i) (spaced_all (take i xs)) at old next new
-      → Added (21 * length xs) (spaced_all xs) at old next new
+  pub all : {old new : Page} {i : ℕ} → i ≤ length xs → length xs ≤ i → Written (21 * i) (spaced_all (take i xs)) old new
+      → Written (21 * length xs) (spaced_all xs) old new
   all {i} h k w = reword (omega arith) (ap spaced_all (take_all i xs k)) w

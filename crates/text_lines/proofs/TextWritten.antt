@@ -1,36 +1,22 @@
--- A text in a buffer: how a loop writes it, and how one text is written behind another.
+-- Texts on a page, one behind another.
 -- Assumes nothing.
 use mathlib.Core.Path.{◌≡◌, refl, sym, ap, ap₂, ◌∙◌}
 use mathlib.Core.List.{List, [], ◌++◌, append_assoc, append-nil}
 use mathlib.Core.Option.{some}
-use Prim.Native.Nat.{ℕ, ◌+◌, ◌≤◌, ◌<◌}
-use native.Mathlib.Numerals.{add-one}
+use Prim.Native.Nat.{ℕ, ◌+◌, ◌≤◌}
 use native.Mathlib.Omega.{arith}
-use lib.ListN.{length, get_or, take, drop, set, length-append, take-append-drop}
-use lib.Seq.{paste, paste-suc, length-paste, drop-append-add, drop-drop, length-take-le, take_all, take_at, drop_at}
+use lib.ListN.{length, take, drop, length-append, take-append-drop}
+use lib.Seq.{drop-append-add, drop-drop, length-take-le, take_at, drop_at}
+use Rattle.std.specs.Borrow.{MutBor}
 use Rattle.text_lines.specs.Text.{Added, ShowsText}
+use Rattle.text_lines.specs.Page.{Begun, Written}
+use Rattle.text_lines.specs.declared.page.Page.{Page}
 
--- ---- a loop that writes a text
-
--- one more byte
-pub byte_more : (text old new : List ℕ) (at i v : ℕ) → at + i < length old → i < length text → v ≡ get_or text i 0 → new ≡ paste old at text i
-    → set new (at + i) v ≡ paste old at text (i + 1)
-byte_more text old new at i v h k e w = rw (w, e, add-one i) (paste-suc old at text i 0 h k)
-
--- all of it is written
-pub text_written : (most : ℕ) (text old new : List ℕ) (at i : ℕ) → at + length text ≤ length old → i ≡ length text → i ≤ most → new ≡ paste old at text i
-    → Added most text at old (at + i) new
-text_written most text old new at i h e k w = record {
-  counts = omega arith;
-  short = omega arith;
-  within = omega arith;
-  bytes = w ∙ ap (λ (t : List ℕ). take at old ++ t ++ drop (at + i) old) (take_all i text (omega arith));
-  long = ap length w ∙ length-paste old at text i (omega arith) (omega arith);
-}
+-- ---- bytes
 
 -- the same text under another name, and a wider bound
-pub reword : {m k : ℕ} {text other old new : List ℕ} {at next : ℕ} → m ≤ k → text ≡ other → Added m text at old next new → Added k other at old next new
-reword {at} {next} h e w = record {
+added_reword : {m k : ℕ} {text other old new : List ℕ} {at next : ℕ} → m ≤ k → text ≡ other → Added m text at old next new → Added k other at old next new
+added_reword {at} {next} h e w = record {
   counts = w.counts ∙ ap (λ (t : List ℕ). at + length t) e;
   short = omega (arith, w.short);
   within = w.within;
@@ -38,11 +24,9 @@ reword {at} {next} h e w = record {
   long = w.long;
 }
 
--- ---- one text behind another
-
-pub then : {m k : ℕ} {first second old mid new : List ℕ} {at a next : ℕ} → Added m first at old a mid → Added k second a mid next new
+added_then : {m k : ℕ} {first second old mid new : List ℕ} {at a next : ℕ} → Added m first at old a mid → Added k second a mid next new
     → Added (m + k) (first ++ second) at old next new
-then {m} {k} {first} {second} {old} {mid} {new} {at} {a} {next} w v = record {
+added_then {m} {k} {first} {second} {old} {mid} {new} {at} {a} {next} w v = record {
   counts = omega (arith, w.counts, v.counts, length-append first second);
   short = omega (arith, w.short, v.short);
   within = omega (arith, v.within, w.long);
@@ -63,14 +47,9 @@ then {m} {k} {first} {second} {old} {mid} {new} {at} {a} {next} w v = record {
         ∙ drop-drop (length second) a old
         ∙ ap (λ (n : ℕ). drop n old) (sym v.counts)
 
--- two texts behind another
-pub then_two : {m k : ℕ} {first old mid new : List ℕ} {at a next : ℕ} (second third : List ℕ) → Added m first at old a mid
-    → Added k (second ++ third) a mid next new → Added (m + k) (first ++ second ++ third) at old next new
-then_two {first} second third w v = rw (append_assoc first second third) (then w v)
-
 -- no text
-pub no_text : (old : List ℕ) (at : ℕ) → at ≤ length old → Added 0 [] at old at old
-no_text old at h = record {
+added_none : (old : List ℕ) (at : ℕ) → at ≤ length old → Added 0 [] at old at old
+added_none old at h = record {
   counts = omega arith;
   short = omega arith;
   within = h;
@@ -79,9 +58,49 @@ no_text old at h = record {
 }
 
 -- from the front on
-pub shows : {m : ℕ} {text old new : List ℕ} {next : ℕ} → Added m text 0 old next new → ShowsText (some text) old next new
+shows : {m : ℕ} {text old new : List ℕ} {next : ℕ} → Added m text 0 old next new → ShowsText (some text) old next new
 shows {text} {old} {new} {next} w = record {
   within = omega (arith, w.within, w.long);
   front = ap some (sym (ap (take next) w.bytes ∙ take_at text (drop next old) next (omega (arith, w.counts))));
   rest = ap (drop next) w.bytes ∙ drop_at text (drop next old) next (omega (arith, w.counts));
 }
+
+-- ---- pages
+
+-- the same text under another name, and a wider bound
+pub reword : {m k : ℕ} {text other : List ℕ} {old new : Page} → m ≤ k → text ≡ other → Written m text old new → Written k other old new
+reword h e w = record {
+  added = added_reword h e w.added;
+  same_buffer = w.same_buffer;
+}
+
+-- one text behind another
+pub then : {m k : ℕ} {first second : List ℕ} {old mid new : Page} → Written m first old mid → Written k second mid new → Written (m + k) (first ++ second) old new
+then w v = record {
+  added = added_then w.added v.added;
+  same_buffer = v.same_buffer ∙ w.same_buffer;
+}
+
+-- two texts behind another
+pub then_two : {m k : ℕ} {first : List ℕ} {old mid new : Page} (second third : List ℕ) → Written m first old mid → Written k (second ++ third) mid new
+    → Written (m + k) (first ++ second ++ third) old new
+then_two {first} second third w v = rw (append_assoc first second third) (then w v)
+
+-- no text
+pub no_text : (page : Page) → Written 0 [] page page
+no_text page = record {
+  added = added_none page.out.now page.at page.within;
+  same_buffer = refl;
+}
+
+-- ---- the buffer, when all is written
+
+-- what the page shows, its buffer shows
+pub in_buffer : {m at count : ℕ} {text bytes : List ℕ} {out : MutBor (List ℕ)} {first last : Page} → Begun at out first → Written m text first last → count ≡ last.at
+    → bytes ≡ last.out.now → Added m text at out.now count bytes
+in_buffer b w e h = rw (e, h, ← b.place, ← b.bytes) w.added
+
+-- the same from the front on
+pub shown : {m count : ℕ} {text bytes : List ℕ} {out : MutBor (List ℕ)} {first last : Page} → Begun 0 out first → Written m text first last → count ≡ last.at
+    → bytes ≡ last.out.now → ShowsText (some text) out.now count bytes
+shown b w e h = shows (in_buffer b w e h)

@@ -1,8 +1,6 @@
-// Words, numbers and lines, each written from a place of a lent buffer on. The answer is the place behind it.
+// Words, numbers and lines, each written behind the other in a lent buffer.
 #![tactic(auto)]
 
-mod lines;
-mod words;
+mod page;
 
-pub use lines::{head_line, left_line, refused_line, too_large};
-pub use words::{put, put_decimal, put_numbered, put_numbered_line, put_spaced};
+pub use page::Page;

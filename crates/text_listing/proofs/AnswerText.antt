@@ -18,7 +18,8 @@ use Rattle.model.specs.declared.Answer.{Answer}
 use Rattle.model.specs.declared.Answer.TheVariants.{Analyzed}
 use Rattle.lookup.specs.Run.{analysed_of}
 use Rattle.lookup.proofs.AfterCall.{call_shaped}
-use Rattle.text_lines.specs.Text.{Added}
+use Rattle.text_lines.specs.Page.{Written}
+use Rattle.text_lines.specs.declared.page.Page.{Page}
 use Rattle.text_lines.proofs.TextWritten.{then}
 use Rattle.text_listing.specs.Rows.{printed_analysis}
 use Rattle.text_listing.specs.Answer.{Listable, choose, answer_part, last_line, text_by, answer_text}
@@ -27,14 +28,14 @@ use Rattle.text_listing.proofs.AnalysisLines.{analysis_is, listable}
 -- ---- the end of a call, from its answer and what it left
 
 -- the three parts and the last line, one behind the other
-pub text_added : (text : AnalysisKind → Fact → List ℕ) (n : ℕ) (r : Answer) (constants index containers : Table) {old one two three new : List ℕ} {x y z next : ℕ}
-    → Added 729161 (answer_part Constant (text Constant) n r constants) 0 old x one
-    → Added 729161 (answer_part IndexCheck (text IndexCheck) n r index) x one y two
-    → Added 729161 (answer_part Container (text Container) n r containers) y two z three
-    → Added 47 (last_line r) z three next new
-    → Added 2187530 (text_by text n r constants index containers) 0 old next new
+pub text_written : (text : AnalysisKind → Fact → List ℕ) (n : ℕ) (r : Answer) (constants index containers : Table) {old one two three new : Page}
+    → Written 729161 (answer_part Constant (text Constant) n r constants) old one
+    → Written 729161 (answer_part IndexCheck (text IndexCheck) n r index) one two
+    → Written 729161 (answer_part Container (text Container) n r containers) two three
+    → Written 47 (last_line r) three new
+    → Written 2187530 (text_by text n r constants index containers) old new
 unfolding text_by
-text_added text n r constants index containers w v u t = then (then (then w v) u) t
+text_written text n r constants index containers w v u t = then (then (then w v) u) t
 
 module _ (sheet : List ℕ) (budget : VerifierResources) (before : Lent) where
   -- the call ended so

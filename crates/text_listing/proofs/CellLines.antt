@@ -2,7 +2,7 @@
 -- Assumes nothing.
 use mathlib.Core.Path.{◌≡◌, refl, sym, ap, ap₂, ◌∙◌}
 use mathlib.Core.List.{List, [], ◌∷◌, ◌++◌, append_assoc, append-nil}
-use Prim.Native.Nat.{ℕ, zero, suc, ◌+◌, ◌*◌, ◌≤◌, ◌<◌}
+use Prim.Native.Nat.{ℕ, zero, suc, ◌+◌, ◌*◌, ◌<◌}
 use native.Mathlib.Nat.{not-suc-le-zero, le_of_suc-le-suc}
 use native.Mathlib.Numerals.{add-one}
 use native.Mathlib.Omega.{arith}
@@ -13,7 +13,8 @@ use Rattle.model.specs.Fact.{Fact, unknown, Row}
 use Rattle.model.specs.Tables.{fact_of, facts_of}
 use Rattle.model.specs.Listing.{decimal, space, newline, row_lines, present_lines}
 use Rattle.model.proofs.Facts.{length_facts_lem}
-use Rattle.text_lines.specs.Text.{Added}
+use Rattle.text_lines.specs.Page.{Written}
+use Rattle.text_lines.specs.declared.page.Page.{Page}
 use Rattle.text_listing.specs.Rows.{cell_line, present_row, table_row_of}
 use Rattle.text_lines.proofs.TextWritten.{then, reword, no_text}
 
@@ -45,34 +46,34 @@ module _ (text : Fact → List ℕ) (pc : ℕ) where
 
   -- after j cells
   module _ (slots kinds values : List ℕ) where
-    abbrev pub CellsListed : ℕ → List ℕ → ℕ → ℕ → List ℕ → Type 0
-    CellsListed start old j at new = Added (89 * j) (first_lines slots (facts_of kinds values) j) start old at new
+    abbrev pub CellsListed : Page → ℕ → Page → Type 0
+    CellsListed old j new = Written (89 * j) (first_lines slots (facts_of kinds values) j) old new
 
-    pub listed_none : (start : ℕ) (old : List ℕ) → start ≤ length old → CellsListed start old 0 start old
+    pub listed_none : (page : Page) → CellsListed page 0 page
     unfolding row_lines
-    listed_none start old h = no_text old start h
+    listed_none page = no_text page
 
-    pub listed_more : (start : ℕ) (old mid new : List ℕ) (j at next : ℕ) → length kinds ≡ length slots → length values ≡ length slots → j < length slots → CellsListed start old j at mid
-        → Added 89 (cell_line text pc (get_or slots j 0) (fact_of (get_or kinds j 0) (get_or values j 0))) at mid next new → CellsListed start old (j + 1) next new
-    listed_more start old mid new j at next hk hv l w v =
+    pub listed_more : {old mid new : Page} (j : ℕ) → length kinds ≡ length slots → length values ≡ length slots → j < length slots → CellsListed old j mid
+        → Written 89 (cell_line text pc (get_or slots j 0) (fact_of (get_or kinds j 0) (get_or values j 0))) mid new → CellsListed old (j + 1) new
+    listed_more j hk hv l w v =
         reword (omega arith)
         (ap (λ (f : Fact). first_lines slots (facts_of kinds values) j ++ cell_line text pc (get_or slots j 0) f) (sym (fact_at kinds values j (omega arith) (omega arith)))
         ∙ one_more slots (facts_of kinds values) j l (omega (arith, length_facts_lem kinds values (omega arith)))
         ∙ ap (first_lines slots (facts_of kinds values)) (sym (add-one j)))
         (then w v)
 
-    abbrev pub Row-written : ℕ → ℕ → List ℕ → ℕ → List ℕ → Type 0
-    Row-written byte start old at new = Added (89 * length slots) (present_lines text pc slots (table_row_of byte kinds values)) start old at new
+    abbrev pub Row-written : ℕ → Page → Page → Type 0
+    Row-written byte old new = Written (89 * length slots) (present_lines text pc slots (table_row_of byte kinds values)) old new
 
     -- a present row
-    pub listed_all : (start : ℕ) (old new : List ℕ) (byte j at : ℕ) → length kinds ≡ length slots → length values ≡ length slots → byte ≡ 1 → j ≡ length slots → CellsListed start old j at new
-        → Row-written byte start old at new
+    pub listed_all : {old new : Page} (byte j : ℕ) → length kinds ≡ length slots → length values ≡ length slots → byte ≡ 1 → j ≡ length slots → CellsListed old j new
+        → Row-written byte old new
     unfolding present_lines table_row_of present_row
-    listed_all start old new byte j at hk hv b e w =
+    listed_all byte j hk hv b e w =
         rw (eq-eqb byte 1 b)
         (reword (omega arith) (ap₂ (row_lines text pc) (take_all j slots (omega arith)) (take_all j (facts_of kinds values) (omega (arith, length_facts_lem kinds values (omega arith))))) w)
 
     -- an absent one
-    pub listed_nothing : (start : ℕ) (old : List ℕ) (byte : ℕ) → start ≤ length old → (byte ≡ 1 → ⊥) → Row-written byte start old start old
+    pub listed_nothing : (page : Page) (byte : ℕ) → (byte ≡ 1 → ⊥) → Row-written byte page page
     unfolding present_lines table_row_of present_row
-    listed_nothing start old byte l h = rw (ne_eqb byte 1 h) (reword (omega arith) refl (no_text old start l))
+    listed_nothing page byte h = rw (ne_eqb byte 1 h) (reword (omega arith) refl (no_text page))

@@ -1,7 +1,7 @@
 -- What is written of a call's answer and of the tables that it left.
 -- Assumes nothing.
 use Rattle.std.specs.Prelude.{◌≡◌, List, [], ◌++◌, ℕ, ◌*◌, ◌≤◌, length}
-use Rattle.model.specs.Sheet.{code_count}
+use Rattle.model.specs.Sheet.{code_count, question_number}
 use Rattle.model.specs.Call.{Table, Lent}
 use Rattle.model.specs.Fact.{Fact}
 use Rattle.model.specs.Listing.{fact_text, left_line, refused_line, too_large}
@@ -34,7 +34,7 @@ AnswerListable which answer n table =
 -- the lines of an analysis of n instructions: none of a call that was refused
 unfoldable pub answer_part : AnalysisKind → (Fact → List ℕ) → ℕ → Answer → Table → List ℕ
 answer_part which text n (Analyzed constant index container left) table = printed_analysis which text n (choose which constant index container) table
-answer_part which text n (Invalid number left) table = []
+answer_part which text n (Invalid question left) table = []
 answer_part which text n (OverBudget stage requested remaining left) table = []
 answer_part which text n (NoRoom left) table = []
 
@@ -45,7 +45,7 @@ sheet_part which sheet answer table = answer_part which (fact_text which sheet) 
 -- the last line
 unfoldable pub last_line : Answer → List ℕ
 last_line (Analyzed constant index container left) = left_line left
-last_line (Invalid number left) = refused_line number
+last_line (Invalid question left) = refused_line (question_number question)
 last_line (OverBudget stage requested remaining left) = refused_line 7
 last_line (NoRoom left) = too_large
 

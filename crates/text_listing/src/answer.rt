@@ -1,14 +1,14 @@
 // What is printed of a call's answer: for one with facts, an analysis after the other and what is left; for a refusal one line.
-ghost use Rattle.std.specs.Prelude.{◌≡◌, ◌+◌, ◌≤◌, length};
-ghost use Rattle.model.specs.Call.{table};
-ghost use Rattle.text_lines.specs.Text.{Added};
+ghost use Rattle.std.specs.Prelude.{◌≡◌, ◌≤◌, length};
+ghost use Rattle.text_lines.specs.Page.{HasRoom, Written};
 ghost use Rattle.text_facts.specs.Text.{fact_text_by};
 ghost use Rattle.text_listing.specs.Rows.{printed_analysis};
 ghost use Rattle.text_listing.specs.Answer.{Listable, AnswerListable, choose, answer_part, last_line};
 
 use crate::rows::rows_lines;
+use lookup::Tables;
 use model::{AnalysisKind, Answer, Counts};
-use text_lines::{head_line, left_line, refused_line, too_large};
+use text_lines::Page;
 
 // "Heads: analysis, n, s, pops.", and behind it the rows.
 fn analysis_lines(
@@ -16,34 +16,18 @@ fn analysis_lines(
     classes: &[u16],
     n: usize,
     counts: Counts,
-    slots: &[u16],
-    present: &[u8],
-    kinds: &[u8],
-    values: &[u64],
-    at: usize,
-    out: &mut [u8],
-) -> usize
-    requires { (n ≤ 256) × (length slots.now ≤ 32) × Listable n counts (table slots.now present.now kinds.now values.now) × (at + 729161 ≤ length out.old) }
-    ensures { Added 729161
-        (printed_analysis which (fact_text_by which classes.now) n counts (table slots.now present.now kinds.now values.now))
-        at out.old result out.new }
+    tables: &Tables<'_>,
+    page: &mut Page<'_>,
+)
+    requires { (n ≤ 256) × (length tables.now.slots ≤ 32) × Listable n counts tables.now × HasRoom 729161 page.old }
+    ensures { Written 729161 (printed_analysis which (fact_text_by which classes.now) n counts tables.now) page.old page.new }
 {
-    let behind = head_line(which, n as u64, counts.tracked, counts.pops, at, out);
-    rows_lines(
-        which,
-        classes,
-        n,
-        counts.tracked as usize,
-        slots,
-        present,
-        kinds,
-        values,
-        behind,
-        out,
-    )
+    page.head_line(which, n as u64, counts.tracked, counts.pops);
+    rows_lines(which, classes, n, counts.tracked as usize, tables, page);
 }
 
 // The counts of an analysis, of the three that a call answers.
+#[tactic(auto, unfolding(crate::specs::Answer::choose))]
 fn counts_of(which: AnalysisKind, constant: Counts, index: Counts, container: Counts) -> Counts
     ensures { result ≡ choose which constant index container }
 {
@@ -61,48 +45,28 @@ pub fn answer_lines(
     answer: Answer,
     classes: &[u16],
     n: usize,
-    slots: &[u16],
-    present: &[u8],
-    kinds: &[u8],
-    values: &[u64],
-    at: usize,
-    out: &mut [u8],
-) -> usize
-    requires { (n ≤ 256)
-        × (length slots.now ≤ 32)
-        × AnswerListable which answer n (table slots.now present.now kinds.now values.now)
-        × (at + 729161 ≤ length out.old) }
-    ensures { Added 729161
-        (answer_part which (fact_text_by which classes.now) n answer (table slots.now present.now kinds.now values.now))
-        at out.old result out.new }
+    tables: &Tables<'_>,
+    page: &mut Page<'_>,
+)
+    requires { (n ≤ 256) × (length tables.now.slots ≤ 32) × AnswerListable which answer n tables.now × HasRoom 729161 page.old }
+    ensures { Written 729161 (answer_part which (fact_text_by which classes.now) n answer tables.now) page.old page.new }
 {
-    match answer {
-        Answer::Analyzed {
-            constant,
-            index,
-            container,
-            left: _,
-        } => {
-            let counts = counts_of(which, constant, index, container);
-            analysis_lines(
-                which, classes, n, counts, slots, present, kinds, values, at, out,
-            )
-        }
-        Answer::Invalid { number: _, left: _ } => at,
-        Answer::OverBudget {
-            stage: _,
-            requested: _,
-            remaining: _,
-            left: _,
-        } => at,
-        Answer::NoRoom { left: _ } => at,
+    if let Answer::Analyzed {
+        constant,
+        index,
+        container,
+        left: _,
+    } = answer
+    {
+        let counts = counts_of(which, constant, index, container);
+        analysis_lines(which, classes, n, counts, tables, page);
     }
 }
 
 // The last line: what is left, or the one line of a refusal.
-pub fn last_line(answer: Answer, at: usize, out: &mut [u8]) -> usize
-    requires { at + 47 ≤ length out.old }
-    ensures { Added 47 (last_line answer) at out.old result out.new }
+pub fn last_line(answer: Answer, page: &mut Page<'_>)
+    requires { HasRoom 47 page.old }
+    ensures { Written 47 (last_line answer) page.old page.new }
 {
     match answer {
         Answer::Analyzed {
@@ -110,14 +74,14 @@ pub fn last_line(answer: Answer, at: usize, out: &mut [u8]) -> usize
             index: _,
             container: _,
             left,
-        } => left_line(left, at, out),
-        Answer::Invalid { number, left: _ } => refused_line(number, at, out),
+        } => page.left_line(left),
+        Answer::Invalid { question, left: _ } => page.refused_line(question.number()),
         Answer::OverBudget {
             stage: _,
             requested: _,
             remaining: _,
             left: _,
-        } => refused_line(7, at, out),
-        Answer::NoRoom { left: _ } => too_large(at, out),
+        } => page.refused_line(7),
+        Answer::NoRoom { left: _ } => page.too_large(),
     }
 }

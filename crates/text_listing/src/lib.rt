@@ -1,4 +1,4 @@
-// The text of a listing, written from a place of a lent buffer on: what a call answered and left, analysis by analysis, and its last line.
+// The text of a listing, written on a page: what a call answered and left, analysis by analysis, and its last line.
 #![tactic(auto)]
 
 mod answer;

@@ -1,15 +1,16 @@
 // "Cells: pc, slot, fact; present rows ascending, slots ascending."
-ghost use Rattle.std.specs.Prelude.{◌≡◌, ◌+◌, ◌*◌, ◌≤◌, length, take};
+ghost use Rattle.std.specs.Prelude.{◌≡◌, ◌*◌, ◌≤◌, length, take};
 ghost use Rattle.model.specs.Count.{collect};
 ghost use Rattle.model.specs.Listing.{present_lines};
 ghost use Rattle.model.specs.Tables.{fact_of};
-ghost use Rattle.text_lines.specs.Text.{Added};
+ghost use Rattle.text_lines.specs.Page.{HasRoom, Written};
 ghost use Rattle.text_facts.specs.Text.{fact_text_by};
-ghost use Rattle.text_listing.specs.Rows.{cell_line, table_row_of, row_of};
+ghost use Rattle.text_listing.specs.Rows.{cell_line, table_row_of, row_in};
 
-use model::AnalysisKind;
+use lookup::Tables;
+use model::{AnalysisKind, FactCell};
 use text_facts::put_fact;
-use text_lines::{put, put_decimal, put_spaced};
+use text_lines::Page;
 
 // The line of one cell.
 fn cell_line(
@@ -17,19 +18,17 @@ fn cell_line(
     classes: &[u16],
     pc: u64,
     slot: u16,
-    kind: u8,
-    value: u64,
-    at: usize,
-    out: &mut [u8],
-) -> usize
-    requires { at + 89 ≤ length out.old }
-    ensures { Added 89 (cell_line (fact_text_by which classes.now) pc slot (fact_of kind value)) at out.old result out.new }
+    cell: FactCell,
+    page: &mut Page<'_>,
+)
+    requires { HasRoom 89 page.old }
+    ensures { Written 89 (cell_line (fact_text_by which classes.now) pc slot (fact_of cell.kind cell.value)) page.old page.new }
 {
-    let a = put_decimal(pc, at, out);
-    let b = put_spaced(slot as u64, a, out);
-    let c = put(b" ", b, out);
-    let d = put_fact(which, classes, kind, value, c, out);
-    put(b"\n", d, out)
+    page.put_decimal(pc);
+    page.put_spaced(u64::from(slot));
+    page.put(b" ");
+    put_fact(which, classes, cell, page);
+    page.put(b"\n");
 }
 
 // The lines of the row of pc, from its present byte and its parts of kinds and values: none for an absent row.
@@ -41,24 +40,23 @@ fn row_lines(
     present: u8,
     kinds: &[u8],
     values: &[u64],
-    at: usize,
-    out: &mut [u8],
-) -> usize
-    requires { (length kinds.now ≡ length slots.now) × (length values.now ≡ length slots.now) × (at + 89 * length slots.now ≤ length out.old) }
-    ensures { Added (89 * length slots.now)
-        (present_lines (fact_text_by which classes.now) pc slots.now (table_row_of present kinds.now values.now)) at
-        out.old result out.new }
+    page: &mut Page<'_>,
+)
+    requires { (length kinds.now ≡ length slots.now) × (length values.now ≡ length slots.now) × HasRoom (89 * length slots.now) page.old }
+    ensures { Written (89 * length slots.now)
+        (present_lines (fact_text_by which classes.now) pc slots.now (table_row_of present kinds.now values.now))
+        page.old page.new }
 {
     if present != 1 {
-        return at;
+        return;
     }
-    let mut next = at;
-    let mut j = 0;
-    while j < slots.len() {
-        next = cell_line(which, classes, pc, slots[j], kinds[j], values[j], next, out);
-        j += 1;
+    for j in 0..slots.len() {
+        let cell = FactCell {
+            kind: kinds[j],
+            value: values[j],
+        };
+        cell_line(which, classes, pc, slots[j], cell, page);
     }
-    next
 }
 
 // "present rows ascending": the lines of n rows of s cells each.
@@ -67,37 +65,27 @@ pub fn rows_lines(
     classes: &[u16],
     n: usize,
     s: usize,
-    slots: &[u16],
-    present: &[u8],
-    kinds: &[u8],
-    values: &[u64],
-    at: usize,
-    out: &mut [u8],
-) -> usize
-    requires { (s ≤ length slots.now) × (n ≤ length present.now) × (n * s ≤ length kinds.now) × (n * s ≤ length values.now) × (at + n * (89 * s) ≤ length out.old) }
-    ensures { Added (n * (89 * s))
-        (collect (λ pc. present_lines (fact_text_by which classes.now) pc (take s slots.now)
-        (row_of s present.now kinds.now values.now pc)) n)
-        at out.old result out.new }
+    tables: &Tables<'_>,
+    page: &mut Page<'_>,
+)
+    requires { let t = tables.now in
+        (s ≤ length t.slots) × (n ≤ length t.present) × (n * s ≤ length t.kinds) × (n * s ≤ length t.values) × HasRoom (n * (89 * s)) page.old }
+    ensures { let t = tables.now in
+        Written (n * (89 * s)) (collect (λ pc. present_lines (fact_text_by which classes.now) pc (take s t.slots) (row_in s t pc)) n) page.old page.new }
 {
-    let mut next = at;
     let mut from = 0;
-    let mut pc = 0;
-    while pc < n {
+    for pc in 0..n {
         let end = from + s;
-        next = row_lines(
+        row_lines(
             which,
             classes,
             pc as u64,
-            &slots[..s],
-            present[pc],
-            &kinds[from..end],
-            &values[from..end],
-            next,
-            out,
+            &tables.slots[..s],
+            tables.present[pc],
+            &tables.kinds[from..end],
+            &tables.values[from..end],
+            page,
         );
         from = end;
-        pc += 1;
     }
-    next
 }

@@ -3,4 +3,4 @@ use Rattle.export.proofs.Wrappers.{told}
 use Rattle.export.proofs.vo_facts_index_check.Goals as goal
 
 pub returns : goal.returns
-returns c = told c.args.out.now c.put_slot_fact.ensures c.index_check_fact_for_slot-fact.ensures
+returns c = told c.args.out.now c.put_slot_fact.ensures c.fact_for_slot-fact.ensures

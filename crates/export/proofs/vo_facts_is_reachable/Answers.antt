@@ -1,8 +1,7 @@
 -- `vo_facts_is_reachable` meets its contract. Assumes nothing.
 use mathlib.Core.Path.{ap, ◌∙◌}
-use Rattle.model.specs.Lookup.{WithNumbers}
+use Rattle.model.specs.Lookup.{Reachability, WithNumbers}
 use Rattle.model.specs.Interface.{reached_number}
-use Rattle.model.specs.declared.Reachability.{Reachability}
 use Rattle.export.proofs.vo_facts_is_reachable.Goals as goal
 
 pub returns : goal.returns

@@ -5,4 +5,4 @@ use Rattle.text_facts.proofs.put_checked.Goals as goal
 
 pub returns : goal.returns
 unfolding ascii
-returns c = then c.put-a.ensures c.put_decimal.ensures
+returns c = then c.put.ensures c.put_decimal.ensures

@@ -9,10 +9,10 @@ pub returns-then-out-lt1 : goal.returns-then-out-lt1
 returns-then-out-lt1 c = no_entry _ _ _ c.if-out-lt1.true
 
 pub put_lowest-requires : goal.put_lowest-requires
-put_lowest-requires c = (accepted _ (sym c.in-Admitted.is ∙ c.check_sheet-checked.ensures), c.if-out-lt1.false)
+put_lowest-requires c = (accepted _ (sym c.in-Ok.is ∙ c.check_sheet.ensures), c.if-out-lt1.false)
 
-pub returns-in-Refused : goal.returns-in-Refused
-returns-in-Refused c = sheet_refused _ _ _ c.if-out-lt1.false c.check_sheet-checked.ensures c.in-Refused.is
+pub returns-in-Err : goal.returns-in-Err
+returns-in-Err c = rw c.number.ensures (sheet_refused _ _ _ c.if-out-lt1.false c.check_sheet.ensures c.in-Err.is)
 
-pub returns-in-Admitted : goal.returns-in-Admitted
-returns-in-Admitted c = searched _ _ _ c.if-out-lt1.false c.check_sheet-checked.ensures c.in-Admitted.is c.put_lowest.ensures
+pub returns-in-Ok : goal.returns-in-Ok
+returns-in-Ok c = searched _ _ _ c.if-out-lt1.false c.check_sheet.ensures c.in-Ok.is c.put_lowest.ensures

@@ -5,8 +5,16 @@ use Rattle.export_loader.proofs.RoomAnswers.{counted_slots}
 use native.Mathlib.Omega.{arith}
 use Rattle.export_loader.proofs.room.count_tracked.Goals as goal
 
-pub returns : goal.returns
-returns c =
+pub returns-in-Ok : goal.returns-in-Ok
+returns-in-Ok c =
     let asked = c.requires in
-    let ends = c.tracked_slots-closed.ensures in
-    (counted_slots _ _ _ _ ends.closes asked.0 (omega arith) (omega arith), ends.no_marks ∙ sym asked.3, ends.no_entries ∙ sym asked.4)
+    let ends = c.tracked_slots.ensures in
+    let counted = counted_slots _ _ _ _ ends.closes asked.0 (omega arith) (omega arith) in
+    (rw c.in-Ok.is at counted, ends.no_marks ∙ sym asked.3, ends.no_entries ∙ sym asked.4)
+
+pub returns-in-Err : goal.returns-in-Err
+returns-in-Err c =
+    let asked = c.requires in
+    let ends = c.tracked_slots.ensures in
+    let counted = counted_slots _ _ _ _ ends.closes asked.0 (omega arith) (omega arith) in
+    (rw c.in-Err.is at counted, ends.no_marks ∙ sym asked.3, ends.no_entries ∙ sym asked.4)

@@ -11,10 +11,10 @@ pub returns-then-out-lt4 : goal.returns-then-out-lt4
 returns-then-out-lt4 c = out_too_short _ _ _ _ c.if-out-lt4.true
 
 pub put_room-requires : goal.put_room-requires
-put_room-requires c = let t = admitted_lengths _ _ _ c.admit-admission.ensures c.in-Admitted.is in let n = (counted t.0.are).local_slots_is in (measured t.0, omega (arith, n, t.1), omega (arith, n, t.2), c.if-out-lt4.false)
+put_room-requires c = let t = admitted_lengths _ _ _ c.admit.ensures c.in-Ok.is in let n = (counted t.0.are).local_slots_is in (measured t.0, omega (arith, n, t.1), omega (arith, n, t.2), c.if-out-lt4.false)
 
-pub returns-in-Refused : goal.returns-in-Refused
-returns-in-Refused c = room_refused c.args.sheet.now c.args.marks.now c.args.stack.now c.args.out.now c.if-out-lt4.false c.admit-admission.ensures c.in-Refused.is
+pub returns-in-Err : goal.returns-in-Err
+returns-in-Err c = rw c.number.ensures (room_refused c.args.sheet.now c.args.marks.now c.args.stack.now c.args.out.now c.if-out-lt4.false c.admit.ensures c.in-Err.is)
 
-pub returns-in-Admitted : goal.returns-in-Admitted
-returns-in-Admitted c = let e = c.put_room.ensures in room_told c.args.sheet.now c.args.marks.now c.args.stack.now c.args.out.now c.if-out-lt4.false c.admit-admission.ensures c.in-Admitted.is e.0 e.1 e.2
+pub returns-in-Ok : goal.returns-in-Ok
+returns-in-Ok c = let e = c.put_room.ensures in room_told c.args.sheet.now c.args.marks.now c.args.stack.now c.args.out.now c.if-out-lt4.false c.admit.ensures c.in-Ok.is e.0 e.1 e.2

@@ -12,14 +12,16 @@ pub returns-then-out-lt2 : goal.returns-then-out-lt2
 unfolding looked_up
 returns-then-out-lt2 c = rw (lt-leb 2 (length c.args.out.now) (omega arith))
 
-pub returns-in-Cell : goal.returns-in-Cell
+pub returns-in_default : goal.returns-in_default
 unfolding interface_compute
-returns-in-Cell c = rw (c.in-Cell.is, le-leb 2 (length c.args.out.now) (omega arith)) (ap (looked 0) (sets-eq (_ ∷ _ ∷ []) c.args.out.now 0 (omega arith)))
+returns-in_default c = rw (c.in_default.is, le-leb 2 (length c.args.out.now) (omega arith))
 
-pub returns-in-Absent : goal.returns-in-Absent
+pub returns-in_default-found : goal.returns-in_default-found
 unfolding interface_compute
-returns-in-Absent c = rw (c.in-Absent.is, le-leb 2 (length c.args.out.now) (omega arith))
+returns-in_default-found c = rw (c.in-Ok.is, c.in_default-found.is, le-leb 2 (length c.args.out.now) (omega arith))
 
-pub returns-in-Damaged : goal.returns-in-Damaged
+pub returns : goal.returns
 unfolding interface_compute
-returns-in-Damaged c = rw (c.in-Damaged.is, le-leb 2 (length c.args.out.now) (omega arith))
+returns c =
+    let a = c.in-Some in
+    rw (c.in-Ok.is, a.is, le-leb 2 (length c.args.out.now) (omega arith)) (ap (looked 0) (sets-eq (a.cell.kind ∷ a.cell.value ∷ []) c.args.out.now 0 (omega arith)))

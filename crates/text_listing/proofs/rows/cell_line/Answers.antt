@@ -1,4 +1,4 @@
--- `text_listing::rows::cell_line` meets its contract. Assumes nothing.
+-- `text_listing::cell_line` meets its contract. Assumes nothing.
 use Rattle.model.specs.Listing.{ascii, decimal, space, newline}
 use Rattle.text_listing.specs.Rows.{cell_line}
 use Rattle.text_lines.proofs.TextWritten.{then, then_two}
@@ -7,6 +7,5 @@ use Rattle.text_listing.proofs.rows.cell_line.Goals as goal
 pub returns : goal.returns
 unfolding ascii space newline cell_line
 returns c =
-    let a = c.args in
-    let two = then_two space (decimal a.slot) c.put_decimal-a.ensures c.put_spaced-b.ensures in
-    then (then (then two c.put-c.ensures) c.put_fact-d.ensures) c.put.ensures
+    let two = then_two space (decimal c.args.slot) c.put_decimal.ensures (rw c.from.ensures at c.put_spaced.ensures) in
+    then (then (then two c.put.ensures) c.put_fact.ensures) c.put-2.ensures

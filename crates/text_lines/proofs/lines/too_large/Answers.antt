@@ -1,7 +1,0 @@
--- `text_lines::too_large` meets its contract. Assumes nothing.
-use Rattle.model.specs.Listing.{ascii, too_large}
-use Rattle.text_lines.proofs.lines.too_large.Goals as goal
-
-pub returns : goal.returns
-unfolding ascii too_large
-returns c = c.put.ensures
