@@ -1,31 +1,49 @@
 // What a case is made of.
 ghost use Rattle.std.specs.Prelude.{◌≡◌};
-ghost use Rattle.check_corner_text.specs.Heads.{head_of, question_of};
+ghost use Rattle.check_corner_text.specs.Heads.{asked_of, head_of, question_of};
 
-use crate::{Head, Question};
+use crate::{Asked, Head, Question, UnknownAsked};
 use model::FactCell;
-use sheet::{byte_at, u16_at, u32_at, u64_at};
+use sheet::Number;
 
+impl TryFrom<u8> for Asked {
+    type Error = UnknownAsked;
+
+    ghost try_from_gives = { λ number r. r ≡ asked_of number };
+
+    #[tactic(auto, unfolding(crate::specs::Heads::asked_of, model::specs::Opcode::select))]
+    fn try_from(number: u8) -> Result<Asked, UnknownAsked> {
+        match number {
+            1 => Ok(Asked::Successors),
+            2 => Ok(Asked::Writes),
+            3 => Ok(Asked::IndexWrites),
+            _ => Err(UnknownAsked { number }),
+        }
+    }
+}
+
+#[tactic(auto, unfolding(crate::specs::Heads::head_of))]
 pub fn head_of(b: &[u8; 8]) -> Head
     ensures { result ≡ head_of b.now }
 {
     Head {
-        name: byte_at(b, 0) as usize,
-        questions: u16_at(b, 2),
-        sheet: u32_at(b, 4) as usize,
+        name: u8::read(b, 0) as usize,
+        questions: u16::read(b, 2),
+        sheet: u32::read(b, 4) as usize,
     }
 }
 
+#[tactic(auto, unfolding(crate::specs::Heads::question_of))]
 pub fn question_of(b: &[u8; 16]) -> Question
     ensures { result ≡ question_of b.now }
 {
     Question {
-        asks: byte_at(b, 0),
-        pc: u16_at(b, 2) as usize,
-        slot: u16_at(b, 4),
+        asks: Asked::try_from(u8::read(b, 0)),
+        pc: u16::read(b, 2) as usize,
+        slot: u16::read(b, 4),
         before: FactCell {
-            kind: byte_at(b, 1),
-            value: u64_at(b, 8),
+            kind: u8::read(b, 1),
+            value: u64::read(b, 8),
         },
     }
 }

@@ -9,6 +9,7 @@ pub use cases::{head_of, question_of};
 pub use lines::{accepted_line, refused_corner_line};
 use model::FactCell;
 pub use text::answer_line;
+use thiserror::Error;
 
 // What comes first in a case, in 8 bytes: the length of its name (8-bit), 0, how many questions it asks (16-bit), the length of its sheet (32-bit).
 #[derive(Clone, Copy)]
@@ -22,15 +23,23 @@ pub struct Head {
 // the fact (64-bit).
 #[derive(Clone, Copy)]
 pub struct Question {
-    pub asks: u8,
+    pub asks: Result<Asked, UnknownAsked>,
     pub pc: usize,
     pub slot: u16,
     pub before: FactCell,
 }
 
-// What a question asks.
-const SUCCESSORS: u8 = 1;
+// What a question asks: the successors of an instruction, whether it writes a slot, and the same in the index analysis.
+#[derive(Clone, Copy, Debug, PartialEq, Eq)]
+pub enum Asked {
+    Successors = 1,
+    Writes = 2,
+    IndexWrites = 3,
+}
 
-const WRITES: u8 = 2;
-
-const INDEX_WRITES: u8 = 3;
+// A number that asks none of these.
+#[derive(Clone, Copy, Debug, PartialEq, Eq, Drop, Error)]
+#[error("{number} is no number of what can be asked")]
+pub struct UnknownAsked {
+    pub number: u8,
+}

@@ -1,26 +1,23 @@
-// The lines that are printed, each at the front of a lent buffer. The answer is its length.
-ghost use Rattle.std.specs.Prelude.{◌+◌, ◌≤◌, length};
-ghost use Rattle.text_lines.specs.Text.{Added};
+// The lines that are printed.
+ghost use Rattle.text_lines.specs.Page.{HasRoom, Written};
 ghost use Rattle.check_corner_text.specs.Lines.{refused_corner_line, accepted_line, successors_line, yes_or_no, writes_line, index_writes_line};
 
 use model::{FactCell, InstructionSuccessors};
 use sheet::Sizes;
-use text_lines::{put, put_numbered};
+use text_lines::Page;
 
 // The number of the question that refuses a sheet.
-pub fn refused_corner_line(question: u8, out: &mut [u8]) -> usize
-    requires { 31 ≤ length out.old }
-    ensures { Added 31 (refused_corner_line question) 0 out.old result out.new }
+pub fn refused_corner_line(question: u8, page: &mut Page<'_>)
+    requires { HasRoom 31 page.old }
+    ensures { Written 31 (refused_corner_line question) page.old page.new }
 {
-    let numbers = [question as u64];
-    let a = put_numbered(b": refused", &numbers, 0, out);
-    put(b"\n", a, out)
+    page.put_numbered_line(b": refused", &[question as u64]);
 }
 
 // The ten sizes of a sheet that is accepted.
-pub fn accepted_line(sizes: Sizes, out: &mut [u8]) -> usize
-    requires { 221 ≤ length out.old }
-    ensures { Added 221 (accepted_line sizes) 0 out.old result out.new }
+pub fn accepted_line(sizes: Sizes, page: &mut Page<'_>)
+    requires { HasRoom 221 page.old }
+    ensures { Written 221 (accepted_line sizes) page.old page.new }
 {
     let numbers = [
         sizes.code_count as u64,
@@ -34,42 +31,39 @@ pub fn accepted_line(sizes: Sizes, out: &mut [u8]) -> usize
         sizes.recv_slots as u64,
         sizes.is_closure as u64,
     ];
-    let a = put_numbered(b": accepted", &numbers, 0, out);
-    put(b"\n", a, out)
+    page.put_numbered_line(b": accepted", &numbers);
 }
 
 // The successors of the instruction at pc, in order, and how the record is filled behind them.
-pub fn successors_line(pc: usize, successors: InstructionSuccessors, out: &mut [u8]) -> usize
-    requires { 96 ≤ length out.old }
-    ensures { Added 96 (successors_line pc successors) 0 out.old result out.new }
+pub fn successors_line(pc: usize, successors: InstructionSuccessors, page: &mut Page<'_>)
+    requires { HasRoom 96 page.old }
+    ensures { Written 96 (successors_line pc successors) page.old page.new }
 {
     let pcs = successors.pcs;
-    let place = [pc as u64];
     let numbers = [successors.len as u64, pcs[0] as u64, pcs[1] as u64];
-    let a = put_numbered(b"successors", &place, 0, out);
-    let b = put_numbered(b":", &numbers, a, out);
-    put(b"\n", b, out)
+    page.put_numbered(b"successors", &[pc as u64]);
+    page.put_numbered_line(b":", &numbers);
 }
 
 // The answer at the end of a line.
-fn put_yes_or_no(answer: bool, at: usize, out: &mut [u8]) -> usize
-    requires { at + 6 ≤ length out.old }
-    ensures { Added 6 (yes_or_no answer) at out.old result out.new }
+fn put_yes_or_no(answer: bool, page: &mut Page<'_>)
+    requires { HasRoom 6 page.old }
+    ensures { Written 6 (yes_or_no answer) page.old page.new }
 {
     if answer {
-        return put(b": yes\n", at, out);
+        page.put(b": yes\n");
+    } else {
+        page.put(b": no\n");
     }
-    put(b": no\n", at, out)
 }
 
 // Whether the instruction at pc writes the slot.
-pub fn writes_line(pc: usize, slot: u16, is_written: bool, out: &mut [u8]) -> usize
-    requires { 54 ≤ length out.old }
-    ensures { Added 54 (writes_line pc slot is_written) 0 out.old result out.new }
+pub fn writes_line(pc: usize, slot: u16, is_written: bool, page: &mut Page<'_>)
+    requires { HasRoom 54 page.old }
+    ensures { Written 54 (writes_line pc slot is_written) page.old page.new }
 {
-    let numbers = [pc as u64, slot as u64];
-    let a = put_numbered(b"writes", &numbers, 0, out);
-    put_yes_or_no(is_written, a, out)
+    page.put_numbered(b"writes", &[pc as u64, slot as u64]);
+    put_yes_or_no(is_written, page);
 }
 
 // The same in the index analysis, with the fact in b.
@@ -78,12 +72,12 @@ pub fn index_writes_line(
     before: FactCell,
     slot: u16,
     is_written: bool,
-    out: &mut [u8],
-) -> usize
-    requires { 102 ≤ length out.old }
-    ensures { Added 102 (index_writes_line pc before slot is_written) 0 out.old result out.new }
+    page: &mut Page<'_>,
+)
+    requires { HasRoom 102 page.old }
+    ensures { Written 102 (index_writes_line pc before slot is_written) page.old page.new }
 {
     let numbers = [pc as u64, before.kind as u64, before.value, slot as u64];
-    let a = put_numbered(b"index writes", &numbers, 0, out);
-    put_yes_or_no(is_written, a, out)
+    page.put_numbered(b"index writes", &numbers);
+    put_yes_or_no(is_written, page);
 }

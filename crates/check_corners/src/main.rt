@@ -1,8 +1,8 @@
 // Runs the leaves on corners and prints a line for each answer: questions 1 to 5 of a sheet, and of one that they accept the successors of an
 // instruction and the slots that it writes. The cases come from standard input; oracle/corners.py writes them and the lines that must come out.
 //
-// A case is a name, a sheet, and questions about it. Every function that reads or writes answers whether to go on: not after the last case, not
-// where the input is none, and not after a read or a write that failed, so that nothing is printed behind a gap.
+// A case is a name, a sheet, and questions about it. Every function that reads or writes answers an error behind the last case, where an input is none,
+// and after a read or a write that failed, so that nothing is printed behind a gap.
 #![tactic(auto)]
 
 ghost use Rattle.std.specs.Prelude.{◌≡◌, ◌≤◌, length};
@@ -13,48 +13,37 @@ ghost use Rattle.sheet.specs.Measured.{Accepted};
 use check_corner_text::{accepted_line, answer_line, head_of, question_of, refused_corner_line};
 use check_input::read_front;
 use sheet::Sizes;
-use sheet_questions::Admission;
+use std::io;
 use std::io::{Read, Write};
+use text_lines::Page;
 
-// A proved loop has to end, and nothing says that the input does. So its turns are bounded, by a number that no run uses up.
+// A proved loop has to end, and nothing says that the input does. So its turns are bounded, by a number that no run uses up. The first error ends the
+// lines, and is not told: so does the input's end, and the status is 0 either way.
 fn main(rt: HostRuntime) {
     let mut input = rt.stdin();
     let mut output = rt.stdout();
     for _ in 0..u64::MAX {
-        if !answer_case(&mut input, &mut output) {
+        if answer_case(&mut input, &mut output).is_err() {
             return;
         }
     }
 }
 
 // Reads a case and prints its lines.
-fn answer_case<R: Read, W: Write>(input: &mut R, output: &mut W) -> bool {
+fn answer_case<R: Read, W: Write>(input: &mut R, output: &mut W) -> io::Result<()> {
     let mut bytes = [0u8; 8];
-    if read_front(input, &mut bytes, 8) < 8 {
-        return false;
-    }
+    read_front(input, &mut bytes, 8)?;
     let head = head_of(&bytes);
-    if !print_name(input, output, head.name) {
-        return false;
-    }
+    print_name(input, output, head.name)?;
     answer_sheet(input, output, head.sheet, head.questions)
 }
 
-// Writes the first count bytes.
-fn write_front<W: Write>(output: &mut W, bytes: &[u8], count: usize) -> bool
-    requires { count ≤ length bytes.now }
-{
-    output.write_all(&bytes[..count]).is_ok()
-}
-
 // Copies the name out.
-fn print_name<R: Read, W: Write>(input: &mut R, output: &mut W, length: usize) -> bool {
+fn print_name<R: Read, W: Write>(input: &mut R, output: &mut W, length: usize) -> io::Result<()> {
     let mut name = [0u8; 4096];
-    let count = read_front(input, &mut name, length);
-    if count < length {
-        return false;
-    }
-    write_front(output, &name, count)
+    read_front(input, &mut name, length)?;
+    output.write_all(&name[..length])?;
+    Ok(())
 }
 
 // Room for a sheet.
@@ -84,13 +73,10 @@ fn answer_sheet<R: Read, W: Write>(
     output: &mut W,
     length: usize,
     questions: u16,
-) -> bool {
+) -> io::Result<()> {
     let mut sheet = no_long_sheet();
-    let count = read_front(input, &mut sheet, length);
-    if count < length {
-        return false;
-    }
-    check_and_answer(input, output, &sheet[..count], questions)
+    read_front(input, &mut sheet, length)?;
+    check_and_answer(input, output, &sheet[..length], questions)
 }
 
 // A sheet that is refused can be asked nothing more.
@@ -99,33 +85,38 @@ fn check_and_answer<R: Read, W: Write>(
     output: &mut W,
     sheet: &[u8],
     questions: u16,
-) -> bool {
+) -> io::Result<()> {
     match sheet_questions::check_sheet(sheet) {
-        Admission::Admitted { sizes } => {
-            if !print_accepted(output, sizes) {
-                return false;
-            }
+        Ok(sizes) => {
+            print_accepted(output, sizes)?;
             answer_accepted(input, output, sheet, sizes, questions)
         }
-        Admission::Refused { number } => {
-            if !print_refused(output, number) {
-                return false;
+        Err(question) => {
+            print_refused(output, question.number())?;
+            if questions == 0 {
+                return Ok(());
             }
-            questions == 0
+            Err(io::Error::from(io::ErrorKind::InvalidData))
         }
     }
 }
 
-fn print_accepted<W: Write>(output: &mut W, sizes: Sizes) -> bool {
+fn print_accepted<W: Write>(output: &mut W, sizes: Sizes) -> io::Result<()> {
     let mut line = no_line();
-    let count = accepted_line(sizes, &mut line);
-    write_front(output, &line, count)
+    let mut page = Page::new(&mut line);
+    accepted_line(sizes, &mut page);
+    let count = page.finished();
+    output.write_all(&line[..count])?;
+    Ok(())
 }
 
-fn print_refused<W: Write>(output: &mut W, question: u8) -> bool {
+fn print_refused<W: Write>(output: &mut W, question: u8) -> io::Result<()> {
     let mut line = no_line();
-    let count = refused_corner_line(question, &mut line);
-    write_front(output, &line, count)
+    let mut page = Page::new(&mut line);
+    refused_corner_line(question, &mut page);
+    let count = page.finished();
+    output.write_all(&line[..count])?;
+    Ok(())
 }
 
 fn answer_accepted<R: Read, W: Write>(
@@ -134,53 +125,37 @@ fn answer_accepted<R: Read, W: Write>(
     sheet: &[u8],
     sizes: Sizes,
     questions: u16,
-) -> bool
+) -> io::Result<()>
     requires { Accepted sheet.now sizes }
 {
     let mut firsts = no_ranges();
     sheet_index::first_ranges(sheet, sizes, &mut firsts);
-    answer_questions(input, output, sheet, sizes, &firsts, questions)
-}
-
-fn answer_questions<R: Read, W: Write>(
-    input: &mut R,
-    output: &mut W,
-    sheet: &[u8],
-    sizes: Sizes,
-    firsts: &[u16],
-    questions: u16,
-) -> bool
-    requires { Accepted sheet.now sizes × Holds (first_range sheet.now) (code_count sheet.now) firsts.now }
-{
-    let mut left = questions;
-    while left > 0 && answer_next(input, output, sheet, sizes, firsts) {
-        left -= 1;
+    for _ in 0..questions {
+        answer_next(input, output, sheet, sizes, &firsts)?;
     }
-    left == 0
+    Ok(())
 }
 
-// Reads a question and prints its answer, if the instruction is one of the code.
+// Reads a question and prints its answer, if the instruction is one of the code and what is asked is known.
 fn answer_next<R: Read, W: Write>(
     input: &mut R,
     output: &mut W,
     sheet: &[u8],
     sizes: Sizes,
     firsts: &[u16],
-) -> bool
+) -> io::Result<()>
     requires { Accepted sheet.now sizes × Holds (first_range sheet.now) (code_count sheet.now) firsts.now }
 {
     let mut bytes = [0u8; 16];
-    if read_front(input, &mut bytes, 16) < 16 {
-        return false;
-    }
+    read_front(input, &mut bytes, 16)?;
     let question = question_of(&bytes);
-    if sizes.code_count <= question.pc {
-        return false;
+    if sizes.code_count <= question.pc || question.asks.is_err() {
+        return Err(io::Error::from(io::ErrorKind::InvalidData));
     }
     let mut line = no_line();
-    let count = answer_line(sheet, sizes, firsts, question, &mut line);
-    if count == 0 {
-        return false;
-    }
-    write_front(output, &line, count)
+    let mut page = Page::new(&mut line);
+    answer_line(sheet, sizes, firsts, question, &mut page);
+    let count = page.finished();
+    output.write_all(&line[..count])?;
+    Ok(())
 }

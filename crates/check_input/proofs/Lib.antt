@@ -1,2 +1,2 @@
--- Answers of `read`, and a buffer that is filled piece by piece
+-- A buffer that is filled piece by piece
 pub mod BufferReads

@@ -5,7 +5,6 @@ use mathlib.Core.List.{List, [], ◌∷◌, ◌++◌, append-nil, append_assoc}
 use mathlib.Core.Option.{some}
 use Prim.Native.Nat.{ℕ, suc, ◌+◌}
 use native.Mathlib.Numerals.{add-one}
-use native.Mathlib.Omega.{arith}
 use Rattle.model.specs.Call.{answer_numbered}
 use Rattle.model.specs.Interface.{twelve}
 use Rattle.model.specs.Listing.{ascii, newline}
@@ -15,8 +14,7 @@ use Rattle.check_replay.specs.Calls.{called, called_in, with_first, called_again
 use Rattle.check_replay.specs.Line.{called_line, line_of, replay_line}
 use Rattle.check_replay_lent.specs.declared.Checksum.{Checksum}
 use Rattle.check_replay.specs.declared.call.Called.{Called}
-use Rattle.text_lines.specs.Text.{Added, ShowsText, numbered}
-use Rattle.text_lines.proofs.TextWritten.{reword, shows}
+use Rattle.text_lines.specs.Text.{ShowsText, numbered}
 
 module _ (head sheet : List ℕ) where
   pub first : (call : Called) → some call ≡ called_in head sheet 0 checksum_start → some (called call.answer call.checksum) ≡ replayed head sheet 0
@@ -29,12 +27,12 @@ module _ (head sheet : List ℕ) where
   again i answer {done} next e k = rw (add-one i) (ap (with_first (called answer done)) (rw (add-one i) at k) ∙ ap (called_again head sheet (suc i)) e)
 
   -- the text that is written is the sheet's line
-  pub line_shown : (all : Called) {numbers old new : List ℕ} {sum most next : ℕ} → some all ≡ replayed head sheet 18
+  pub line_shown : (all : Called) {numbers old new : List ℕ} {sum next : ℕ} → some all ≡ replayed head sheet 18
       → numbers ≡ twelve (answer_numbered all.answer) ++ [] → sum ≡ checksum_number all.checksum
-      → Added most (numbered (ascii "answer") numbers ++ (numbered (ascii " checksum") (sum ∷ []) ++ newline)) 0 old next new
+      → ShowsText (some (numbered (ascii "answer") numbers ++ (numbered (ascii " checksum") (sum ∷ []) ++ newline))) old next new
       → ShowsText (replay_line head sheet) old next new
   unfolding replay_line line_of called_line
-  line_shown all {numbers = numbers} {sum = sum} {most = most} e n c w =
+  line_shown all {numbers = numbers} {sum = sum} e n c w =
       let line : List ℕ → ℕ → List ℕ = λ xs x. numbered (ascii "answer") xs ++ numbered (ascii " checksum") (x ∷ []) ++ newline in
-      let s = shows (reword {k = most} (omega arith) (sym (append_assoc (numbered (ascii "answer") numbers) (numbered (ascii " checksum") (sum ∷ [])) newline) ∙ ap₂ line (n ∙ append-nil _) c) w) in
-      record { within = s.within; front = ap line_of (sym e) ∙ s.front; rest = s.rest }
+      let text = sym (append_assoc (numbered (ascii "answer") numbers) (numbered (ascii " checksum") (sum ∷ [])) newline) ∙ ap₂ line (n ∙ append-nil _) c in
+      record { within = w.within; front = ap line_of (sym e) ∙ ap some (sym text) ∙ w.front; rest = w.rest }

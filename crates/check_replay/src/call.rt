@@ -3,9 +3,7 @@ ghost use Rattle.std.specs.Prelude.{◌≡◌};
 ghost use Rattle.std.proofs.Math.Option.{some};
 ghost use Rattle.check_replay.specs.Calls.{called_in};
 
-use check_replay_lent::{
-    Checksum, budget_of, front_u8, front_u16, front_u64, with_answer, with_scratch, with_table,
-};
+use check_replay_lent::{Checksum, budget_of, front};
 use model::Answer;
 use verifier::analyze;
 
@@ -33,39 +31,39 @@ pub fn call(head: &[u8; 88], sheet: &[u8], call: usize, checksum: Checksum) -> C
     ensures { some result ≡ called_in head.now sheet.now call checksum }
 {
     let mut constant_slots_room = [0u16; SLOTS];
-    let constant_slots = front_u16(&mut constant_slots_room, SLOTS, head, call, 0);
+    let constant_slots = front(&mut constant_slots_room, SLOTS, head, call, 0);
     let mut constant_present_room = [0u8; INSTRUCTIONS];
-    let constant_present = front_u8(&mut constant_present_room, INSTRUCTIONS, head, call, 1);
+    let constant_present = front(&mut constant_present_room, INSTRUCTIONS, head, call, 1);
     let mut constant_kinds_room = [0u8; CELLS];
-    let constant_kinds = front_u8(&mut constant_kinds_room, CELLS, head, call, 2);
+    let constant_kinds = front(&mut constant_kinds_room, CELLS, head, call, 2);
     let mut constant_values_room = [0u64; CELLS];
-    let constant_values = front_u64(&mut constant_values_room, CELLS, head, call, 3);
+    let constant_values = front(&mut constant_values_room, CELLS, head, call, 3);
     let mut index_slots_room = [0u16; SLOTS];
-    let index_slots = front_u16(&mut index_slots_room, SLOTS, head, call, 4);
+    let index_slots = front(&mut index_slots_room, SLOTS, head, call, 4);
     let mut index_present_room = [0u8; INSTRUCTIONS];
-    let index_present = front_u8(&mut index_present_room, INSTRUCTIONS, head, call, 5);
+    let index_present = front(&mut index_present_room, INSTRUCTIONS, head, call, 5);
     let mut index_kinds_room = [0u8; CELLS];
-    let index_kinds = front_u8(&mut index_kinds_room, CELLS, head, call, 6);
+    let index_kinds = front(&mut index_kinds_room, CELLS, head, call, 6);
     let mut index_values_room = [0u64; CELLS];
-    let index_values = front_u64(&mut index_values_room, CELLS, head, call, 7);
+    let index_values = front(&mut index_values_room, CELLS, head, call, 7);
     let mut container_slots_room = [0u16; SLOTS];
-    let container_slots = front_u16(&mut container_slots_room, SLOTS, head, call, 8);
+    let container_slots = front(&mut container_slots_room, SLOTS, head, call, 8);
     let mut container_present_room = [0u8; INSTRUCTIONS];
-    let container_present = front_u8(&mut container_present_room, INSTRUCTIONS, head, call, 9);
+    let container_present = front(&mut container_present_room, INSTRUCTIONS, head, call, 9);
     let mut container_kinds_room = [0u8; CELLS];
-    let container_kinds = front_u8(&mut container_kinds_room, CELLS, head, call, 10);
+    let container_kinds = front(&mut container_kinds_room, CELLS, head, call, 10);
     let mut container_values_room = [0u64; CELLS];
-    let container_values = front_u64(&mut container_values_room, CELLS, head, call, 11);
+    let container_values = front(&mut container_values_room, CELLS, head, call, 11);
     let mut marks_room = [0u8; LOCALS];
-    let marks = front_u8(&mut marks_room, LOCALS, head, call, 12);
+    let marks = front(&mut marks_room, LOCALS, head, call, 12);
     let mut stack_room = [0u16; LOCALS];
-    let stack = front_u16(&mut stack_room, LOCALS, head, call, 13);
+    let stack = front(&mut stack_room, LOCALS, head, call, 13);
     let mut row_kinds_room = [0u8; SLOTS];
-    let row_kinds = front_u8(&mut row_kinds_room, SLOTS, head, call, 14);
+    let row_kinds = front(&mut row_kinds_room, SLOTS, head, call, 14);
     let mut row_values_room = [0u64; SLOTS];
-    let row_values = front_u64(&mut row_values_room, SLOTS, head, call, 15);
+    let row_values = front(&mut row_values_room, SLOTS, head, call, 15);
     let mut work_list_room = [0u16; ENTRIES];
-    let work_list = front_u16(&mut work_list_room, ENTRIES, head, call, 16);
+    let work_list = front(&mut work_list_room, ENTRIES, head, call, 16);
     let answer = analyze(
         sheet,
         budget_of(head),
@@ -87,23 +85,21 @@ pub fn call(head: &[u8; 88], sheet: &[u8], call: usize, checksum: Checksum) -> C
         row_values,
         work_list,
     );
-    let a = with_answer(checksum, answer);
-    let b = with_table(
-        a,
+    let a = checksum.with_answer(answer);
+    let b = a.with_table(
         constant_slots,
         constant_present,
         constant_kinds,
         constant_values,
     );
-    let c = with_table(b, index_slots, index_present, index_kinds, index_values);
-    let d = with_table(
-        c,
+    let c = b.with_table(index_slots, index_present, index_kinds, index_values);
+    let d = c.with_table(
         container_slots,
         container_present,
         container_kinds,
         container_values,
     );
-    let e = with_scratch(d, marks, stack, row_kinds, row_values, work_list);
+    let e = d.with_scratch(marks, stack, row_kinds, row_values, work_list);
     Called {
         answer,
         checksum: e,

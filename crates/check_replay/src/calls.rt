@@ -13,14 +13,9 @@ const MORE: usize = 18;
 pub fn replay(head: &[u8; 88], sheet: &[u8]) -> Called
     ensures { some result ≡ replayed head.now sheet.now 18 }
 {
-    let first = call(head, sheet, 0, Checksum { low: 1, high: 1 });
-    let answer = first.answer;
-    let mut checksum = first.checksum;
-    let mut i = 0;
-    while i < MORE {
-        i += 1;
-        let next = call(head, sheet, i, checksum);
-        checksum = next.checksum;
+    let mut called = call(head, sheet, 0, Checksum::START);
+    for i in 0..MORE {
+        called.checksum = call(head, sheet, i + 1, called.checksum).checksum;
     }
-    Called { answer, checksum }
+    called
 }

@@ -5,38 +5,36 @@
 
 use check_input::read_front;
 use line::put_line;
-use sheet::u32_at;
+use sheet::Number;
+use std::io;
 use std::io::{Read, Write};
 
 mod call;
 mod calls;
 mod line;
 
-// A proved loop has to end, and nothing says that the input does. So its turns are bounded, by a number that no run uses up.
+// A proved loop has to end, and nothing says that the input does. So its turns are bounded, by a number that no run uses up. The first error ends the
+// lines, and is not told: so does the input's end, and the status is 0 either way.
 fn main(rt: HostRuntime) {
     let mut input = rt.stdin();
     let mut output = rt.stdout();
     for _ in 0..u64::MAX {
-        if !replay_next(&mut input, &mut output) {
+        if replay_next(&mut input, &mut output).is_err() {
             return;
         }
     }
 }
 
-// Reads the head of a recorded sheet and the sheet, and writes its line. Answers whether both came and the line was written: nothing follows a gap.
-fn replay_next<R: Read, W: Write>(input: &mut R, output: &mut W) -> bool {
+// Reads the head of a recorded sheet and the sheet, and writes its line. Nothing follows a gap.
+fn replay_next<R: Read, W: Write>(input: &mut R, output: &mut W) -> io::Result<()> {
     let mut head = [0u8; 88];
-    if read_front(input, &mut head, 88) < 88 {
-        return false;
-    }
-    let length = u32_at(&head, 0) as usize;
+    read_front(input, &mut head, 88)?;
+    let length = u32::read(&head, 0) as usize;
     // the longest recorded sheet has 16,442 bytes
     let mut sheet = [0u8; 20480];
-    let count = read_front(input, &mut sheet, length);
-    if count < length {
-        return false;
-    }
+    read_front(input, &mut sheet, length)?;
     let mut text = [0u8; 289];
-    let end = put_line(&head, &sheet[..count], &mut text);
-    output.write_all(&text[..end]).is_ok()
+    let end = put_line(&head, &sheet[..length], &mut text);
+    output.write_all(&text[..end])?;
+    Ok(())
 }

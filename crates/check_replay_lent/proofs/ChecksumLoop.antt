@@ -1,12 +1,11 @@
 -- A checksum over a list, as a loop makes it that puts one element in each turn.
 -- Assumes nothing.
 use mathlib.Core.Path.{◌≡◌, ap, ◌∙◌}
-use mathlib.Core.List.{List}
+use mathlib.Core.List.{List, ◌∷◌}
 use Prim.Native.Nat.{ℕ, ◌+◌, ◌≤◌, ◌<◌}
-use native.Mathlib.Numerals.{add-one}
 use native.Mathlib.Omega.{arith}
-use lib.ListN.{length, get_or, drop}
-use lib.Seq.{drop-cons, drop-length}
+use lib.ListN.{length, drop}
+use lib.Seq.{drop-length}
 use Rattle.check_replay_lent.specs.Checksum.{with_number, with_numbers, with_buffer}
 use Rattle.check_replay_lent.specs.declared.Checksum.{Checksum}
 
@@ -15,12 +14,12 @@ pub record ChecksumSoFar (goal : Checksum) (xs : List ℕ) (sum : Checksum) (i :
   pub within : i ≤ length xs
   pub rest : with_numbers sum (drop i xs) ≡ goal
 
-pub checksum_turn : {goal sum next : Checksum} {xs : List ℕ} {i x : ℕ} → ChecksumSoFar goal xs sum i → i < length xs → x ≡ get_or xs i 0 → next ≡ with_number sum x
-    → ChecksumSoFar goal xs next (i + 1)
+pub checksum_turn : {goal sum next : Checksum} {xs : List ℕ} {i x : ℕ} → ChecksumSoFar goal xs sum i → i < length xs → drop i xs ≡ x ∷ drop (i + 1) xs
+    → next ≡ with_number sum x → ChecksumSoFar goal xs next (i + 1)
 unfolding with_numbers
 checksum_turn {xs} {i} s h p q = record {
   within = omega arith;
-  rest = rw (add-one, q, p) (rw (drop-cons xs i 0 h) at s.rest);
+  rest = rw q (rw p at s.rest);
 }
 
 -- all of a buffer, behind its length

@@ -1,3 +1,2 @@
 -- The laws of the loops that fill a room, and that put a list into a checksum.
-pub mod PatternLoop
 pub mod ChecksumLoop

@@ -2,3 +2,4 @@
 pub mod Lengths
 pub mod Lent
 pub mod Checksum
+pub mod Elements

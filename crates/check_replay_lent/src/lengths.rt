@@ -3,9 +3,10 @@
 ghost use Rattle.std.specs.Prelude.{◌≡◌, ◌+◌, ◌<◌, ◌≤◌, eqb};
 ghost use Rattle.check_replay_lent.specs.Lengths.{changed, lent_length};
 
-use sheet::u32_in;
+use sheet::element;
 
 // Call 0 lends what is needed. Call 1 lends longer buffers. Call 2 + which has that one short by one, or longer by one where nothing is needed.
+#[tactic(auto, unfolding(crate::specs::Lengths::changed))]
 fn changed_length(call: usize, which: usize, count: usize) -> usize
     requires { (which < 17) × (count < 4294967296) }
     ensures { result ≡ changed (eqb call 1) (eqb call (which + 2)) which count }
@@ -23,13 +24,11 @@ fn changed_length(call: usize, which: usize, count: usize) -> usize
 }
 
 // The length of a buffer in a call, at most as long as there is room.
+#[tactic(auto, unfolding(crate::specs::Lengths::lent_length))]
 pub fn lent_length(head: &[u8; 88], call: usize, which: usize, room: usize) -> usize
     requires { which < 17 }
     ensures { (result ≤ room) × (result ≡ lent_length head.now call which room) }
 {
-    let length = changed_length(call, which, u32_in(head, 20, which) as usize);
-    if room < length {
-        return room;
-    }
-    length
+    let needed = element::<u32>(head, 20, which) as usize;
+    changed_length(call, which, needed).min(room)
 }

@@ -2,17 +2,17 @@
 #![tactic(auto)]
 
 mod budget;
-mod buffers;
-mod front;
+mod element;
 mod lengths;
+mod rooms;
 mod sums;
 
 pub use budget::budget_of;
-pub use front::{front_u8, front_u16, front_u64};
-pub use sums::{with_answer, with_scratch, with_table};
+pub use element::Element;
+pub use rooms::front;
 
 // Two polynomials over all numbers so far, modulo two primes.
-#[derive(Clone, Copy)]
+#[derive(Clone, Copy, Debug, PartialEq, Eq)]
 pub struct Checksum {
     pub low: u32,
     pub high: u32,

@@ -4,6 +4,7 @@ use mathlib.Core.Path.{◌≡◌, ap, ◌∙◌}
 use mathlib.Core.List.{List}
 use mathlib.Core.Option.{Option, some}
 use Prim.Native.Nat.{ℕ, ◌≤◌}
+use native.Mathlib.Omega.{arith}
 use lib.ListN.{length, replicate}
 use Rattle.model.specs.Charges.{fresh}
 use Rattle.model.specs.Sheet.{code_count}
@@ -16,8 +17,10 @@ use Rattle.model.specs.declared.AnalysisKind.TheVariants.{Constant, IndexCheck, 
 use Rattle.model.specs.declared.Answer.{Answer}
 use Rattle.model.specs.declared.Answer.TheVariants.{Analyzed}
 use Rattle.sheet_layouts.specs.Classes.{Classes}
-use Rattle.text_lines.specs.Text.{Added, ShowsText}
-use Rattle.text_lines.proofs.TextWritten.{shows}
+use Rattle.std.specs.Borrow.{MutBor}
+use Rattle.text_lines.specs.Page.{Begun, HasRoom}
+use Rattle.text_lines.specs.Text.{ShowsText}
+use Rattle.text_lines.specs.declared.page.Page.{Page}
 use Rattle.text_facts.specs.Text.{fact_text_by}
 use Rattle.text_facts.proofs.FactTexts.{text_by_lem}
 use Rattle.text_listing.specs.Answer.{Listable, TablesListable, choose, text_by}
@@ -33,6 +36,10 @@ pub listing_call : (sheet : List ℕ) {budget : VerifierResources} {x : Option R
     → x ≡ analyzed sheet fresh listing_lent
 unfolding listing_lent listing_table
 listing_call sheet p e = e ∙ ap (λ (b : VerifierResources). analyzed sheet b listing_lent) p
+
+-- all of a buffer is free on a page that is begun
+pub roomy : {most : ℕ} {out : MutBor (List ℕ)} {page : Page} → Begun 0 out page → most ≤ length out.now → HasRoom most page
+roomy {most} b h = rw (b.place, b.bytes) (omega (arith, h))
 
 module _ (sheet : List ℕ) {n : ℕ} (is : n ≡ code_count sheet) (r : Answer) (after : Lent) (ended : some (call_result r after) ≡ analyzed sheet fresh listing_lent) where
   -- the tables that the call left have n rows
@@ -53,12 +60,11 @@ module _ (sheet : List ℕ) {n : ℕ} (is : n ≡ code_count sheet) (r : Answer)
   }
 
   -- the text by classes is the call's
-  pub call_shown : {classes : List ℕ} (c : Classes sheet classes) {m : ℕ} {old new : List ℕ} {next : ℕ}
-      → Added m (text_by (λ which. fact_text_by which classes) n r after.constants after.index after.containers) 0 old next new
+  pub call_shown : {classes : List ℕ} (c : Classes sheet classes) {old new : List ℕ} {next : ℕ}
+      → ShowsText (some (text_by (λ which. fact_text_by which classes) n r after.constants after.index after.containers)) old next new
       → ShowsText (call_lines sheet (call sheet fresh listing_lent)) old next new
   unfolding text_by
-  call_shown c {m} {old} {new} {next} w =
-      let v : Added m (text_by (λ which. fact_text which sheet) (code_count sheet) r after.constants after.index after.containers) 0 old next new =
+  call_shown c {old} {new} {next} w =
+      let v : ShowsText (some (text_by (λ which. fact_text which sheet) (code_count sheet) r after.constants after.index after.containers)) old next new =
       rw (← text_by_lem c Constant, ← text_by_lem c IndexCheck, ← text_by_lem c Container, ← is) w in
-      let s = shows v in
-      record { within = s.within; front = answer_listed sheet fresh listing_lent r after ended ∙ s.front; rest = s.rest }
+      record { within = v.within; front = answer_listed sheet fresh listing_lent r after ended ∙ v.front; rest = v.rest }

@@ -12,8 +12,10 @@ ghost use Rattle.sheet_layouts.specs.Classes.{Classes};
 ghost use Rattle.text_lines.specs.Text.{ShowsText};
 
 use call_indexed::analyze_indexed;
+use lookup::Tables;
 use model::VerifierResources;
 use sheet::Sizes;
+use text_lines::Page;
 use text_listing::call_lines;
 
 // "for s over 32 in question 8's [place]": what is lent has room for 32 tracked slots. The sheet is accepted and its index found, and n and L are in
@@ -74,22 +76,33 @@ pub fn list_facts(
         &mut row_values,
         &mut work_list,
     );
+    let constants = Tables {
+        slots: &constant_slots,
+        present: &constant_present,
+        kinds: &constant_kinds,
+        values: &constant_values,
+    };
+    let index = Tables {
+        slots: &index_slots,
+        present: &index_present,
+        kinds: &index_kinds,
+        values: &index_values,
+    };
+    let containers = Tables {
+        slots: &container_slots,
+        present: &container_present,
+        kinds: &container_kinds,
+        values: &container_values,
+    };
+    let mut page = Page::new(out);
     call_lines(
         answer,
         classes,
         sizes.code_count,
-        &constant_slots,
-        &constant_present,
-        &constant_kinds,
-        &constant_values,
-        &index_slots,
-        &index_present,
-        &index_kinds,
-        &index_values,
-        &container_slots,
-        &container_present,
-        &container_kinds,
-        &container_values,
-        out,
-    )
+        &constants,
+        &index,
+        &containers,
+        &mut page,
+    );
+    page.finished()
 }

@@ -8,13 +8,14 @@ use Prim.Native.Nat.{ℕ}
 use native.Mathlib.Omega.{arith}
 use lib.Dec.{leb}
 use lib.ListN.{length}
-use Rattle.model.specs.Sheet.{code_count, local_slots, sheet_refusal}
+use Rattle.model.specs.Sheet.{code_count, local_slots, question_number, sheet_refusal}
+use Rattle.std.proofs.Common.{Err}
+use Rattle.model.specs.declared.Question.{Question}
 use Rattle.model.specs.Charges.{fresh}
 use Rattle.model.specs.Call.{call}
 use Rattle.model.specs.Listing.{too_large, refused_line, call_lines, listing_lent, sized, asked, fits, listing}
 use Rattle.sheet.specs.Sizes.{sizes_of}
 use Rattle.sheet_questions.specs.Check.{check_of, sheet_check}
-use Rattle.sheet_questions.specs.declared.Admission.TheVariants.{Refused}
 use Rattle.text_lines.specs.Text.{ShowsText}
 
 -- the same text under another name
@@ -30,9 +31,9 @@ module _ (sheet : List ℕ) where
   unfolding listing fits
   listing_asked e = ap (λ (b : Bool). fits b sheet) e
 
-  pub asked_refused : (number : ℕ) → sheet_refusal sheet ≡ some number → asked (sheet_refusal sheet) sheet ≡ some (refused_line number)
+  pub asked_refused : (question : Question) → sheet_refusal sheet ≡ some question → asked (sheet_refusal sheet) sheet ≡ some (refused_line (question_number question))
   unfolding asked
-  asked_refused number e = ap (λ (o : Option ℕ). asked o sheet) e
+  asked_refused question e = ap (λ (o : Option Question). asked o sheet) e
 
   pub many_instructions : leb (code_count sheet) 256 ≡ false → asked none sheet ≡ some too_large
   unfolding asked sized
@@ -47,10 +48,10 @@ module _ (sheet : List ℕ) where
   asked_call e k = ap₂ (λ (b c : Bool). sized (b && c) sheet) e k
 
   -- what a check refuses with is the first question that does
-  pub check_refused : (number : ℕ) → Refused number ≡ sheet_check sheet → sheet_refusal sheet ≡ some number
+  pub check_refused : (question : Question) → Err question ≡ sheet_check sheet → sheet_refusal sheet ≡ some question
   unfolding sheet_check check_of
-  check_refused number e = go (sheet_refusal sheet) e
+  check_refused question e = go (sheet_refusal sheet) e
     where
-      go : (o : Option ℕ) → Refused number ≡ check_of (sizes_of sheet) o → o ≡ some number
+      go : (o : Option Question) → Err question ≡ check_of (sizes_of sheet) o → o ≡ some question
       go none k = let z : ◌≡◌ {A = ℕ} 0 1 = cc in absurd (omega arith)
       go (some other) k = cc

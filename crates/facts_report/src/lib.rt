@@ -3,15 +3,17 @@
 
 ghost use Rattle.std.specs.Prelude.{◌≡◌, ◌≤◌, length, take, drop};
 ghost use Rattle.std.proofs.Math.Option.{none, some};
-ghost use Rattle.model.specs.Listing.{asked, listing};
+ghost use Rattle.model.specs.Listing.{asked, listing, refused_line, too_large};
+ghost use Rattle.model.specs.Sheet.{question_number};
 ghost use Rattle.sheet.specs.Measured.{Accepted};
 ghost use Rattle.text_lines.specs.Text.{ShowsText};
 
 use facts_call::list_facts;
+use model::Question;
 use sheet::Sizes;
 use sheet_index::index_sheet;
-use sheet_questions::{Admission, check_sheet};
-use text_lines::{refused_line, too_large};
+use sheet_questions::check_sheet;
+use text_lines::Page;
 
 // "a sheet over 65,536 bytes"
 const MOST_BYTES: usize = 65536;
@@ -22,6 +24,26 @@ const MOST_INSTRUCTIONS: usize = 256;
 // "L over 4,096"
 const MOST_LOCALS: usize = 4096;
 
+// "`too large` alone"
+fn too_large(out: &mut [u8]) -> usize
+    requires { 10 ≤ length out.old }
+    ensures { ShowsText (some too_large) out.old result out.new }
+{
+    let mut page = Page::new(out);
+    page.too_large();
+    page.finished()
+}
+
+// "Refusals print only `refused` and the number."
+fn refused(question: Question, out: &mut [u8]) -> usize
+    requires { 29 ≤ length out.old }
+    ensures { ShowsText (some (refused_line (question_number question))) out.old result out.new }
+{
+    let mut page = Page::new(out);
+    page.refused_line(question.number());
+    page.finished()
+}
+
 // Writes the listing of a sheet to the front of out, and answers its length: the first r bytes of out are the text that the definitions give for the
 // sheet (`listing`), for every outcome of the call, and the rest of out stays as it was. Three analyses have at most 729,161 bytes each, and the last
 // line 47. "`too large` alone is printed for a sheet over 65,536 bytes before question 1"
@@ -29,11 +51,11 @@ pub fn list(sheet: &[u8], out: &mut [u8; 2187530]) -> usize
     ensures { (result ≤ length out.new) × (listing sheet.now ≡ some (take result out.new)) × (drop result out.new ≡ drop result out.old) }
 {
     if MOST_BYTES < sheet.len() {
-        return too_large(0, out);
+        return too_large(out);
     }
     match check_sheet(sheet) {
-        Admission::Refused { number } => refused_line(number, 0, out),
-        Admission::Admitted { sizes } => list_accepted(sheet, sizes, out),
+        Ok(sizes) => list_accepted(sheet, sizes, out),
+        Err(question) => refused(question, out),
     }
 }
 
@@ -43,10 +65,10 @@ fn list_accepted(sheet: &[u8], sizes: Sizes, out: &mut [u8]) -> usize
     ensures { ShowsText (asked none sheet.now) out.old result out.new }
 {
     if MOST_INSTRUCTIONS < sizes.code_count {
-        return too_large(0, out);
+        return too_large(out);
     }
     if MOST_LOCALS < sizes.local_slots {
-        return too_large(0, out);
+        return too_large(out);
     }
     let mut firsts = [0u16; 256];
     let mut classes = [0u16; 1025];

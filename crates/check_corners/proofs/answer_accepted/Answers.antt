@@ -12,7 +12,7 @@ first_ranges-requires g c =
     let p = c.requires in
     (p, omega (arith, (limited (measured p)).code_count_is, c.no_ranges-firsts.ensures))
 
-pub answer_questions-requires : goal.answer_questions-requires
-answer_questions-requires g c =
+pub answer_next-requires : goal.answer_next-requires
+answer_next-requires g c =
     let p = c.requires in
     (p, first_ranges_hold _ _ c.first_ranges.ensures (omega (arith, (counted p.are).code_count_is, (limited (measured p)).code_count_is, c.no_ranges-firsts.ensures)))

@@ -1,11 +1,9 @@
--- `check_input::read_to` meets its contract. Assumes nothing.
-use Rattle.check_input.proofs.BufferReads.{failed_none, taken_long, piece_written}
+-- `check_input::read_to` meets its contract: behind a part that is written the buffer is as it was. Assumes nothing.
+use Rattle.std.proofs.Common.{arith, ◌≤◌, ◌+◌, length}
+use Rattle.std.proofs.lemmas.Slice.{drop-put_mid}
 use Rattle.check_input.proofs.read_to.Goals as goal
 
-pub returns : goal.returns
-returns g c =
-    let a = c.args in
-    let r = c.input_from-input in
-    let long = taken_long c.read.new.buf a.chunk.now c.least-n.result r.result.count r.ensures.1 c.least-n.ensures.1 c.read.auto.buf in
-    let w = piece_written _ a.buffer.now _ a.to r.result.count _ _ c.requires long c.put.ensures in
-    (w.0, w.1, w.2, failed_none _ _ r.result r.ensures.0)
+pub returns-clause-came : goal.returns-clause-came
+returns-clause-came g c =
+    let fits : c.args.to + c.in_ok-count.count ≤ length c.args.buffer.now = omega (arith, c.min-most.ensures, c.in_ok-count.ensures.room, c.requires) in
+    (fits, drop-put_mid _ _ _ _ _ (omega arith) c.requires (omega (arith, c.copy_from_slice.ensures.len, c.copy_from_slice.auto.self)))

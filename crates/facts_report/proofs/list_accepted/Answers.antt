@@ -5,7 +5,6 @@ use native.Mathlib.Omega.{arith}
 use borrow.Author.Tests.{le-leb, lt-leb}
 use Rattle.sheet.proofs.SizeNames.{counted}
 use Rattle.sheet_index.proofs.IndexFound.{few_layouts, firsts_found, classes_found}
-use Rattle.text_lines.proofs.TextWritten.{shows}
 use Rattle.facts_report.proofs.ListingQuestions.{shown_as, many_instructions, many_locals, asked_call}
 use Rattle.facts_report.proofs.list_accepted.Goals as goal
 
@@ -13,13 +12,13 @@ pub returns-then-sizes-gt-MOST_INSTRUCTIONS : goal.returns-then-sizes-gt-MOST_IN
 returns-then-sizes-gt-MOST_INSTRUCTIONS c =
     let sheet = c.args.sheet.now in
     let t = counted c.requires.0.are in
-    shown_as (many_instructions sheet (lt-leb (code_count sheet) 256 (omega (arith, t.code_count_is)))) (shows c.too_large.ensures)
+    shown_as (many_instructions sheet (lt-leb (code_count sheet) 256 (omega (arith, t.code_count_is)))) c.too_large.ensures
 
 pub returns-then-sizes-gt-MOST_LOCALS : goal.returns-then-sizes-gt-MOST_LOCALS
 returns-then-sizes-gt-MOST_LOCALS c =
     let sheet = c.args.sheet.now in
     let t = counted c.requires.0.are in
-    shown_as (many_locals sheet (le-leb (code_count sheet) 256 (omega (arith, t.code_count_is))) (lt-leb (local_slots sheet) 4096 (omega (arith, t.local_slots_is)))) (shows c.too_large-then-sizes-gt-MOST_LOCALS.ensures)
+    shown_as (many_locals sheet (le-leb (code_count sheet) 256 (omega (arith, t.code_count_is))) (lt-leb (local_slots sheet) 4096 (omega (arith, t.local_slots_is)))) c.too_large-then-sizes-gt-MOST_LOCALS.ensures
 
 pub index_sheet-requires : goal.index_sheet-requires
 index_sheet-requires c = let p = c.requires.0 in (p, (let came : c.args.sizes.code_count ≤ 256 = c.if-sizes-gt-MOST_INSTRUCTIONS.false in came), few_layouts p)

@@ -9,10 +9,8 @@ use Rattle.check_corner_text.proofs.lines.put_yes_or_no.Goals as goal
 
 pub returns-then-answer : goal.returns-then-answer
 unfolding ascii yes_or_no
-returns-then-answer c =
-    rw c.if-answer.true c.put.ensures
+returns-then-answer c = rw c.if-answer.true c.put.ensures
 
-pub returns : goal.returns
+pub returns-else-answer : goal.returns-else-answer
 unfolding ascii yes_or_no
-returns c =
-    rw c.if-answer.false (reword (omega arith) refl c.put-2.ensures)
+returns-else-answer c = rw c.if-answer.false (reword (omega arith) refl c.put-else-answer.ensures)

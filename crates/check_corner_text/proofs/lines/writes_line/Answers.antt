@@ -7,5 +7,4 @@ use Rattle.check_corner_text.proofs.lines.writes_line.Goals as goal
 
 pub returns : goal.returns
 unfolding ascii writes_line
-returns c =
-    then c.put_numbered-a.ensures c.put_yes_or_no.ensures
+returns c = then c.put_numbered.ensures c.put_yes_or_no.ensures

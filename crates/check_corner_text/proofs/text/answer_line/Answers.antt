@@ -1,5 +1,6 @@
 -- `check_corner_text::answer_line` meets its contract: by what is asked. An accepted sheet has each instruction below n.
 -- Assumes nothing.
+use Rattle.std.proofs.Common.{Ok, ap, ◌∙◌}
 use Rattle.sheet.proofs.AcceptedSheet.{measured}
 use Rattle.sheet.proofs.SizeNames.{counted}
 use Rattle.sheet.proofs.FieldBounds.{code_inside}
@@ -13,19 +14,18 @@ instruction_at-inst-requires c = let p = c.requires in code_inside (measured p.0
 pub instruction_successors-successors-requires : goal.instruction_successors-successors-requires
 instruction_successors-successors-requires c = let p = c.requires in ((limited (measured p.0)).code_count_is, p.2)
 
-pub returns-then-question-eq-SUCCESSORS : goal.returns-then-question-eq-SUCCESSORS
-returns-then-question-eq-SUCCESSORS c =
-    successors_answered c.args.sheet.now c.args.question _ _ c.if-question-eq-SUCCESSORS.true (counted c.requires.0.are).code_count_is c.instruction_at-inst.ensures
+pub returns-in-Successors : goal.returns-in-Successors
+returns-in-Successors c =
+    successors_answered c.args.sheet.now c.args.question _ _ (c.in-Ok.is ∙ ap Ok c.in-Successors.is) (counted c.requires.0.are).code_count_is c.instruction_at-inst.ensures
     c.instruction_successors-successors.ensures c.successors_line.ensures
 
-pub returns-then-question-eq-WRITES : goal.returns-then-question-eq-WRITES
-returns-then-question-eq-WRITES c =
-    writes_answered c.args.sheet.now c.args.question c.if-question-eq-WRITES.true c.instruction_writes_slot-is_written.ensures c.writes_line.ensures
+pub returns-in-Writes : goal.returns-in-Writes
+returns-in-Writes c =
+    writes_answered c.args.sheet.now c.args.question (c.in-Ok.is ∙ ap Ok c.in-Writes.is) c.instruction_writes_slot-is_written.ensures c.writes_line.ensures
 
-pub returns-then-question-eq-INDEX_WRITES : goal.returns-then-question-eq-INDEX_WRITES
-returns-then-question-eq-INDEX_WRITES c =
-    index_answered c.args.sheet.now c.args.question c.if-question-eq-INDEX_WRITES.true c.index_check_instruction_writes_slot-is_written.ensures c.index_writes_line.ensures
+pub returns-in-IndexWrites : goal.returns-in-IndexWrites
+returns-in-IndexWrites c =
+    index_answered c.args.sheet.now c.args.question (c.in-Ok.is ∙ ap Ok c.in-IndexWrites.is) c.index_check_instruction_writes_slot-is_written.ensures c.index_writes_line.ensures
 
-pub returns : goal.returns
-returns c =
-    not_answered c.args.sheet.now c.args.out.now c.args.question c.if-question-eq-SUCCESSORS.false c.if-question-eq-WRITES.false c.if-question-eq-INDEX_WRITES.false
+pub returns-in-Err : goal.returns-in-Err
+returns-in-Err c = not_answered c.args.sheet.now c.args.question c.args.page.now c.in-Err.is

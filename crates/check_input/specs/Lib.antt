@@ -1,2 +1,0 @@
--- What an answer of `read` means.
-pub mod Answered
