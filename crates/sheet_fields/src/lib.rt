@@ -2,14 +2,18 @@
 // function that takes the field would be no plainer.
 #![tactic(auto)]
 
+ghost use Rattle.sheet.specs.Measured.{Measured};
+
 mod instructions;
 mod pools;
 
-pub use instructions::{
-    instruction_at, note_a_at, note_b_at, note_kind_at, range_length_at, range_start_at, ranges_of,
-    write_count_at,
-};
-pub use pools::{
-    constant_bits_at, constant_kind_at, layout_length_at, param_a_at, param_b_at, param_kind_at,
-    param_width_at, slot_kind_at, slot_kinds,
-};
+pub use instructions::instruction_at;
+use sheet::Sizes;
+
+// A sheet that questions 1 to 3 leave, so that each field can be read, and its sizes.
+#[derive(Clone, Copy)]
+pub struct Sheet<'a> {
+    pub bytes: &'a [u8],
+    pub sizes: Sizes,
+    pub ghost measured: { Measured bytes.now sizes },
+}

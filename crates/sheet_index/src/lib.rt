@@ -9,17 +9,18 @@ ghost use Rattle.sheet_index.specs.Tables.{first_ranges};
 mod offsets;
 
 pub use offsets::{first_ranges, layout_starts};
-use sheet::Sizes;
+use sheet_fields::Sheet;
 use sheet_layouts::layout_classes;
 
 // The number of the first range of each instruction, and the class of each layout.
-pub fn index_sheet(sheet: &[u8], sizes: Sizes, firsts: &mut [u16], classes: &mut [u16])
-    requires { Accepted sheet.now sizes × (sizes.code_count ≤ length firsts.old) × (sizes.layout_count < length classes.old) }
-    ensures { (firsts.new ≡ first_ranges sheet.now firsts.old)
-        × (classes.new ≡ layout_classes sheet.now classes.old) }
+pub fn index_sheet(sheet: &Sheet, firsts: &mut [u16], classes: &mut [u16])
+    requires { Accepted sheet.now.bytes.now sheet.now.sizes × (sheet.now.sizes.code_count ≤ length firsts.old)
+        × (sheet.now.sizes.layout_count < length classes.old) }
+    ensures { (firsts.new ≡ first_ranges sheet.now.bytes.now firsts.old)
+        × (classes.new ≡ layout_classes sheet.now.bytes.now classes.old) }
 {
-    first_ranges(sheet, sizes, firsts);
+    first_ranges(sheet, firsts);
     let mut starts = [0u16; 1024];
-    layout_starts(sheet, sizes, &mut starts);
-    layout_classes(sheet, sizes, &starts, classes);
+    layout_starts(sheet, &mut starts);
+    layout_classes(sheet, &starts, classes);
 }

@@ -5,8 +5,7 @@ ghost use Rattle.model.specs.Count.{sum};
 ghost use Rattle.sheet.specs.Measured.{Accepted};
 ghost use Rattle.sheet_index.specs.Tables.{first_ranges, layout_starts};
 
-use sheet::Sizes;
-use sheet_fields::{layout_length_at, ranges_of};
+use sheet_fields::Sheet;
 
 // For each number below count, the sum of what part gives of those before it.
 fn sums_before<F: Fn(usize) -> u16>(count: usize, part: F, out: &mut [u16])
@@ -23,21 +22,17 @@ fn sums_before<F: Fn(usize) -> u16>(count: usize, part: F, out: &mut [u16])
 }
 
 // The number of the first range of each instruction.
-pub fn first_ranges(sheet: &[u8], sizes: Sizes, out: &mut [u16])
-    requires { Accepted sheet.now sizes × (sizes.code_count ≤ length out.old) }
-    ensures { out.new ≡ first_ranges sheet.now out.old }
+pub fn first_ranges(sheet: &Sheet, out: &mut [u16])
+    requires { Accepted sheet.now.bytes.now sheet.now.sizes × (sheet.now.sizes.code_count ≤ length out.old) }
+    ensures { out.new ≡ first_ranges sheet.now.bytes.now out.old }
 {
-    sums_before(sizes.code_count, |pc| ranges_of(sheet, sizes, pc), out);
+    sums_before(sheet.sizes.code_count, |pc| sheet.ranges_of(pc), out);
 }
 
 // Where the slot kinds of each layout begin among the q.
-pub fn layout_starts(sheet: &[u8], sizes: Sizes, out: &mut [u16])
-    requires { Accepted sheet.now sizes × (sizes.layout_count ≤ length out.old) }
-    ensures { out.new ≡ layout_starts sheet.now out.old }
+pub fn layout_starts(sheet: &Sheet, out: &mut [u16])
+    requires { Accepted sheet.now.bytes.now sheet.now.sizes × (sheet.now.sizes.layout_count ≤ length out.old) }
+    ensures { out.new ≡ layout_starts sheet.now.bytes.now out.old }
 {
-    sums_before(
-        sizes.layout_count,
-        |i| layout_length_at(sheet, sizes, i),
-        out,
-    );
+    sums_before(sheet.sizes.layout_count, |i| sheet.layout_length(i), out);
 }

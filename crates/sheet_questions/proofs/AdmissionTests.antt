@@ -15,7 +15,8 @@ use Rattle.model.specs.Call.{Lent, closure_room, after_six, after_five, call, an
 use Rattle.model.specs.declared.VerifierResources.{VerifierResources}
 use Rattle.model.specs.declared.Answer.TheVariants.{Invalid}
 use Rattle.model.proofs.Tests.{both}
-use Rattle.sheet_questions.specs.Check.{sheet_check}
+use Rattle.sheet_fields.specs.declared.Sheet.{Sheet}
+use Rattle.sheet_questions.specs.Check.{sheet_check, sized}
 use Rattle.sheet_questions.proofs.FirstRefusal.{accepted, refused}
 use Rattle.sheet.proofs.SizeNames.{counted}
 use Rattle.sheet.specs.Measured.{Accepted}
@@ -83,6 +84,12 @@ module _ (sheet : List ℕ) (marks stack : ℕ) {given : Result Sizes Question} 
       go : (q : Result Sizes Question) → sheet_check sheet ≡ q → Err question ≡ asked_last q marks stack → (sheet_refusal sheet ≡ some question) ⊎ ((sheet_refusal sheet ≡ none) × (roomy ≡ false) × (question ≡ ClosureRoom))
       go (Ok s) h p = unfold asked_last in (let x = six _ s p in let a = accepted sheet (sym h) in inr (a.accepted, same_room a x.0, x.1))
       go (Err n) h p = unfold asked_last in (let q : question ≡ n = cc in inl (refused sheet (sym h) ∙ ap some (sym q)))
+
+-- what it says of the sheet that is given, made of the bytes
+pub admitted_sheet : (bytes : List ℕ) (marks stack : ℕ) (sheet : Sheet) → sized (Ok sheet) ≡ admission bytes marks stack → sheet.bytes.now ≡ bytes
+    → Accepted sheet.bytes.now sheet.sizes × (local_slots sheet.bytes.now ≤ marks) × (local_slots sheet.bytes.now ≤ stack)
+unfolding sized
+admitted_sheet bytes marks stack sheet e is = rw is (admitted_lengths bytes marks stack e refl)
 
 -- ---- what it says of the call
 

@@ -14,7 +14,8 @@ use Rattle.sheet.specs.Sizes.{sizes_of}
 use Rattle.sheet.specs.Measured.{Measured, Accepted}
 use Rattle.sheet.specs.declared.Sizes.{Sizes}
 use Rattle.sheet.proofs.SheetLength.{laid}
-use Rattle.sheet_questions.specs.Check.{check_of, sheet_check}
+use Rattle.sheet_fields.specs.declared.Sheet.{Sheet}
+use Rattle.sheet_questions.specs.Check.{check_of, sheet_check, sized}
 use Rattle.model.specs.declared.Question.{Question}
 use Rattle.model.specs.declared.Question.TheVariants.{Head, Limits, Length, Sums, Kinds}
 
@@ -26,6 +27,11 @@ accepted sheet {sizes} e = go (sheet_refusal sheet) refl e
     go : (o : Option Question) → sheet_refusal sheet ≡ o → Ok sizes ≡ check_of (sizes_of sheet) o → Accepted sheet sizes
     go none p q = record { are = cc; accepted = p }
     go (some question) p q = absurd (cc)
+
+-- the same, of the sheet that it gives of the bytes
+pub accepted_sheet : (bytes : List ℕ) (sheet : Sheet) → sized (Ok sheet) ≡ sheet_check bytes → sheet.bytes.now ≡ bytes → Accepted sheet.bytes.now sheet.sizes
+unfolding sized
+accepted_sheet bytes sheet e is = rw is (accepted bytes e)
 
 pub refused : (sheet : List ℕ) {question : Question} → Err question ≡ sheet_check sheet → sheet_refusal sheet ≡ some question
 unfolding sheet_check check_of

@@ -8,12 +8,12 @@ use sheet::{Places, Sizes, size_at};
 const LIMITS: [usize; 10] = [4096, 16384, 4096, 256, 1024, 16384, 65535, 65535, 65535, 1];
 
 // "Is every size within its limit?"
-pub fn within_limits(sheet: &[u8]) -> bool
-    requires { 40 ≤ length sheet.now }
-    ensures { result ≡ within_limits sheet.now 0 limits }
+pub fn within_limits(bytes: &[u8]) -> bool
+    requires { 40 ≤ length bytes.now }
+    ensures { result ≡ within_limits bytes.now 0 limits }
 {
     for j in 0..10 {
-        if LIMITS[j] < size_at(sheet, j) {
+        if LIMITS[j] < size_at(bytes, j) {
             return false;
         }
     }
@@ -21,15 +21,15 @@ pub fn within_limits(sheet: &[u8]) -> bool
 }
 
 // Where the arrays begin. Sizes are below 2^32 here, so that no sum wraps whatever they are.
-fn places_of(sheet: &[u8]) -> Places
-    requires { 40 ≤ length sheet.now }
-    ensures { result ≡ places_of sheet.now }
+fn places_of(bytes: &[u8]) -> Places
+    requires { 40 ≤ length bytes.now }
+    ensures { result ≡ places_of bytes.now }
 {
-    let n = size_at(sheet, 0);
-    let w = size_at(sheet, 1);
-    let k = size_at(sheet, 2);
-    let p = size_at(sheet, 3);
-    let y = size_at(sheet, 4);
+    let n = size_at(bytes, 0);
+    let w = size_at(bytes, 1);
+    let k = size_at(bytes, 2);
+    let p = size_at(bytes, 3);
+    let y = size_at(bytes, 4);
     let ranges = 40 + 15 * n;
     let constants = ranges + 6 * w;
     let params = constants + 9 * k;
@@ -53,22 +53,22 @@ fn places_of(sheet: &[u8]) -> Places
 }
 
 // The sizes, and where the arrays begin.
-pub fn sizes_of(sheet: &[u8]) -> Sizes
-    requires { 40 ≤ length sheet.now }
-    ensures { result ≡ sizes_of sheet.now }
+pub fn sizes_of(bytes: &[u8]) -> Sizes
+    requires { 40 ≤ length bytes.now }
+    ensures { result ≡ sizes_of bytes.now }
 {
-    let places = places_of(sheet);
+    let places = places_of(bytes);
     Sizes {
-        code_count: size_at(sheet, 0),
-        range_count: size_at(sheet, 1),
-        constant_count: size_at(sheet, 2),
-        param_count: size_at(sheet, 3),
-        layout_count: size_at(sheet, 4),
-        slot_kind_count: size_at(sheet, 5),
-        local_slots: size_at(sheet, 6),
-        param_slots: size_at(sheet, 7),
-        recv_slots: size_at(sheet, 8),
-        is_closure: size_at(sheet, 9),
+        code_count: size_at(bytes, 0),
+        range_count: size_at(bytes, 1),
+        constant_count: size_at(bytes, 2),
+        param_count: size_at(bytes, 3),
+        layout_count: size_at(bytes, 4),
+        slot_kind_count: size_at(bytes, 5),
+        local_slots: size_at(bytes, 6),
+        param_slots: size_at(bytes, 7),
+        recv_slots: size_at(bytes, 8),
+        is_closure: size_at(bytes, 9),
         places,
     }
 }

@@ -2,10 +2,8 @@
 ghost use Rattle.std.specs.Prelude.{◌≡◌, ◌≤◌, ◌<◌, ℕ};
 ghost use Rattle.model.specs.Count.{sum};
 ghost use Rattle.model.specs.Sheet.{sums_match};
-ghost use Rattle.sheet.specs.Measured.{Measured};
 
-use sheet::Sizes;
-use sheet_fields::{layout_length_at, ranges_of};
+use sheet_fields::Sheet;
 
 // The sum of what part gives of each number below count. The bound keeps it far from wrapping.
 fn total<F: Fn(usize) -> u16>(count: usize, part: F) -> usize
@@ -21,14 +19,13 @@ fn total<F: Fn(usize) -> u16>(count: usize, part: F) -> usize
 }
 
 // "Do the write counts other than 65,535 sum to w, the layout lengths to q?"
-pub fn sums_match(sheet: &[u8], sizes: Sizes) -> bool
-    requires { Measured sheet.now sizes }
-    ensures { result ≡ sums_match sheet.now }
+pub fn sums_match(sheet: &Sheet) -> bool
+    ensures { result ≡ sums_match sheet.now.bytes.now }
 {
-    let ranges = total(sizes.code_count, |pc| ranges_of(sheet, sizes, pc));
-    if ranges != sizes.range_count {
+    let ranges = total(sheet.sizes.code_count, |pc| sheet.ranges_of(pc));
+    if ranges != sheet.sizes.range_count {
         return false;
     }
-    let slot_kinds = total(sizes.layout_count, |i| layout_length_at(sheet, sizes, i));
-    slot_kinds == sizes.slot_kind_count
+    let slot_kinds = total(sheet.sizes.layout_count, |i| sheet.layout_length(i));
+    slot_kinds == sheet.sizes.slot_kind_count
 }

@@ -9,11 +9,8 @@ use Rattle.sheet.proofs.AcceptedSheet.{measured, layout_fits}
 use Rattle.sheet_layouts.proofs.LowestSearch.{empty_past}
 use Rattle.sheet_layouts.proofs.content.Goals as goal
 
-pub returns-then-sizes-i : goal.returns-then-sizes-i
-returns-then-sizes-i c = let n = counted c.requires.accepted.are in sym (empty_past c.args.sheet.now c.args.i (omega arith))
-
-pub layout_length_at-count-requires : goal.layout_length_at-count-requires
-layout_length_at-count-requires c = measured c.requires.accepted
+pub returns-then-sheet-i : goal.returns-then-sheet-i
+returns-then-sheet-i c = let n = counted c.requires.accepted.are in sym (empty_past c.args.sheet.now.bytes.now c.args.i (omega arith))
 
 pub offset_bounds-starts-i : goal.offset_bounds-starts-i
 offset_bounds-starts-i c = omega (arith, (limited (measured c.requires.accepted)).layout_count_is)
@@ -25,12 +22,12 @@ pub slot_kinds-requires : goal.slot_kinds-requires
 slot_kinds-requires c =
     let a = c.requires.accepted in
     let n = counted a.are in
-    let at : c.args.i < layout_count c.args.sheet.now = omega arith in
-    (measured a, omega (arith, layout_fits a c.args.i c.if-sizes-i.false, c.requires.begins.at c.args.i at))
+    let at : c.args.i < layout_count c.args.sheet.now.bytes.now = omega arith in
+    omega (arith, layout_fits a c.args.i c.if-sheet-i.false, c.requires.begins.at c.args.i at)
 
 pub returns : goal.returns
 unfolding layout
 returns c =
     let n = counted c.requires.accepted.are in
-    let at : c.args.i < layout_count c.args.sheet.now = omega arith in
-    rw (c.slot_kinds.ensures, c.requires.begins.at c.args.i at, c.layout_length_at-count.ensures)
+    let at : c.args.i < layout_count c.args.sheet.now.bytes.now = omega arith in
+    rw (c.slot_kinds.ensures, c.requires.begins.at c.args.i at, c.layout_length-count.ensures)

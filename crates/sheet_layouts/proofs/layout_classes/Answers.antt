@@ -24,5 +24,5 @@ loop-i-preserved c =
 pub returns : goal.returns
 returns c =
     let q = c.loop-i.invariant in
-    all_classes c.args.sheet.now c.args.classes.now (counted c.requires.0.accepted.are).layout_count_is
+    all_classes c.args.sheet.now.bytes.now c.args.classes.now (counted c.requires.0.accepted.are).layout_count_is
     c.lowest.ensures (c.fill.ensures.after (λ y s. search rules)) q.1 (omega arith)

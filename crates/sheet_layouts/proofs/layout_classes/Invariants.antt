@@ -7,4 +7,4 @@ use Rattle.memory.proofs.StoreLoops.{Turned}
 use Rattle.sheet_layouts.proofs.layout_classes.Given as goal
 
 abbrev pub invariant-loop-i : goal.invariant-loop-i
-invariant-loop-i l = (l.y < length l.initial.classes) × Turned (lowest l.sheet) l.initial.classes l.classes l.i
+invariant-loop-i l = (l.y < length l.initial.classes) × Turned (lowest l.sheet.bytes.now) l.initial.classes l.classes l.i

@@ -3,7 +3,7 @@ use Rattle.sheet_layouts.proofs.LowestSearch.{None, Alike}
 use Rattle.sheet_layouts.proofs.lowest.Given as goal
 
 abbrev pub invariant-outer : goal.invariant-outer
-invariant-outer l = None l.sheet l.n l.j
+invariant-outer l = None l.sheet.bytes.now l.n l.j
 
 abbrev pub invariant-loop-k : goal.invariant-loop-k
-invariant-loop-k l = None l.sheet l.n l.j × Alike l.own l.other l.k
+invariant-loop-k l = None l.sheet.bytes.now l.n l.j × Alike l.own l.other l.k

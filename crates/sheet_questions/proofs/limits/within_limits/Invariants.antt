@@ -5,4 +5,4 @@ use Rattle.model.specs.Sheet.{limits, within_limits}
 use Rattle.sheet_questions.proofs.limits.within_limits.Given as goal
 
 abbrev pub invariant-loop-j : goal.invariant-loop-j
-invariant-loop-j l = within_limits l.sheet 0 limits ≡ within_limits l.sheet l.j (drop l.j limits)
+invariant-loop-j l = within_limits l.bytes 0 limits ≡ within_limits l.bytes l.j (drop l.j limits)

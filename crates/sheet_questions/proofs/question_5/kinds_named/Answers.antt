@@ -7,8 +7,8 @@ use Rattle.sheet_questions.proofs.question_5.kinds_named.Goals as goal
 pub returns : goal.returns
 unfolding kinds_named
 returns c =
-    let sheet = c.args.sheet.now in
-    let n = counted c.requires.are in
+    let sheet = c.args.sheet.now.bytes.now in
+    let n = counted c.args.sheet.now.measured.are in
     rw (
       c.all_named-notes.ensures (note_named sheet) (λ i b below said. search rules),
       c.all_named-constants.ensures (constant_named sheet) (λ i b below said. search rules),

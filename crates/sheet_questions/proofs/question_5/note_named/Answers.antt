@@ -5,4 +5,4 @@ use Rattle.sheet_questions.proofs.question_5.note_named.Goals as goal
 
 pub returns : goal.returns
 unfolding note_named
-returns c = let n = counted c.requires.0.are in rw (c.layouts_used.ensures, n.layout_count_is, c.note_kind_at-kind.ensures, c.note_a_at-a.ensures, c.note_b_at-b.ensures)
+returns c = let n = counted c.args.sheet.now.measured.are in rw (c.layouts_used.ensures, n.layout_count_is, c.note_kind-kind.ensures, c.note_a-a.ensures, c.note_b-b.ensures)

@@ -5,4 +5,4 @@ use Rattle.sheet_questions.proofs.question_5.param_named.Goals as goal
 
 pub returns : goal.returns
 unfolding param_named
-returns c = let n = counted c.requires.0.are in rw (c.layouts_used.ensures, n.layout_count_is, c.param_kind_at-kind.ensures, c.param_a_at-a.ensures, c.param_b_at-b.ensures)
+returns c = let n = counted c.args.sheet.now.measured.are in rw (c.layouts_used.ensures, n.layout_count_is, c.param_kind-kind.ensures, c.param_a-a.ensures, c.param_b-b.ensures)
