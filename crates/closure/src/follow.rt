@@ -1,7 +1,6 @@
 // The edges to one slot, counted and followed in one pass over the instructions that may have them.
 ghost use Rattle.std.specs.Prelude.{◌≡◌, ◌+◌, ◌*◌, ◌<◌, ◌≤◌, ◌&&◌, ◌++◌, IfSome, nat_lt};
 ghost use Rattle.model.specs.Dependencies.{dependency_bit, instruction_edges, edges_into, edges_to};
-ghost use Rattle.sheet.specs.Measured.{Measured};
 ghost use Rattle.closure_marks.specs.Marks.{Lain, slots_in};
 ghost use Rattle.model.specs.Count.{collect};
 ghost use Rattle.closure_edges.specs.Chain.{edges_at, Tells};
@@ -12,8 +11,7 @@ use crate::Followed;
 use closure_edges::{CONSTANT, CONTAINER, COPY_N, Chains, INDEX_CHECK, dependence_of};
 use closure_marks::{Candidates, mark_slots};
 use model::{AnalysisKind, Instruction};
-use sheet::Sizes;
-use sheet_fields::instruction_at;
+use sheet_fields::Sheet;
 
 // The edges of an instruction to one slot: their sources, and the mask of the analyses that follow them.
 #[derive(Clone, Copy)]
@@ -109,23 +107,22 @@ fn follow_instruction(
 // The edges to d of the instructions below end, in code order.
 fn follow_code(
     bit: u8,
-    sheet: &[u8],
-    sizes: Sizes,
+    sheet: &Sheet,
     end: usize,
     d: usize,
     marks: &mut [u8],
     stack: &mut [u16],
     top: usize,
 ) -> Followed
-    requires { Measured sheet.now sizes × (end ≤ sizes.code_count) × (d < sizes.local_slots) × Lain marks.old stack.old top }
+    requires { (end ≤ sheet.now.sizes.code_count) × (d < sheet.now.sizes.local_slots) × Lain marks.old stack.old top }
     ensures { (result.count ≤ end * 255)
-        × Follows bit (collect (edges_at sheet.now d) end) marks.old stack.old (record { top = top; count = 0 }) marks.new
+        × Follows bit (collect (edges_at sheet.now.bytes.now d) end) marks.old stack.old (record { top = top; count = 0 }) marks.new
         stack.new result }
 {
-    let l = sizes.local_slots;
+    let l = sheet.sizes.local_slots;
     let mut followed = Followed { top, count: 0 };
     for pc in 0..end {
-        followed = follow_instruction(instruction_at(sheet, pc), bit, l, d, marks, stack, followed);
+        followed = follow_instruction(sheet.instruction(pc), bit, l, d, marks, stack, followed);
     }
     followed
 }
@@ -134,28 +131,27 @@ fn follow_code(
 // chain of d's bucket; the others are read one after the other.
 pub fn follow_edges(
     which: AnalysisKind,
-    sheet: &[u8],
-    sizes: Sizes,
+    sheet: &Sheet,
     chains: Option<&Chains>,
     d: usize,
     marks: &mut [u8],
     stack: &mut [u16],
     top: usize,
 ) -> Followed
-    requires { Measured sheet.now sizes × IfSome chains (λ c. Tells sheet.now c.now) × (d < sizes.local_slots) × Lain marks.old stack.old top }
-    ensures { Follows (dependency_bit which) (edges_to sheet.now d) marks.old stack.old (record { top = top; count = 0 }) marks.new
+    requires { IfSome chains (λ c. Tells sheet.now.bytes.now c.now) × (d < sheet.now.sizes.local_slots) × Lain marks.old stack.old top }
+    ensures { Follows (dependency_bit which) (edges_to sheet.now.bytes.now d) marks.old stack.old (record { top = top; count = 0 }) marks.new
         stack.new result }
 {
-    let l = sizes.local_slots;
+    let l = sheet.sizes.local_slots;
     let bit = dependency_bit(which);
     let Some(chains) = chains else {
-        return follow_code(bit, sheet, sizes, sizes.code_count, d, marks, stack, top);
+        return follow_code(bit, sheet, sheet.sizes.code_count, d, marks, stack, top);
     };
-    let mut followed = follow_code(bit, sheet, sizes, chains.first, d, marks, stack, top);
+    let mut followed = follow_code(bit, sheet, chains.first, d, marks, stack, top);
     let mut number = chains.newest(d);
     while 0 < number {
         let link = chains.link(number);
-        let inst = instruction_at(sheet, link.pc as usize);
+        let inst = sheet.instruction(link.pc as usize);
         followed = follow_instruction(inst, bit, l, d, marks, stack, followed);
         number = link.next as usize;
     }

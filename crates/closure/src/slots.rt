@@ -2,7 +2,6 @@
 ghost use Rattle.std.specs.Prelude.{◌≡◌, ◌≤◌, length};
 ghost use Rattle.model.specs.Call.{zeros};
 ghost use Rattle.budget.specs.Outcome.{as_spent};
-ghost use Rattle.sheet.specs.Measured.{Measured};
 ghost use Rattle.closure.specs.Expanded.{MarksZero};
 ghost use Rattle.closure.specs.Closed.{scratch_charges, TrackEnsures};
 
@@ -12,7 +11,7 @@ use budget::{Outcome, Refused, charge_bytes, metered, stage_number};
 use closure_marks::list_slots;
 use memory::clear;
 use model::{AnalysisKind, VerifierResources};
-use sheet::Sizes;
+use sheet_fields::Sheet;
 
 // "mark 1, work slot 2": two charges, for each of L.
 fn charge_scratch(stage: u8, l: usize, resources: VerifierResources) -> Outcome
@@ -27,19 +26,18 @@ fn charge_scratch(stage: u8, l: usize, resources: VerifierResources) -> Outcome
 // The same with exactly L marks: the charges, the loop, and the slots, where they fit.
 fn track(
     which: AnalysisKind,
-    sheet: &[u8],
-    sizes: Sizes,
+    sheet: &Sheet,
     resources: VerifierResources,
     slots: &mut [u16],
     marks: &mut [u8],
     stack: &mut [u16],
 ) -> Result<Tracked, Refused>
-    requires { Measured sheet.now sizes × MarksZero sheet.now marks.old stack.old }
-    ensures { TrackEnsures which sheet.now resources marks.old stack.old slots.old result
+    requires { MarksZero sheet.now.bytes.now marks.old stack.old }
+    ensures { TrackEnsures which sheet.now.bytes.now resources marks.old stack.old slots.old result
         marks.new stack.new slots.new }
 {
-    let scratch = charge_scratch(stage_number(which), sizes.local_slots, resources)?;
-    let left = expand(which, sheet, sizes, scratch, marks, stack)?;
+    let scratch = charge_scratch(stage_number(which), sheet.sizes.local_slots, resources)?;
+    let left = expand(which, sheet, scratch, marks, stack)?;
     let s = list_slots(marks, slots);
     clear(marks);
     Ok(Tracked { s, left })
@@ -49,26 +47,17 @@ fn track(
 // outcome. Where s exceeds the slots lent, and on a refusal, these keep their content.
 pub fn tracked_slots(
     which: AnalysisKind,
-    sheet: &[u8],
-    sizes: Sizes,
+    sheet: &Sheet,
     resources: VerifierResources,
     slots: &mut [u16],
     marks: &mut [u8],
     stack: &mut [u16],
 ) -> Result<Tracked, Refused>
-    requires { Measured sheet.now sizes × (sizes.local_slots ≤ length marks.old) × (sizes.local_slots ≤ length stack.old)
+    requires { (sheet.now.sizes.local_slots ≤ length marks.old) × (sheet.now.sizes.local_slots ≤ length stack.old)
         × (marks.old ≡ zeros marks.old) × (stack.old ≡ zeros stack.old) }
-    ensures { TrackEnsures which sheet.now resources marks.old stack.old slots.old result
+    ensures { TrackEnsures which sheet.now.bytes.now resources marks.old stack.old slots.old result
         marks.new stack.new slots.new }
 {
-    let l = sizes.local_slots;
-    track(
-        which,
-        sheet,
-        sizes,
-        resources,
-        slots,
-        &mut marks[..l],
-        stack,
-    )
+    let l = sheet.sizes.local_slots;
+    track(which, sheet, resources, slots, &mut marks[..l], stack)
 }

@@ -1,24 +1,17 @@
 // The chains, built from the last instruction to the first, so that each begins with its first one.
 ghost use Rattle.std.specs.Prelude.{◌≡◌, ◌+◌, ◌-◌, ◌<◌, ◌≤◌, length, get_or};
-ghost use Rattle.sheet.specs.Measured.{Measured};
 ghost use Rattle.closure_edges.specs.Links.{bucket, link_at, link_each, links_of, graph_in, graph_of};
 
 use crate::destinations::{bucket_of, buckets_of};
 use crate::{Buckets, Chains, Link};
 use memory::clear;
-use sheet::Sizes;
-use sheet_fields::instruction_at;
+use sheet_fields::Sheet;
 
 impl<'a> Chains<'a> {
     // Chains of all instructions, or where there is room for fewer links, of the last ones.
-    pub fn build(
-        sheet: &[u8],
-        sizes: Sizes,
-        heads: &'a mut [u16],
-        links: &'a mut [Link],
-    ) -> Chains<'a>
-        requires { Measured sheet.now sizes × (length heads.old ≡ 2048) × (length links.old ≤ 65535) }
-        ensures graph { graph_in result ≡ graph_of sheet.now heads.old links.old }
+    pub fn build(sheet: &Sheet, heads: &'a mut [u16], links: &'a mut [Link]) -> Chains<'a>
+        requires { (length heads.old ≡ 2048) × (length links.old ≤ 65535) }
+        ensures graph { graph_in result ≡ graph_of sheet.now.bytes.now heads.old links.old }
         ensures same_heads { result.heads.ghost_name ≡ heads.entry.ghost_name }
         ensures same_links { result.links.ghost_name ≡ links.entry.ghost_name }
     {
@@ -27,10 +20,10 @@ impl<'a> Chains<'a> {
             heads,
             links,
             used: 0,
-            first: sizes.code_count,
+            first: sheet.sizes.code_count,
         };
-        for pc in (0..sizes.code_count).rev() {
-            let buckets = buckets_of(instruction_at(sheet, pc), sizes.local_slots);
+        for pc in (0..sheet.sizes.code_count).rev() {
+            let buckets = buckets_of(sheet.instruction(pc), sheet.sizes.local_slots);
             if chains.links.len() - chains.used < buckets.count {
                 return chains;
             }

@@ -3,15 +3,13 @@ ghost use Rattle.std.specs.Prelude.{◌≡◌, map};
 ghost use Rattle.model.specs.Sheet.{code_count};
 ghost use Rattle.model.specs.Dependencies.{field, seed_fields};
 ghost use Rattle.model.specs.Closure.{mark_seeds};
-ghost use Rattle.sheet.specs.Measured.{Measured};
 ghost use Rattle.closure_marks.specs.Marks.{Lain, Goes, slots_in};
 ghost use Rattle.closure_marks.specs.Fields.{fields_in};
 
 use crate::mark::mark_slots;
 use crate::{Candidates, Fields};
 use model::{AnalysisKind, Instruction};
-use sheet::Sizes;
-use sheet_fields::instruction_at;
+use sheet_fields::Sheet;
 
 // `tracked_constant_slots`: MapNew; ArrayNew, SliceNew, PtrNew, QueueNew, IndexCheck; SliceAppend.
 fn constant_fields(op: u8) -> Fields
@@ -79,19 +77,13 @@ fn seed_fields(which: AnalysisKind, inst: Instruction) -> Candidates
 }
 
 // The seeds of all instructions, in code order. The stack's new top.
-pub fn seed_slots(
-    which: AnalysisKind,
-    sheet: &[u8],
-    sizes: Sizes,
-    marks: &mut [u8],
-    stack: &mut [u16],
-) -> usize
-    requires { Measured sheet.now sizes × Lain marks.old stack.old 0 }
-    ensures { Goes (mark_seeds which sheet.now (code_count sheet.now)) marks.old stack.old 0 marks.new stack.new result }
+pub fn seed_slots(which: AnalysisKind, sheet: &Sheet, marks: &mut [u8], stack: &mut [u16]) -> usize
+    requires { Lain marks.old stack.old 0 }
+    ensures { Goes (mark_seeds which sheet.now.bytes.now (code_count sheet.now.bytes.now)) marks.old stack.old 0 marks.new stack.new result }
 {
     let mut top = 0;
-    for pc in 0..sizes.code_count {
-        let seeds = seed_fields(which, instruction_at(sheet, pc));
+    for pc in 0..sheet.sizes.code_count {
+        let seeds = seed_fields(which, sheet.instruction(pc));
         top = mark_slots(seeds, marks, stack, top);
     }
     top

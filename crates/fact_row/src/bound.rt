@@ -6,13 +6,6 @@ ghost use Rattle.fact_row.specs.Rows.{Bound, WritableRow};
 
 use model::FactCell;
 
-// A slot's number as a count of slots.
-pub fn wide(slot: u16) -> usize
-    ensures { (result ≡ slot) × (result < 65536) }
-{
-    slot as usize
-}
-
 // Which half to go on with: a product with 0 or 1, so that no branch is compiled. The search is by hand for it: std's `partition_point` has
 // a branch at each step, which no processor predicts on such keys, and the kit's own measurements (jiff_tz) show what it costs.
 #[tactic(auto, using(crate::proofs::Ascending::times_le, crate::proofs::Ascending::half_stepped))]

@@ -6,7 +6,7 @@ mod cells;
 mod notes;
 mod row;
 
-pub use bound::{find, lower_bound, set_fact, wide};
+pub use bound::{find, lower_bound, set_fact};
 pub use cells::{checked_cell, map_cell, queue_cell};
 pub use notes::instruction_fact;
 pub use row::TrackedRow;

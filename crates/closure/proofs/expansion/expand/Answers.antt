@@ -9,6 +9,5 @@ use Rattle.closure.proofs.expansion.expand.Goals as goal
 
 pub expand_along-requires-2 : goal.expand_along-requires-2
 expand_along-requires-2 c =
-    let asked = c.requires in
-    let few : local_slots c.args.sheet.now ≤ 65535 = omega (arith, (counted asked.0.are).local_slots_is, (limited asked.0).local_slots_is) in
-    (asked.0, asked.1, graph_chained c.args.sheet.now few _ _ refl c.build-chains.ensures.graph)
+    let few : local_slots c.args.sheet.now.bytes.now ≤ 65535 = omega (arith, (counted c.args.sheet.now.measured.are).local_slots_is, (limited c.args.sheet.now.measured).local_slots_is) in
+    (c.requires, graph_chained c.args.sheet.now.bytes.now few _ _ refl c.build-chains.ensures.graph)

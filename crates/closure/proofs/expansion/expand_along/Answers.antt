@@ -10,17 +10,17 @@ use Rattle.closure.proofs.ExpandLoop.{zero_lies, lies_room, expanding_begun, exp
 use Rattle.closure.proofs.expansion.expand_along.Goals as goal
 
 pub seed_slots-top-requires : goal.seed_slots-top-requires
-seed_slots-top-requires c = let asked = c.requires in (asked.0, some_lain (zero_lies asked.0 asked.1))
+seed_slots-top-requires c = some_lain (zero_lies c.args.sheet.now.measured c.requires.0)
 
 pub loop-top-init : goal.loop-top-init
 unfolding seeded
 loop-top-init c =
-    expanding_begun _ _ (lies_room (c.seed_slots-top.ensures.on (zero_lies c.requires.0 c.requires.1)))
+    expanding_begun _ _ (lies_room (c.seed_slots-top.ensures.on (zero_lies c.args.sheet.now.measured c.requires.0)))
 
 pub take_slot-followed-requires : goal.take_slot-followed-requires
 take_slot-followed-requires c =
     let asked = c.requires in
-    (asked.0, c.loop-top-test.true, expanding_standing _ _ c.loop-top.invariant, asked.2)
+    (c.loop-top-test.true, expanding_standing _ _ c.loop-top.invariant, asked.1)
 
 pub returns-in_default : goal.returns-in_default
 returns-in_default c =
@@ -29,8 +29,8 @@ returns-in_default c =
     let stops = expanding_refused _ _ c.loop-top.invariant c.loop-top-test.true c.take_slot-followed.ensures c.charge_work.ensures
     c.stage_number-stage.ensures c.metered-charged.result c.metered-charged.ensures c.in_default.not-Ok in
     record {
-      closes = stopped_leaves stops _ (c.clear.ensures ∙ zeros_same _ _ (omega (arith, after.wide, asked.1.wide)));
-      no_entries = c.clear-in_default.ensures ∙ zeros_same _ _ (after.long ∙ goes_long c.seed_slots-top.ensures (some_lain (zero_lies asked.0 asked.1)));
+      closes = stopped_leaves stops _ (c.clear.ensures ∙ zeros_same _ _ (omega (arith, after.wide, asked.0.wide)));
+      no_entries = c.clear-in_default.ensures ∙ zeros_same _ _ (after.long ∙ goes_long c.seed_slots-top.ensures (some_lain (zero_lies c.args.sheet.now.measured asked.0)));
     }
 
 pub loop-top-smaller : goal.loop-top-smaller
@@ -50,5 +50,5 @@ returns c =
     record {
       closes = covered_leaves _ _ (expanding_done _ _ ended c.loop-top-test.false) refl ended.lies.marks_are;
       no_entries = expanding_empty _ _ ended c.loop-top-test.false
-          ∙ ap (λ (k : ℕ). replicate k 0) (goes_long c.seed_slots-top.ensures (some_lain (zero_lies asked.0 asked.1)));
+          ∙ ap (λ (k : ℕ). replicate k 0) (goes_long c.seed_slots-top.ensures (some_lain (zero_lies c.args.sheet.now.measured asked.0)));
     }

@@ -6,7 +6,7 @@ use Rattle.closure.proofs.ExpandLoop.{Expanding}
 use Rattle.closure.proofs.expansion.expand_along.Given as goal
 
 abbrev pub invariant-loop-top : goal.invariant-loop-top
-invariant-loop-top l = Expanding l.which l.sheet l.initial.left (length l.initial.stack) l.marks l.stack l.top l.left
+invariant-loop-top l = Expanding l.which l.sheet.bytes.now l.initial.left (length l.initial.stack) l.marks l.stack l.top l.left
 
 abbrev pub decreases-loop-top : goal.decreases-loop-top
 decreases-loop-top l = free l.marks + l.top

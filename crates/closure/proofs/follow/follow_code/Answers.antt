@@ -3,7 +3,6 @@
 use Rattle.std.proofs.Common.{arith}
 use Rattle.sheet.proofs.SizeNames.{counted}
 use Rattle.sheet.proofs.SizeLimits.{limited}
-use Rattle.sheet.proofs.FieldBounds.{code_inside}
 use Rattle.closure_marks.proofs.Marks.{lain_on}
 use Rattle.closure.proofs.FollowEdges.{follows_none, follows_more, follows_below}
 use Rattle.closure.proofs.follow.follow_code.Goals as goal
@@ -11,21 +10,18 @@ use Rattle.closure.proofs.follow.follow_code.Goals as goal
 pub loop-pc-init : goal.loop-pc-init
 loop-pc-init c = (omega arith, follows_none _ _ _ _ _ _)
 
-pub instruction_at-requires : goal.instruction_at-requires
-instruction_at-requires c = code_inside c.requires.0 _ (omega (arith, c.loop-pc-test.true, c.requires.1))
-
 pub follow_instruction-followed-requires : goal.follow_instruction-followed-requires
 follow_instruction-followed-requires c =
     let done = c.loop-pc.invariant in
     let asked = c.requires in
-    let l = limited asked.0 in
-    (asked.2, l.local_slots_is, omega (arith, done.0, c.loop-pc-test.true, asked.1, l.code_count_is), lain_on done.1.goes asked.3)
+    let l = limited c.args.sheet.now.measured in
+    (asked.1, l.local_slots_is, omega (arith, done.0, c.loop-pc-test.true, asked.0, l.code_count_is), lain_on done.1.goes asked.2)
 
 pub loop-pc-preserved : goal.loop-pc-preserved
 loop-pc-preserved c =
     let done = c.loop-pc.invariant in
     let followed = c.follow_instruction-followed.ensures in
-    (omega (arith, done.0, followed.0), follows_more _ _ _ _ _ _ done.1 c.instruction_at.ensures (counted c.requires.0.are).local_slots_is followed.1)
+    (omega (arith, done.0, followed.0), follows_more _ _ _ _ _ _ done.1 c.instruction.ensures (counted c.args.sheet.now.measured.are).local_slots_is followed.1)
 
 pub returns : goal.returns
 returns c = follows_below _ _ _ c.loop-pc.auto.pc-end c.loop-pc-test.false c.loop-pc.invariant.0 c.loop-pc.invariant.1

@@ -3,47 +3,45 @@
 use Rattle.std.proofs.Common.{arith}
 use Rattle.sheet.proofs.SizeNames.{counted}
 use Rattle.sheet.proofs.SizeLimits.{limited}
-use Rattle.sheet.proofs.FieldBounds.{code_inside}
 use Rattle.closure_marks.proofs.Marks.{lain_on}
 use Rattle.closure.proofs.FollowEdges.{follows_all, chain_walked_none, walked_next, chain_walked_more, walked_done, chain_of}
 use Rattle.closure.proofs.follow.follow_edges.Goals as goal
 
 pub returns-in_default : goal.returns-in_default
 returns-in_default c =
-    follows_all _ _ _ _ c.dependency_bit-bit.ensures (counted c.requires.0.are).code_count_is c.follow_code.ensures.1
+    follows_all _ _ _ _ c.dependency_bit-bit.ensures (counted c.args.sheet.now.measured.are).code_count_is c.follow_code.ensures.1
 
 pub follow_code-followed-requires : goal.follow_code-followed-requires
 follow_code-followed-requires c =
     let asked = c.requires in
-    let told = rw c.in-Some.is at asked.1 in
-    (asked.0, omega (arith, told.inside, (counted asked.0.are).code_count_is), asked.2, asked.3)
+    let told = rw c.in-Some.is at asked.0 in
+    (omega (arith, told.inside, (counted c.args.sheet.now.measured.are).code_count_is), asked.1, asked.2)
 
 pub newest-number-requires : goal.newest-number-requires
-newest-number-requires c = omega (arith, c.requires.2, (limited c.requires.0).local_slots_is)
+newest-number-requires c = omega (arith, c.requires.1, (limited c.args.sheet.now.measured).local_slots_is)
 
 pub loop-number-init : goal.loop-number-init
 loop-number-init c =
     let asked = c.requires in
-    let told = rw c.in-Some.is at asked.1 in
-    rw c.newest-number.ensures (chain_walked_none _ _ told.inside (chain_of told _ (counted asked.0.are).local_slots_is asked.2) c.follow_code-followed.ensures.0)
+    let told = rw c.in-Some.is at asked.0 in
+    rw c.newest-number.ensures (chain_walked_none _ _ told.inside (chain_of told _ (counted c.args.sheet.now.measured.are).local_slots_is asked.1) c.follow_code-followed.ensures.0)
 
 pub link-link-requires : goal.link-link-requires
 link-link-requires c = (c.loop-number-test.true, (walked_next _ _ c.loop-number.invariant c.loop-number-test.true).made)
 
-pub instruction_at-inst-requires : goal.instruction_at-inst-requires
-instruction_at-inst-requires c =
-    code_inside c.requires.0 _
-    (omega (arith, rw (← c.link-link.ensures) at (walked_next _ _ c.loop-number.invariant c.loop-number-test.true).code, (counted c.requires.0.are).code_count_is))
+pub instruction-inst-requires : goal.instruction-inst-requires
+instruction-inst-requires c =
+    omega (arith, rw (← c.link-link.ensures) at (walked_next _ _ c.loop-number.invariant c.loop-number-test.true).code, (counted c.args.sheet.now.measured.are).code_count_is)
 
 pub follow_instruction-followed-requires : goal.follow_instruction-followed-requires
 follow_instruction-followed-requires c =
     let asked = c.requires in
     let w = c.loop-number.invariant in
-    let l = limited asked.0 in (
-      asked.2,
+    let l = limited c.args.sheet.now.measured in (
+      asked.1,
       l.local_slots_is,
-      omega (arith, w.small, w.inside, l.code_count_is, (counted asked.0.are).code_count_is),
-      lain_on w.follows.goes (lain_on c.follow_code-followed.ensures.1.goes asked.3),
+      omega (arith, w.small, w.inside, l.code_count_is, (counted c.args.sheet.now.measured.are).code_count_is),
+      lain_on w.follows.goes (lain_on c.follow_code-followed.ensures.1.goes asked.2),
     )
 
 pub loop-number-smaller : goal.loop-number-smaller
@@ -52,7 +50,7 @@ loop-number-smaller c = rw (← c.link-link.ensures) at (walked_next _ _ c.loop-
 pub loop-number-preserved : goal.loop-number-preserved
 loop-number-preserved c =
     let followed = c.follow_instruction-followed.ensures in
-    chain_walked_more _ _ c.loop-number.invariant c.loop-number-test.true c.link-link.ensures c.instruction_at-inst.ensures (counted c.requires.0.are).local_slots_is
+    chain_walked_more _ _ c.loop-number.invariant c.loop-number-test.true c.link-link.ensures c.instruction-inst.ensures (counted c.args.sheet.now.measured.are).local_slots_is
     followed.0 followed.1
 
 pub returns : goal.returns

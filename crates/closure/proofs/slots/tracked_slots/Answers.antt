@@ -7,14 +7,14 @@ use Rattle.closure.proofs.slots.tracked_slots.Goals as goal
 pub track-requires : goal.track-requires
 track-requires c =
     let asked = c.requires in
-    (asked.0, blank _ c.args.marks.now c.args.stack.now (counted asked.0.are).local_slots_is asked.1 asked.2 asked.3 asked.4)
+    blank _ c.args.marks.now c.args.stack.now (counted c.args.sheet.now.measured.are).local_slots_is asked.0 asked.1 asked.2 asked.3
 
 pub returns : goal.returns
 returns c =
     let asked = c.requires in
     record {
       closes = c.track.ensures.closes;
-      no_marks = marks_clear _ c.args.marks.now c.args.stack.now (counted asked.0.are).local_slots_is asked.1 asked.2 asked.3 asked.4
+      no_marks = marks_clear _ c.args.marks.now c.args.stack.now (counted c.args.sheet.now.measured.are).local_slots_is asked.0 asked.1 asked.2 asked.3
           c.track.ensures.no_marks;
       no_entries = c.track.ensures.no_entries;
     }

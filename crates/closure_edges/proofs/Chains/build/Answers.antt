@@ -4,28 +4,27 @@ use mathlib.Core.Path.{◌∙◌}
 use native.Mathlib.Omega.{arith}
 use Rattle.sheet.proofs.SizeNames.{counted}
 use Rattle.sheet.proofs.SizeLimits.{limited}
-use Rattle.sheet.proofs.FieldBounds.{code_inside}
 use Rattle.closure_edges.proofs.BucketOrder.{buckets_at_lem}
 use Rattle.closure_edges.proofs.ChainLoops.{building_more, building_full, building_done}
 use Rattle.closure_edges.proofs.Chains.build.Goals as goal
 
-pub instruction_at-requires : goal.instruction_at-requires
-instruction_at-requires c = code_inside c.requires.0 _ (omega (arith, c.loop-pc.invariant.linked.inside))
+pub instruction-requires : goal.instruction-requires
+instruction-requires c = omega (arith, c.loop-pc.invariant.linked.inside)
 
 pub buckets_of-buckets-requires : goal.buckets_of-buckets-requires
-buckets_of-buckets-requires c = (limited c.requires.0).local_slots_is
+buckets_of-buckets-requires c = (limited c.args.sheet.now.measured).local_slots_is
 
 pub returns-then-chains-buckets-clause-graph : goal.returns-then-chains-buckets-clause-graph
 returns-then-chains-buckets-clause-graph c =
     let i = c.loop-pc.invariant in
-    let sizes = counted c.requires.0.are in
+    let sizes = counted c.args.sheet.now.measured.are in
     building_full _ i.linked c.loop-pc-test.true c.loop-pc.chains.room
-    (buckets_at_lem _ _ c.buckets_of-buckets.ensures.0 c.instruction_at.ensures sizes.local_slots_is)
+    (buckets_at_lem _ _ c.buckets_of-buckets.ensures.0 c.instruction.ensures sizes.local_slots_is)
     _ c.if-chains-buckets.true sizes.code_count_is (rw c.clear.ensures) i.first_is
 
 pub link_each-requires : goal.link_each-requires
 link_each-requires c =
-    (c.buckets_of-buckets.ensures.1, omega (arith, c.loop-pc.chains.room, c.if-chains-buckets.false), omega (arith, c.loop-pc.invariant.linked.inside, (limited c.requires.0).code_count_is))
+    (c.buckets_of-buckets.ensures.1, omega (arith, c.loop-pc.chains.room, c.if-chains-buckets.false), omega (arith, c.loop-pc.invariant.linked.inside, (limited c.args.sheet.now.measured).code_count_is))
 
 pub loop-pc-preserved : goal.loop-pc-preserved
 loop-pc-preserved c =
@@ -33,7 +32,7 @@ loop-pc-preserved c =
     let made = c.link_each.ensures in
     record {
       linked = building_more _ i.linked c.loop-pc-test.true c.loop-pc.chains.room
-          (buckets_at_lem _ _ c.buckets_of-buckets.ensures.0 c.instruction_at.ensures (counted c.requires.0.are).local_slots_is)
+          (buckets_at_lem _ _ c.buckets_of-buckets.ensures.0 c.instruction.ensures (counted c.args.sheet.now.measured.are).local_slots_is)
           c.if-chains-buckets.false made.linked;
       first_is = made.first;
       same_heads = made.same_heads ∙ i.same_heads;
@@ -43,4 +42,4 @@ loop-pc-preserved c =
 pub returns-clause-graph : goal.returns-clause-graph
 returns-clause-graph c =
     let i = c.loop-pc.invariant in
-    building_done _ _ i.linked c.loop-pc-test.false (counted c.requires.0.are).code_count_is (rw c.clear.ensures) i.first_is
+    building_done _ _ i.linked c.loop-pc-test.false (counted c.args.sheet.now.measured.are).code_count_is (rw c.clear.ensures) i.first_is

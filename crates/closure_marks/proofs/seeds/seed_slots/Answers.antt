@@ -1,7 +1,6 @@
 -- `closure_marks::seed_slots` meets its contract: the seeds of the instructions passed are marked.
 -- Assumes nothing.
 use Rattle.sheet.proofs.SizeNames.{counted}
-use Rattle.sheet.proofs.FieldBounds.{code_inside}
 use Rattle.closure_marks.proofs.Marks.{lain_on}
 use Rattle.closure_marks.proofs.SeedRules.{seeds_none, seeds_more, seeds_all}
 use Rattle.closure_marks.proofs.seeds.seed_slots.Goals as goal
@@ -9,15 +8,12 @@ use Rattle.closure_marks.proofs.seeds.seed_slots.Goals as goal
 pub loop-pc-init : goal.loop-pc-init
 loop-pc-init c = seeds_none _ _ _ _ _
 
-pub instruction_at-requires : goal.instruction_at-requires
-instruction_at-requires c = code_inside c.requires.0 _ c.loop-pc-test.true
-
 pub mark_slots-top-requires : goal.mark_slots-top-requires
-mark_slots-top-requires c = lain_on c.loop-pc.invariant c.requires.1
+mark_slots-top-requires c = lain_on c.loop-pc.invariant c.requires
 
 pub loop-pc-preserved : goal.loop-pc-preserved
-loop-pc-preserved c = seeds_more _ _ _ c.seed_fields-seeds.result c.loop-pc.invariant c.instruction_at.ensures c.seed_fields-seeds.ensures c.mark_slots-top.ensures
+loop-pc-preserved c = seeds_more _ _ _ c.seed_fields-seeds.result c.loop-pc.invariant c.instruction.ensures c.seed_fields-seeds.ensures c.mark_slots-top.ensures
 
 pub returns : goal.returns
 returns c =
-    seeds_all _ _ _ _ c.loop-pc.auto.pc-end c.loop-pc-test.false (counted c.requires.0.are).code_count_is c.loop-pc.invariant
+    seeds_all _ _ _ _ c.loop-pc.auto.pc-end c.loop-pc-test.false (counted c.args.sheet.now.measured.are).code_count_is c.loop-pc.invariant

@@ -5,4 +5,4 @@ use Rattle.closure_marks.specs.Marks.{Goes}
 use Rattle.closure_marks.proofs.seeds.seed_slots.Given as goal
 
 abbrev pub invariant-loop-pc : goal.invariant-loop-pc
-invariant-loop-pc l = Goes (mark_seeds l.which l.sheet l.pc) l.initial.marks l.initial.stack l.initial.top l.marks l.stack l.top
+invariant-loop-pc l = Goes (mark_seeds l.which l.sheet.bytes.now l.pc) l.initial.marks l.initial.stack l.initial.top l.marks l.stack l.top
