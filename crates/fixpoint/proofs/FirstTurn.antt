@@ -21,7 +21,7 @@ use Rattle.sheet.specs.declared.Sizes.{Sizes}
 use Rattle.sheet_layouts.specs.Classes.{equal_by}
 use Rattle.sheet_layouts.proofs.Classes.{equal_by_lem}
 use Rattle.fixpoint_list.specs.Listed.{Listed}
-use Rattle.fixpoint_list.proofs.Listed.{empty_listed, listed_enter}
+use Rattle.fixpoint_list.proofs.Listed.{empty_listed, listed_added}
 use Rattle.fixpoint_step.specs.News.{rows_visited}
 use Rattle.fixpoint_step.specs.Visits.{JoinRequires, JoinEnsures}
 use Rattle.fixpoint_step.specs.Stepped.{SheetIndex, TrackedSlots}
@@ -103,7 +103,7 @@ module _ (which : AnalysisKind) {sheet : List ℕ} {sizes : Sizes} {firsts class
         (rw (length-replicate {A = Option Row} (code_count sheet) none) s.some_code)).0
 
     listed : Listed (0 ∷ []) lisnew top'
-    listed = rw (l', t') (listed_enter 0 [] list 0 (empty_listed list f.list_zero) some_room)
+    listed = rw (l', t') (listed_added 0 [] list 0 (empty_listed list f.list_zero) some_room)
 
     list_length : length lisnew ≡ length list
     list_length = rw l' (length-set list 0 0)

@@ -17,15 +17,14 @@ use budget::Refused;
 use fixpoint_list::{clear, enter, enter_each, take};
 use fixpoint_step::{join_into, step};
 use model::{AnalysisKind, VerifierResources};
-use sheet::Sizes;
+use sheet_fields::Sheet;
 
 // "instruction 0 starts with a row .., and the list holds 0 alone": instruction 0 gets the first row, which is lent as the row scratch. Then
 // "A step takes the entry added last and counts 1. A copy of that instruction's row goes through its transfer. Then each successor in order",
 // until "The empty list ends the run" or a step's charge is refused. Pops and what is left are the defined run's; what is lent holds its tables, or zeros.
 pub fn run_to_fixpoint(
     which: AnalysisKind,
-    sheet: &[u8],
-    sizes: Sizes,
+    sheet: &Sheet,
     firsts: &[u16],
     classes: &[u16],
     length_kinds: &[u8],
@@ -39,14 +38,14 @@ pub fn run_to_fixpoint(
     row_values: &mut [u64],
     work_list: &mut [u16],
 ) -> Result<Ran, Refused>
-    requires sheet_index { SheetIndex sheet.now sizes firsts.now classes.now length_kinds.now length_values.now × TrackedSlots sheet.now slots.now }
+    requires sheet_index { SheetIndex sheet.now.bytes.now sheet.now.sizes firsts.now classes.now length_kinds.now length_values.now × TrackedSlots sheet.now.bytes.now slots.now }
     requires memory_ready { let m = run_memory present.old kinds.old values.old row_kinds.old row_values.old work_list.old in
-        RunRequires (code_count sheet.now) (length slots.now) m }
+        RunRequires (code_count sheet.now.bytes.now) (length slots.now) m }
     ensures { let m = lent_run present kinds values row_kinds row_values work_list in
         let first = facts_of m.entry.row_kinds m.entry.row_values in
         let lengths = length_table length_kinds.now length_values.now in
         some (leaves (outcome_of result) (ran (pops_of result) m.exit))
-        ≡ leaves_of (ran_tables (zero_run m.entry)) (ran 0 (zero_run m.entry)) (propagate which sheet.now slots.now lengths first resources) }
+        ≡ leaves_of (ran_tables (zero_run m.entry)) (ran 0 (zero_run m.entry)) (propagate which sheet.now.bytes.now slots.now lengths first resources) }
 {
     join_into(
         which, classes, 0, present, kinds, values, row_kinds, row_values,
@@ -63,7 +62,6 @@ pub fn run_to_fixpoint(
         let news = step(
             which,
             sheet,
-            sizes,
             firsts,
             classes,
             length_kinds,

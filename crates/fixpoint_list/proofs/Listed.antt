@@ -1,6 +1,7 @@
 -- What enter, take and clear make of the list as a list of numbers.
 -- Assumes nothing.
 use mathlib.Core.Path.{◌≡◌, refl, sym, ap, ◌∙◌}
+use mathlib.Core.Bool.{Bool, true, false, cond}
 use mathlib.Core.List.{List, [], ◌∷◌, ◌++◌}
 use Prim.Native.Nat.{ℕ, ◌+◌, ◌-◌, ◌≤◌, ◌<◌}
 use native.Mathlib.Omega.{arith}
@@ -27,12 +28,18 @@ listed_empty [] work_list top l h = let z : length work_list - 0 ≡ length work
 listed_empty (q ∷ qs) work_list top l h = absurd (omega (arith, l.top_is))
 
 -- an entry is added
-pub listed_enter : (entry : ℕ) (entries work_list : List ℕ) (top : ℕ) → Listed entries work_list top → top < length work_list
+pub listed_added : (entry : ℕ) (entries work_list : List ℕ) (top : ℕ) → Listed entries work_list top → top < length work_list
     → Listed (entry ∷ entries) (set work_list top entry) (top + 1)
-listed_enter entry entries work_list top l h = record {
+listed_added entry entries work_list top l h = record {
   list_is = ap (λ (x : List ℕ). set x top entry) l.list_is ∙ rw (length-set work_list top entry, l.top_is) (stacked_push (length work_list) entries entry (omega (arith, l.top_is)));
   top_is = omega (arith, l.top_is);
 }
+
+-- an entry is added where there is news
+pub listed_enter : (news : Bool) (entry : ℕ) (entries work_list : List ℕ) (top : ℕ) → Listed entries work_list top → length (cond news (entry ∷ entries) entries) ≤ length work_list
+    → Listed (cond news (entry ∷ entries) entries) (cond news (set work_list top entry) work_list) (cond news (top + 1) top)
+listed_enter true entry entries work_list top l h = listed_added entry entries work_list top l (omega (arith, l.top_is))
+listed_enter false entry entries work_list top l h = l
 
 -- none is added, and one more
 pub none_entered : (work_list : List ℕ) (top : ℕ) → EachEntered [] work_list top work_list top
@@ -50,7 +57,7 @@ pub one_more_entered : (added : List ℕ) (i : ℕ) (old : List ℕ) (top : ℕ)
 unfolding EachEntered
 one_more_entered added i old top list list' now top' e h room l t entries lies =
     rw (take_more added i 0 h, entered_more (take i added) (get_or added i 0) entries, l, t)
-    (listed_enter (get_or added i 0) (entered (take i added) entries) list now (e entries lies) room)
+    (listed_added (get_or added i 0) (entered (take i added) entries) list now (e entries lies) room)
 
 pub all_entered : (added : List ℕ) (i : ℕ) (old : List ℕ) (top : ℕ) (list : List ℕ) (now : ℕ)
     → EachEntered (take i added) old top list now → length added ≤ i → EachEntered added old top list now

@@ -6,7 +6,7 @@ use Prim.Native.Nat.{ℕ, ◌+◌, ◌*◌, ◌≤◌, ◌<◌}
 use native.Mathlib.Nat.{mul-le-mul_right}
 use native.Mathlib.Omega.{arith}
 use lib.ListN.{length, get_or}
-use Rattle.model.specs.Sheet.{code_count, first_range}
+use Rattle.model.specs.Sheet.{code_count}
 use Rattle.model.specs.Successors.{sheet_successors}
 use Rattle.model.specs.Fact.{Row}
 use Rattle.model.specs.Tables.{TableSlices, RowSlices, RowLies, fact_in, facts_in, length_table}
@@ -16,8 +16,6 @@ use Rattle.model.specs.declared.AnalysisKind.{AnalysisKind}
 use Rattle.model.specs.declared.InstructionSuccessors.{InstructionSuccessors}
 use Rattle.model.specs.declared.AnalysisKind.TheVariants.{Constant, IndexCheck, Container}
 use Rattle.finality.proofs.Lawful.{lawful}
-use Rattle.memory.specs.Front.{Holds}
-use Rattle.sheet.specs.Measured.{Accepted}
 use Rattle.sheet.specs.declared.Sizes.{Sizes}
 use Rattle.sheet.proofs.SizeNames.{counted}
 use Rattle.fact_row.specs.Rows.{ReadableRow}
@@ -55,12 +53,12 @@ module _ {sheet : List ℕ} {sizes : Sizes} {firsts classes slots length_kinds l
 
   -- what the transfer asks
   pub transfer_asks : let part = row_part (length slots) p t in
-      (Accepted sheet sizes × Holds (first_range sheet) (code_count sheet) firsts × (p < sizes.code_count))
+      (p < sizes.code_count)
       × (ReadableRow slots part.kinds part.values × (length row.kinds ≡ length slots) × (length row.values ≡ length slots))
   transfer_asks =
       let l = part_lies (length slots) p a.1.rows_lie a.1.stands in
       let z : length a.1.row_there ≡ length slots = a.1.rows_lie.sized p a.1.row_there a.1.stands in (
-        (a.0.0.accepted, a.0.0.firsts_are, rw (counted a.0.0.accepted.are).code_count_is a.1.below),
+        rw (counted a.0.0.accepted.are).code_count_is a.1.below,
         (
           record { ascending = a.0.1.ascending; kinds_long = lies_kinds l ∙ z; values_long = lies_values l ∙ z; lies = lies_back l },
           a.1.row_kinds_length,
@@ -91,10 +89,9 @@ module _ {sheet : List ℕ} {sizes : Sizes} {firsts classes slots length_kinds l
     copy_length = let z = (step_copies a.1.rows a.1.row_there a.1.rows_lie a.1.stands).0 in (lies_kinds copy_lies ∙ z, lies_values copy_lies ∙ z)
 
     -- what the visits ask
-    pub visiting : SuccessorsRequires sheet sizes p t copy
+    pub visiting : SuccessorsRequires sheet p t copy
     visiting =
         let w = copy_length in record {
-          accepted = a.0.0.accepted;
           below = a.1.below;
           little = a.0.1.little;
           present_length = a.1.present_length;

@@ -6,7 +6,7 @@ use mathlib.Core.List.Memᴰ.{head}
 use mathlib.Core.List.Memᴰ.{tail}
 use mathlib.Core.List.{List, [], ◌∷◌, ◌++◌, append-nil, Memᴰ as Member}
 use mathlib.Core.Option.{Option}
-use Prim.Native.Nat.{ℕ, zero, suc, ◌+◌, ◌*◌, ◌-◌, ◌≤◌, ◌<◌}
+use Prim.Native.Nat.{ℕ, zero, suc, ◌+◌, ◌-◌, ◌≤◌, ◌<◌}
 use native.Mathlib.Omega.{arith}
 use lib.Dec.{ltb}
 use lib.IntN.{ℤ, pos, negsuc}
@@ -21,11 +21,9 @@ use Rattle.model.specs.Tables.{TableSlices, RowSlices}
 use Rattle.model.specs.declared.Instruction.{Instruction}
 use Rattle.model.specs.declared.InstructionSuccessors.{InstructionSuccessors}
 use Rattle.finality.proofs.Lawful.{successors_below}
-use Rattle.sheet.specs.Measured.{Accepted}
+use Rattle.sheet.specs.Measured.{Measured}
 use Rattle.sheet.specs.declared.Sizes.{Sizes}
 use Rattle.sheet.proofs.SizeNames.{counted}
-use Rattle.sheet.proofs.AcceptedSheet.{measured}
-use Rattle.sheet.proofs.FieldBounds.{code_inside}
 use Rattle.fixpoint_list.specs.Listed.{entered}
 use Rattle.fixpoint_step.specs.News.{rows_visited, rows_after, news_of}
 use Rattle.fixpoint_step.specs.Visits.{JoinRequires, JoinEnsures, SuccessorsRequires, SuccessorsEnsures}
@@ -179,23 +177,20 @@ module _ (same : ℕ → ℕ → ℕ → ℕ → Bool) (t : TableSlices) (row : 
 -- ---- all successors
 
 -- the successors as the code holds them
-next_is : {sheet : List ℕ} {sizes : Sizes} (p : ℕ) (inst : Instruction) (next : InstructionSuccessors) → Accepted sheet sizes
+next_is : {sheet : List ℕ} {sizes : Sizes} (p : ℕ) (inst : Instruction) (next : InstructionSuccessors) → Measured sheet sizes
     → inst ≡ instruction sheet p → next ≡ as_record (successors sizes.code_count p inst) → next ≡ as_record (sheet_successors sheet p)
 unfolding sheet_successors
-next_is p inst next a e k = k ∙ ap₂ (λ (n : ℕ) (i : Instruction). as_record (successors n p i)) (counted a.are).code_count_is e
+next_is p inst next m e k = k ∙ ap₂ (λ (n : ℕ) (i : Instruction). as_record (successors n p i)) (counted m.are).code_count_is e
 
-module _ {sheet : List ℕ} {sizes : Sizes} {p : ℕ} {t : TableSlices} {row : RowSlices} (f : SuccessorsRequires sheet sizes p t row) where
+module _ {sheet : List ℕ} {sizes : Sizes} (m : Measured sheet sizes) {p : ℕ} {t : TableSlices} {row : RowSlices} (f : SuccessorsRequires sheet p t row) where
   -- what reading the instruction and its successors asks
-  pub following_inside : 40 + 8 * p + 8 ≤ length sheet
-  following_inside = code_inside (measured f.accepted) p (rw (counted f.accepted.are).code_count_is f.below)
-
   pub following_code : (sizes.code_count ≤ 4096) × (p < sizes.code_count)
-  following_code = (rw (counted f.accepted.are).code_count_is f.little, rw (counted f.accepted.are).code_count_is f.below)
+  following_code = (rw (counted m.are).code_count_is f.little, rw (counted m.are).code_count_is f.below)
 
   -- the instruction and its successors, as the code reads and finds them
   module _ {inst : Instruction} {next : InstructionSuccessors} (reads : inst ≡ instruction sheet p) (finds : next ≡ as_record (successors sizes.code_count p inst)) where
     e : next ≡ as_record (sheet_successors sheet p)
-    e = next_is p inst next f.accepted reads finds
+    e = next_is p inst next m reads finds
 
     entries : take next.len next.pcs ≡ sheet_successors sheet p
     entries = ap (λ (x : InstructionSuccessors). take x.len x.pcs) e ∙ entries_are (sheet_successors sheet p)

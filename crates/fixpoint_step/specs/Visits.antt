@@ -7,8 +7,6 @@ use Rattle.model.specs.Run.{row_at, news}
 use Rattle.model.specs.Sheet.{code_count}
 use Rattle.model.specs.Successors.{as_record}
 use Rattle.model.specs.Tables.{TableSlices, RowsLie, RowSlices, RowLies}
-use Rattle.sheet.specs.Measured.{Accepted}
-use Rattle.sheet.specs.declared.Sizes.{Sizes}
 use Rattle.model.specs.declared.InstructionSuccessors.{InstructionSuccessors}
 use Rattle.fixpoint_step.specs.News.{rows_visited, rows_after, news_of}
 
@@ -34,8 +32,7 @@ JoinEnsures same q old row new r =
     → RowsLie (length row.kinds) (rows_visited same copy q rows) new × (r ≡ news same (row_at rows q) copy)
 
 -- all successors of p
-pub record SuccessorsRequires (sheet : List ℕ) (sizes : Sizes) (p : ℕ) (t : TableSlices) (row : RowSlices) : Type 0 where
-  pub accepted : Accepted sheet sizes
+pub record SuccessorsRequires (sheet : List ℕ) (p : ℕ) (t : TableSlices) (row : RowSlices) : Type 0 where
   pub below : p < code_count sheet
   pub little : code_count sheet ≤ 4096
   pub present_length : length t.present ≡ code_count sheet

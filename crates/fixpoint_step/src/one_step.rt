@@ -7,15 +7,15 @@ ghost use Rattle.fixpoint_step.specs.Stepped.{SheetIndex, TrackedSlots, StepRequ
 
 use crate::successors::visit_successors;
 use model::{AnalysisKind, FactCell, InstructionSuccessors};
-use sheet::Sizes;
+use sheet_fields::Sheet;
 use transfer::transfer_row;
+use transfer_written::RangedSheet;
 
 // "A copy of that instruction's row goes through its transfer. Then each successor in order": p is the entry taken, the row scratch holds
 // the copy. Those of the successors that had news, which are to be added to the list.
 pub fn step(
     which: AnalysisKind,
-    sheet: &[u8],
-    sizes: Sizes,
+    sheet: &Sheet,
     firsts: &[u16],
     classes: &[u16],
     length_kinds: &[u8],
@@ -28,14 +28,14 @@ pub fn step(
     row_kinds: &mut [u8],
     row_values: &mut [u64],
 ) -> InstructionSuccessors
-    requires sheet_index { SheetIndex sheet.now sizes firsts.now classes.now length_kinds.now length_values.now × TrackedSlots sheet.now slots.now }
+    requires sheet_index { SheetIndex sheet.now.bytes.now sheet.now.sizes firsts.now classes.now length_kinds.now length_values.now × TrackedSlots sheet.now.bytes.now slots.now }
     requires memory_ready { let t = table_slices present.old kinds.old values.old in
-        StepRequires (code_count sheet.now) (length slots.now) p t (row_slices row_kinds.old row_values.old) }
+        StepRequires (code_count sheet.now.bytes.now) (length slots.now) p t (row_slices row_kinds.old row_values.old) }
     ensures { let t = lent_rows present kinds values in
         let row = lent_row row_kinds row_values in
         let lengths = length_table length_kinds.now length_values.now in
-        StepEnsures which sheet.now slots.now lengths p t.entry t.exit result
-        × CopyEnsures which sheet.now slots.now lengths p t.entry row.exit }
+        StepEnsures which sheet.now.bytes.now slots.now lengths p t.entry t.exit result
+        × CopyEnsures which sheet.now.bytes.now slots.now lengths p t.entry row.exit }
 {
     let s = slots.len();
     let at = p * s;
@@ -46,9 +46,7 @@ pub fn step(
     };
     transfer_row(
         which,
-        sheet,
-        sizes,
-        firsts,
+        &RangedSheet { sheet, firsts },
         slots,
         p,
         fact,
@@ -58,6 +56,6 @@ pub fn step(
         row_values,
     );
     visit_successors(
-        which, sheet, sizes, classes, p, present, kinds, values, row_kinds, row_values,
+        which, sheet, classes, p, present, kinds, values, row_kinds, row_values,
     )
 }

@@ -9,8 +9,7 @@ ghost use Rattle.fixpoint_step.specs.Visits.{SuccessorsRequires, SuccessorsEnsur
 use crate::visits::join_into;
 use cfg::instruction_successors;
 use model::{AnalysisKind, InstructionSuccessors};
-use sheet::Sizes;
-use sheet_fields::instruction_at;
+use sheet_fields::Sheet;
 
 // One more that had news.
 fn with(news: InstructionSuccessors, q: usize) -> InstructionSuccessors
@@ -28,8 +27,7 @@ fn with(news: InstructionSuccessors, q: usize) -> InstructionSuccessors
 // "Then each successor in order": each of p's gets the copy or is joined with it. Those that had news, which are to be added to the list.
 pub fn visit_successors(
     which: AnalysisKind,
-    sheet: &[u8],
-    sizes: Sizes,
+    sheet: &Sheet,
     classes: &[u16],
     p: usize,
     present: &mut [u8],
@@ -38,12 +36,12 @@ pub fn visit_successors(
     row_kinds: &[u8],
     row_values: &[u64],
 ) -> InstructionSuccessors
-    requires { SuccessorsRequires sheet.now sizes p (table_slices present.old kinds.old values.old) (row_slices row_kinds.now row_values.now) }
+    requires { SuccessorsRequires sheet.now.bytes.now p (table_slices present.old kinds.old values.old) (row_slices row_kinds.now row_values.now) }
     ensures { let t = lent_rows present kinds values in
         let row = row_slices row_kinds.now row_values.now in
-        SuccessorsEnsures (equal_by which classes.now) (sheet_successors sheet.now p) t.entry row t.exit result }
+        SuccessorsEnsures (equal_by which classes.now) (sheet_successors sheet.now.bytes.now p) t.entry row t.exit result }
 {
-    let next = instruction_successors(sizes.code_count, p, instruction_at(sheet, p));
+    let next = instruction_successors(sheet.sizes.code_count, p, sheet.instruction(p));
     let mut news = InstructionSuccessors {
         pcs: [0, 0],
         len: 0,

@@ -2,20 +2,16 @@
 ghost use Rattle.std.specs.Prelude.{◌≡◌, ◌<◌, length};
 ghost use Rattle.model.specs.Fact.{Row};
 ghost use Rattle.model.specs.Promise.{lent_row};
-ghost use Rattle.model.specs.Sheet.{code_count, first_range};
 ghost use Rattle.model.specs.Tables.{RowLies, fact_in, facts_in, row_slices};
 ghost use Rattle.model.specs.Transfer.{checked_from, index_checked, transfer_row};
-ghost use Rattle.memory.specs.Front.{Holds};
-ghost use Rattle.sheet.specs.Measured.{Accepted};
 ghost use Rattle.fact_row.specs.Rows.{ReadableRow, WritableRow};
 ghost use Rattle.transfer.specs.Analysis.{checks_index};
 
 use crate::rows::write_slots;
 use fact_row::{TrackedRow, checked_cell, set_fact};
 use model::{AnalysisKind, FactCell, Instruction};
-use sheet::Sizes;
 use transfer_facts::effect_of;
-use transfer_written::slots_written;
+use transfer_written::RangedSheet;
 
 // "Opcodes (decimal)": a number, since an instruction may hold any byte.
 const INDEX_CHECK: u8 = 121;
@@ -53,12 +49,11 @@ fn set_checked(
 
 // "A copy of that instruction's row goes through its transfer.": the row in kinds and values goes into out_kinds and out_values. "All reads
 // take the state before the instruction.", and length_fact is what the constant analysis knows of b before it; only the index analysis reads it.
-#[tactic(auto, using(sheet::proofs::AcceptedSheet::measured))]
+// The row comes as three slices and not as a TrackedRow, which was tried: a proof knows that each number of a slice fits where the slice is a
+// parameter, and not where it is a field, and "no slot lies past 65,535" is needed.
 pub fn transfer_row(
     which: AnalysisKind,
-    sheet: &[u8],
-    sizes: Sizes,
-    firsts: &[u16],
+    sheet: &RangedSheet,
     slots: &[u16],
     pc: usize,
     length_fact: FactCell,
@@ -67,23 +62,23 @@ pub fn transfer_row(
     out_kinds: &mut [u8],
     out_values: &mut [u64],
 )
-    requires accepted { Accepted sheet.now sizes × Holds (first_range sheet.now) (code_count sheet.now) firsts.now × (pc < sizes.code_count) }
+    requires below { pc < sheet.now.sheet.now.sizes.code_count }
     requires readable_row { ReadableRow slots.now kinds.now values.now
         × (length out_kinds.old ≡ length slots.now) × (length out_values.old ≡ length slots.now) }
     ensures { let old = row_slices kinds.now values.now in
         let out = lent_row out_kinds out_values in
-        RowLies (transfer_row which sheet.now slots.now (λ p. fact_in length_fact) pc (facts_in old)) out.exit }
+        RowLies (transfer_row which sheet.now.sheet.now.bytes.now slots.now (λ p. fact_in length_fact) pc (facts_in old)) out.exit }
 {
-    let inst = sheet_fields::instruction_at(sheet, pc);
+    let inst = sheet.sheet.instruction(pc);
     let row = TrackedRow {
         slots,
         kinds,
         values,
     };
-    let effect = effect_of(which, sheet, sizes, &row, pc, inst);
-    let written = slots_written(which, sheet, sizes, firsts, &row, pc, inst);
+    let effect = effect_of(which, sheet.sheet, &row, pc, inst);
+    let written = sheet.slots_written(which, &row, pc, inst);
     out_kinds.copy_from_slice(kinds);
     out_values.copy_from_slice(values);
-    write_slots(effect, written, sheet, sizes, &row, out_kinds, out_values);
+    write_slots(effect, written, sheet.sheet, &row, out_kinds, out_values);
     set_checked(which, inst, length_fact, slots, out_kinds, out_values);
 }

@@ -2,14 +2,13 @@
 ghost use Rattle.std.specs.Prelude.{◌≡◌, ◌-◌, ◌≤◌, length, get_or};
 ghost use Rattle.model.specs.Promise.{lent_row};
 ghost use Rattle.model.specs.Written.{in_range};
-ghost use Rattle.sheet.specs.Measured.{Measured};
 ghost use Rattle.transfer_facts.specs.Effect.{effect_cell};
 ghost use Rattle.fact_row.specs.Tracked.{facts_read};
 ghost use Rattle.transfer_written.specs.Ranges.{holds_slot, ranges_end};
 ghost use Rattle.transfer.specs.Wrote.{Wrote};
 
 use fact_row::{TrackedRow, lower_bound};
-use sheet::Sizes;
+use sheet_fields::Sheet;
 use transfer_facts::{Effect, effect_on_slot};
 use transfer_written::{Written, range_count, range_of};
 
@@ -48,23 +47,22 @@ fn write_range(
 pub fn write_slots(
     effect: Effect,
     written: Written,
-    sheet: &[u8],
-    sizes: Sizes,
+    sheet: &Sheet,
     row: &TrackedRow,
     out_kinds: &mut [u8],
     out_values: &mut [u64],
 )
-    requires measured { Measured sheet.now sizes × (ranges_end written ≤ sizes.range_count) }
+    requires fitting_ranges { ranges_end written ≤ sheet.now.sizes.range_count }
     requires readable_row { (length out_kinds.old ≡ length row.now.slots.now) × (length out_values.old ≡ length row.now.slots.now) }
     ensures { let out = lent_row out_kinds out_values in
         let cell = effect_cell effect row.now.slots.now (facts_read row.now) in
-        Wrote row.now.slots.now (holds_slot written sheet.now) cell out.entry out.exit }
+        Wrote row.now.slots.now (holds_slot written sheet.now.bytes.now) cell out.entry out.exit }
 {
     let Some(last) = row.slots.last() else {
         return;
     };
     for i in 0..range_count(written) {
-        let range = range_of(written, sheet, sizes, i);
+        let range = range_of(written, sheet, i);
         write_range(
             effect,
             *last,

@@ -4,7 +4,6 @@ ghost use Rattle.model.specs.Fact.{Fact};
 ghost use Rattle.model.specs.Successors.{imm32};
 ghost use Rattle.model.specs.Tables.{fact_in, cell_of};
 ghost use Rattle.model.specs.Transfer.{fact_for, integer, load_const, fold, shl, or, constant_rule, constant_fact};
-ghost use Rattle.sheet.specs.Measured.{Measured};
 ghost use Rattle.fact_row.specs.Target.{target_cell};
 ghost use Rattle.fact_row.specs.Tracked.{facts_read};
 ghost use Rattle.transfer_facts.specs.Folds.{folded};
@@ -13,7 +12,7 @@ use crate::{COPY, LOAD_CONST, LOAD_INT, OR, SHL};
 use cfg::imm32;
 use fact_row::TrackedRow;
 use model::{FactCell, Instruction};
-use sheet::Sizes;
+use sheet_fields::Sheet;
 
 // "constant kinds (k bytes: 0 other, 1 integer)": numbers, since a sheet may hold any byte
 const INTEGER: u8 = 1;
@@ -32,12 +31,11 @@ fn integer_cell(number: i64) -> FactCell
 
 // LoadConst of an integer constant; any other, and a number from k up, is Unknown.
 #[tactic(auto, unfolding(model::specs::Fact::kind, model::specs::Fact::value, model::specs::Tables::cell_of, model::specs::Transfer::load_const, model::specs::Transfer::loaded))]
-fn load_const_cell(sheet: &[u8], sizes: Sizes, i: usize) -> FactCell
-    requires { Measured sheet.now sizes }
-    ensures { result ≡ cell_of (load_const sheet.now i) }
+fn load_const_cell(sheet: &Sheet, i: usize) -> FactCell
+    ensures { result ≡ cell_of (load_const sheet.now.bytes.now i) }
 {
-    if i < sizes.constant_count && sheet_fields::constant_kind_at(sheet, sizes, i) == INTEGER {
-        integer_cell(sheet_fields::constant_bits_at(sheet, sizes, i).cast_signed())
+    if i < sheet.sizes.constant_count && sheet.constant_kind(i) == INTEGER {
+        integer_cell(sheet.constant_bits(i).cast_signed())
     } else {
         FactCell::UNKNOWN
     }
@@ -67,19 +65,14 @@ fn fold_u64_constant_binary<F: FnOnce(u64, u64) -> Option<u64>>(
 
 // `constant_fact_written_to_slot`: what a becomes, of an instruction that is no CopyN; any other slot that it writes becomes Unknown.
 #[tactic(auto, using(fact_row::proofs::TargetCell::targeted, crate::proofs::Targets::unknown_everywhere), unfolding(model::specs::Opcode::select, model::specs::Transfer::constant_rule, model::specs::Transfer::constant_fact, model::specs::Transfer::copied))]
-pub fn constant_fact_written_to_slot(
-    sheet: &[u8],
-    sizes: Sizes,
-    row: &TrackedRow,
-    inst: Instruction,
-) -> FactCell
-    requires { Measured sheet.now sizes × (inst.op ≡ 4 → ⊥) }
+pub fn constant_fact_written_to_slot(sheet: &Sheet, row: &TrackedRow, inst: Instruction) -> FactCell
+    requires { inst.op ≡ 4 → ⊥ }
     ensures { ((slot : ℕ) → target_cell (eqb inst.a slot) result
-        ≡ cell_of (constant_fact (constant_rule inst.op) sheet.now inst row.now.slots.now (facts_read row.now) slot)) }
+        ≡ cell_of (constant_fact (constant_rule inst.op) sheet.now.bytes.now inst row.now.slots.now (facts_read row.now) slot)) }
 {
     match inst.op {
         LOAD_INT => integer_cell(i64::from(imm32(inst))),
-        LOAD_CONST => load_const_cell(sheet, sizes, usize::from(inst.b)),
+        LOAD_CONST => load_const_cell(sheet, usize::from(inst.b)),
         COPY => row.fact_for_tracked_source(usize::from(inst.b)),
         SHL => fold_u64_constant_binary(
             row,

@@ -3,7 +3,6 @@ ghost use Rattle.std.specs.Prelude.{◌≡◌, ◌+◌, ◌-◌, ◌<◌};
 ghost use Rattle.model.specs.Sheet.{instruction};
 ghost use Rattle.model.specs.Written.{in_range};
 ghost use Rattle.model.specs.declared.AnalysisKind.TheVariants.{Container};
-ghost use Rattle.sheet.specs.Measured.{Measured};
 ghost use Rattle.fact_row.specs.Tracked.{facts_read};
 ghost use Rattle.transfer_facts.specs.Effect.{effect_cell, effect_of, offset_found};
 
@@ -13,7 +12,7 @@ use crate::containers::{container_fact_written_to_slot, iter_next_cell};
 use crate::index::index_check_fact_written_to_slot;
 use fact_row::TrackedRow;
 use model::{AnalysisKind, FactCell, Instruction};
-use sheet::Sizes;
+use sheet_fields::Sheet;
 
 // "Opcodes (decimal)": numbers, since an instruction may hold any byte.
 const COPY_N: u8 = 4;
@@ -21,16 +20,10 @@ const COPY_N: u8 = 4;
 const MAP_ITER_NEXT: u8 = 95;
 
 // What the container analysis knows of the slots that an instruction writes, if it is no CopyN. "MapIterNext covers 7 slots.", from b on.
-fn container_effect(
-    sheet: &[u8],
-    sizes: Sizes,
-    row: &TrackedRow,
-    pc: usize,
-    inst: Instruction,
-) -> Effect
-    requires measured { Measured sheet.now sizes × (pc < sizes.code_count) × (inst ≡ instruction sheet.now pc) }
+fn container_effect(sheet: &Sheet, row: &TrackedRow, pc: usize, inst: Instruction) -> Effect
+    requires instruction_there { (pc < sheet.now.sizes.code_count) × (inst ≡ instruction sheet.now.bytes.now pc) }
     requires other_opcode { inst.op ≡ 4 → ⊥ }
-    ensures { result ≡ effect_of Container sheet.now pc row.now.slots.now (facts_read row.now) }
+    ensures { result ≡ effect_of Container sheet.now.bytes.now pc row.now.slots.now (facts_read row.now) }
 {
     match inst.op {
         MAP_ITER_NEXT => Effect::Filled {
@@ -41,7 +34,7 @@ fn container_effect(
         _ => Effect::Filled {
             start: inst.a,
             count: 1,
-            cell: container_fact_written_to_slot(sheet, sizes, row, pc, inst),
+            cell: container_fact_written_to_slot(sheet, row, pc, inst),
         },
     }
 }
@@ -49,14 +42,13 @@ fn container_effect(
 // What an instruction makes of the slots that it writes, in one of the analyses. CopyN is the same in all three.
 pub fn effect_of(
     which: AnalysisKind,
-    sheet: &[u8],
-    sizes: Sizes,
+    sheet: &Sheet,
     row: &TrackedRow,
     pc: usize,
     inst: Instruction,
 ) -> Effect
-    requires { Measured sheet.now sizes × (pc < sizes.code_count) × (inst ≡ instruction sheet.now pc) }
-    ensures { result ≡ effect_of which sheet.now pc row.now.slots.now (facts_read row.now) }
+    requires { (pc < sheet.now.sizes.code_count) × (inst ≡ instruction sheet.now.bytes.now pc) }
+    ensures { result ≡ effect_of which sheet.now.bytes.now pc row.now.slots.now (facts_read row.now) }
 {
     if inst.op == COPY_N {
         return Effect::Copied {
@@ -69,14 +61,14 @@ pub fn effect_of(
         AnalysisKind::Constant => Effect::Filled {
             start: inst.a,
             count: 1,
-            cell: constant_fact_written_to_slot(sheet, sizes, row, inst),
+            cell: constant_fact_written_to_slot(sheet, row, inst),
         },
         AnalysisKind::IndexCheck => Effect::Filled {
             start: inst.a,
             count: 1,
             cell: index_check_fact_written_to_slot(row, inst),
         },
-        AnalysisKind::Container => { container_effect(sheet, sizes, row, pc, inst) }
+        AnalysisKind::Container => { container_effect(sheet, row, pc, inst) }
     }
 }
 

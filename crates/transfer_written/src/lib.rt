@@ -1,12 +1,25 @@
 // "Written slots": which slots an instruction writes, found once, and whether a slot is among them.
 #![tactic(auto)]
 
+ghost use Rattle.model.specs.Sheet.{code_count, first_range};
+ghost use Rattle.memory.specs.Front.{Holds};
+ghost use Rattle.sheet.specs.Measured.{Accepted};
+
 mod elements;
 mod ranges;
 mod slots;
 
 pub use ranges::{range_count, range_of};
-pub use slots::{index_check_instruction_writes_slot, instruction_writes_slot, slots_written};
+use sheet_fields::Sheet;
+
+// A sheet that none of the questions 1 to 5 refuses, and the number of each instruction's first range.
+#[derive(Clone, Copy)]
+pub struct RangedSheet<'a> {
+    pub sheet: &'a Sheet<'a>,
+    pub firsts: &'a [u16],
+    pub ghost accepted: { Accepted sheet.now.bytes.now sheet.now.sizes },
+    pub ghost held: { Holds (first_range sheet.now.bytes.now) (code_count sheet.now.bytes.now) firsts.now },
+}
 
 // The slots that an instruction writes: those of one range, or of count ranges of the sheet from the range first on.
 #[derive(Clone, Copy)]

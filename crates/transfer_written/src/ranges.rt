@@ -1,14 +1,10 @@
 // Ranges of slots, in whole numbers.
 ghost use Rattle.std.specs.Prelude.{◌≡◌, ◌*◌, ◌<◌, ◌≤◌, min};
-ghost use Rattle.model.specs.Sheet.{code_count, first_range, erred};
 ghost use Rattle.model.specs.Written.{in_range};
-ghost use Rattle.memory.specs.Front.{Holds};
-ghost use Rattle.sheet.specs.Measured.{Measured, Accepted};
 ghost use Rattle.transfer_written.specs.Ranges.{holds_slot, slot_range_count, slot_range, ranges_end};
-ghost use Rattle.transfer_written.specs.Spans.{range_spans};
 
-use crate::{SlotRange, Written};
-use sheet::Sizes;
+use crate::{RangedSheet, SlotRange, Written};
+use sheet_fields::Sheet;
 
 // the write count of an instruction whose visitor erred
 const ERRED: u16 = 65535;
@@ -42,27 +38,27 @@ pub fn range_count(written: Written) -> usize
 
 // The i-th of them.
 #[tactic(auto, using(sheet::proofs::SizeLimits::limited), unfolding(crate::specs::Ranges::slot_range, crate::specs::Ranges::slot_range_count, crate::specs::Ranges::ranges_end))]
-pub fn range_of(written: Written, sheet: &[u8], sizes: Sizes, i: usize) -> SlotRange
-    requires { Measured sheet.now sizes × (ranges_end written ≤ sizes.range_count) × (i < slot_range_count written) }
-    ensures { result ≡ slot_range written sheet.now i }
+pub fn range_of(written: Written, sheet: &Sheet, i: usize) -> SlotRange
+    requires { (ranges_end written ≤ sheet.now.sizes.range_count) × (i < slot_range_count written) }
+    ensures { result ≡ slot_range written sheet.now.bytes.now i }
 {
     match written {
         Written::Span { start, count } => SlotRange { start, count },
         Written::Ranges { first, count: _ } => SlotRange {
-            start: sheet_fields::range_start_at(sheet, sizes, first + i),
-            count: u64::from(sheet_fields::range_length_at(sheet, sizes, first + i)),
+            start: sheet.range_start(first + i),
+            count: u64::from(sheet.range_length(first + i)),
         },
     }
 }
 
 // Whether the slot is among them. No range is read after the first that holds it.
 #[tactic(auto, using(crate::proofs::RangeLoop::none_yet, crate::proofs::RangeLoop::none_of_all, crate::proofs::RangeLoop::none_more, crate::proofs::RangeLoop::one_holds))]
-pub fn holds(sheet: &[u8], sizes: Sizes, written: Written, slot: u16) -> bool
-    requires { Measured sheet.now sizes × (ranges_end written ≤ sizes.range_count) }
-    ensures { result ≡ holds_slot written sheet.now slot }
+pub fn holds(sheet: &Sheet, written: Written, slot: u16) -> bool
+    requires { ranges_end written ≤ sheet.now.sizes.range_count }
+    ensures { result ≡ holds_slot written sheet.now.bytes.now slot }
 {
     for i in 0..range_count(written) {
-        let range = range_of(written, sheet, sizes, i);
+        let range = range_of(written, sheet, i);
         if in_range(slot, range.start, range.count) {
             return true;
         }
@@ -70,20 +66,26 @@ pub fn holds(sheet: &[u8], sizes: Sizes, written: Written, slot: u16) -> bool
     false
 }
 
-// "For all other opcodes the ranges decide .., and an erring visitor writes all." `firsts` holds the number of each instruction's first range.
-#[tactic(auto, using(sheet::proofs::AcceptedSheet::measured, crate::proofs::Spans::in_code, crate::proofs::Spans::in_firsts), unfolding(model::specs::Sheet::erred, crate::specs::Spans::range_spans))]
-pub fn ranges_written(sheet: &[u8], sizes: Sizes, firsts: &[u16], pc: usize) -> Written
-    requires { Accepted sheet.now sizes × Holds (first_range sheet.now) (code_count sheet.now) firsts.now × (pc < sizes.code_count) }
-    ensures { result ≡ range_spans (erred sheet.now pc) sheet.now pc }
-{
-    match sheet_fields::write_count_at(sheet, sizes, pc) {
-        ERRED => Written::Span {
-            start: 0,
-            count: 65536,
-        },
-        count => Written::Ranges {
-            first: usize::from(firsts[pc]),
-            count: usize::from(count),
-        },
+impl RangedSheet<'_> {
+    ghost use Rattle.std.specs.Prelude.{◌≡◌, ◌<◌};
+    ghost use Rattle.model.specs.Sheet.{erred};
+    ghost use Rattle.transfer_written.specs.Spans.{range_spans};
+
+    // "For all other opcodes the ranges decide .., and an erring visitor writes all."
+    #[tactic(auto, using(crate::proofs::Spans::in_code, crate::proofs::Spans::in_firsts), unfolding(model::specs::Sheet::erred, crate::specs::Spans::range_spans))]
+    pub fn ranges_written(&self, pc: usize) -> Written
+        requires { pc < self.now.sheet.now.sizes.code_count }
+        ensures { result ≡ range_spans (erred self.now.sheet.now.bytes.now pc) self.now.sheet.now.bytes.now pc }
+    {
+        match self.sheet.write_count(pc) {
+            ERRED => Written::Span {
+                start: 0,
+                count: 65536,
+            },
+            count => Written::Ranges {
+                first: usize::from(self.firsts[pc]),
+                count: usize::from(count),
+            },
+        }
     }
 }

@@ -10,8 +10,8 @@ use Rattle.fixpoint.proofs.list.run_to_fixpoint.Given as goal
 
 abbrev pub invariant-loop-top : goal.invariant-loop-top
 invariant-loop-top l =
-    Turn l.which l.sheet l.slots l.length_kinds l.length_values (facts_of l.initial.row_kinds l.initial.row_values) l.resources.work (length l.initial.work_list) (run_memory l.present l.kinds l.values l.row_kinds l.row_values l.work_list) l.top l.pops l.rest
+    Turn l.which l.sheet.bytes.now l.slots l.length_kinds l.length_values (facts_of l.initial.row_kinds l.initial.row_values) l.resources.work (length l.initial.work_list) (run_memory l.present l.kinds l.values l.row_kinds l.row_values l.work_list) l.top l.pops l.rest
 
 abbrev pub decreases-loop-top : goal.decreases-loop-top
 decreases-loop-top l =
-    code_count l.sheet * (1 + 2 * length l.slots) - l.pops
+    code_count l.sheet.bytes.now * (1 + 2 * length l.slots) - l.pops

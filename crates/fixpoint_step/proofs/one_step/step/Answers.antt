@@ -34,7 +34,7 @@ slice_bounds-transfer_row-end-2 c = omega (arith, step_end (c.requires.sheet_ind
 pub transfer_row-requires : goal.transfer_row-requires
 transfer_row-requires c =
     let asks = transfer_asks (c.requires.sheet_index, c.requires.memory_ready) in
-    record { accepted = asks.0; readable_row = asks.1 }
+    record { below = asks.0; readable_row = asks.1 }
 
 pub visit_successors-requires : goal.visit_successors-requires
 visit_successors-requires c = visiting (c.requires.sheet_index, c.requires.memory_ready) _ _ c.transfer_row.ensures

@@ -9,5 +9,5 @@ use Rattle.fixpoint_step.proofs.successors.visit_successors.Given as goal
 
 abbrev pub invariant-loop-q : goal.invariant-loop-q
 invariant-loop-q l =
-    SuccessorsEnsures (equal_by l.which l.classes) (take l.q-index (sheet_successors l.sheet l.p)) (table_slices l.initial.present l.initial.kinds l.initial.values)
+    SuccessorsEnsures (equal_by l.which l.classes) (take l.q-index (sheet_successors l.sheet.bytes.now l.p)) (table_slices l.initial.present l.initial.kinds l.initial.values)
     (row_slices l.row_kinds l.row_values) (table_slices l.present l.kinds l.values) l.news

@@ -3,25 +3,20 @@ use mathlib.Core.Path.{ap, ◌∙◌}
 use lib.ListN.{length}
 use native.Mathlib.Omega.{arith}
 use Rattle.model.specs.Tables.{facts_of}
-use Rattle.sheet.proofs.AcceptedSheet.{measured}
-use Rattle.sheet.proofs.FieldBounds.{code_inside}
 use Rattle.transfer_written.proofs.WrittenSlots.{written_are}
 use Rattle.transfer.proofs.RowTransfers.{transferred}
 use Rattle.transfer.proofs.row.transfer_row.Goals as goal
 
-pub instruction_at-inst-requires : goal.instruction_at-inst-requires
-instruction_at-inst-requires c = code_inside (measured c.requires.accepted.0) _ c.requires.accepted.2
-
 pub write_slots-requires : goal.write_slots-requires
 write_slots-requires c =
     record {
-      measured = (measured c.requires.accepted.0, rw c.slots_written-written.ensures (written_are c.requires.accepted.0 c.args.pc c.requires.accepted.2 c.args.which c.args.slots.now (facts_of c.args.kinds.now c.args.values.now)).fits);
+      fitting_ranges = rw c.slots_written-written.ensures (written_are c.args.sheet.now.accepted c.args.pc c.requires.below c.args.which c.args.slots.now (facts_of c.args.kinds.now c.args.values.now)).fits;
       readable_row = (ap length c.copy_from_slice.ensures.after ∙ c.requires.readable_row.0.kinds_long, ap length c.copy_from_slice-2.ensures.after ∙ c.requires.readable_row.0.values_long);
     }
 
 pub returns : goal.returns
 returns c =
-    transferred c.args.sheet.now c.args.pc c.args.slots.now (facts_of c.args.kinds.now c.args.values.now) c.args.which _ _
-    c.instruction_at-inst.ensures c.requires.readable_row.0.lies c.copy_from_slice.ensures.after c.copy_from_slice-2.ensures.after c.requires.readable_row.0.kinds_long c.requires.readable_row.0.values_long
-    (λ k l. omega (arith, c.type_inv.slots k)) c.slots_written-written.result c.args.sizes
-    (rw c.slots_written-written.ensures (written_are c.requires.accepted.0 c.args.pc c.requires.accepted.2 c.args.which c.args.slots.now (facts_of c.args.kinds.now c.args.values.now))) _ c.effect_of-effect.ensures c.write_slots.ensures c.set_checked.ensures
+    transferred c.args.sheet.now.sheet.now.bytes.now c.args.pc c.args.slots.now (facts_of c.args.kinds.now c.args.values.now) c.args.which _ _
+    c.instruction-inst.ensures c.requires.readable_row.0.lies c.copy_from_slice.ensures.after c.copy_from_slice-2.ensures.after c.requires.readable_row.0.kinds_long c.requires.readable_row.0.values_long
+    (λ k l. omega (arith, c.type_inv.slots k)) c.slots_written-written.result c.args.sheet.now.sheet.now.sizes
+    (rw c.slots_written-written.ensures (written_are c.args.sheet.now.accepted c.args.pc c.requires.below c.args.which c.args.slots.now (facts_of c.args.kinds.now c.args.values.now))) _ c.effect_of-effect.ensures c.write_slots.ensures c.set_checked.ensures

@@ -3,4 +3,4 @@ use Rattle.transfer_written.proofs.RangeLoop.{NoneHolds}
 use Rattle.transfer_written.proofs.ranges.holds.Given as goal
 
 abbrev pub invariant-loop-i : goal.invariant-loop-i
-invariant-loop-i l = NoneHolds l.written l.sheet l.slot l.i
+invariant-loop-i l = NoneHolds l.written l.sheet.bytes.now l.slot l.i
