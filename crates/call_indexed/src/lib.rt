@@ -13,15 +13,14 @@ ghost use Rattle.sheet_layouts.specs.Classes.{Classes};
 use call_order::answer_of;
 use call_values::analyze_values;
 use model::{AnalysisKind, Answer, VerifierResources};
-use sheet::Sizes;
+use sheet_fields::Sheet;
 use stage::analyze_stage;
 use stage_memory::clear_table_if;
 
 // The call of a sheet that questions 1 to 5 accept, with what `index_sheet` finds of it, and marks and stack that have room ("6. Have the marks and
 // the closure's stack at least L entries each?"). It promises what `analyze` promises.
 pub fn analyze_indexed(
-    sheet: &[u8],
-    sizes: Sizes,
+    sheet: &Sheet,
     firsts: &[u16],
     classes: &[u16],
     resources: VerifierResources,
@@ -43,18 +42,17 @@ pub fn analyze_indexed(
     row_values: &mut [u64],
     work_list: &mut [u16],
 ) -> Answer
-    requires { Accepted sheet.now sizes × Holds (first_range sheet.now) (code_count sheet.now) firsts.now × Classes sheet.now classes.now
-        × (local_slots sheet.now ≤ length marks.old) × (local_slots sheet.now ≤ length stack.old) }
+    requires { Accepted sheet.now.bytes.now sheet.now.sizes × Holds (first_range sheet.now.bytes.now) (code_count sheet.now.bytes.now) firsts.now × Classes sheet.now.bytes.now classes.now
+        × (local_slots sheet.now.bytes.now ≤ length marks.old) × (local_slots sheet.now.bytes.now ≤ length stack.old) }
     ensures { let l = lent_call
         (lent_table constant_slots constant_present constant_kinds constant_values)
         (lent_table index_slots index_present index_kinds index_values)
         (lent_table container_slots container_present container_kinds container_values)
         (lent_scratch marks stack row_kinds row_values work_list) in
-        some (call_result result l.exit) ≡ analyzed sheet.now resources l.entry }
+        some (call_result result l.exit) ≡ analyzed sheet.now.bytes.now resources l.entry }
 {
     let values = analyze_values(
         sheet,
-        sizes,
         firsts,
         classes,
         resources,
@@ -79,7 +77,6 @@ pub fn analyze_indexed(
     let containers = analyze_stage(
         AnalysisKind::Container,
         sheet,
-        sizes,
         firsts,
         classes,
         &unknown_kinds,

@@ -4,7 +4,7 @@ use Rattle.std.specs.Prelude.{Err, Ok, is_err}
 use mathlib.Core.Path.{◌≡◌, refl, ap, ◌∙◌}
 use mathlib.Core.Bool.{true, false}
 use mathlib.Core.Option.{some}
-use Rattle.model.specs.Charges.{Refusal, over_budget, no_room, Spent, ok, stop, unfinished, Metered, give, continue}
+use Rattle.model.specs.Charges.{Refusal, Spent, ok, stop, unfinished, Metered, give, continue}
 use Rattle.model.specs.declared.VerifierResources.{VerifierResources}
 use Rattle.budget.specs.Outcome.{Outcome, refused_by, as_spent, Leaves, leaves, leaves_of}
 use Rattle.budget.proofs.Outcomes.{Left, covered, stopped, left_by, stopped_spent}

@@ -1,12 +1,12 @@
 -- The constants' facts that the index analysis reads: the tables they come from, and the tables they are stored in.
 -- Assumes nothing.
 use Rattle.std.specs.Prelude.{◌≡◌, Bool, true, false, List, ℕ, eqb, length}
-use Rattle.std.proofs.Math.Option.{Option, some}
+use Rattle.std.proofs.Math.Option.{Option}
 use Rattle.model.specs.Fact.{Fact, unknown, kind, value, Row}
 use Rattle.model.specs.Sheet.{code_count, instruction}
 use Rattle.model.specs.Opcode as O
 use Rattle.model.specs.Run.{row_at}
-use Rattle.model.specs.Tables.{present_bytes, cells, TableSlices, RowsLie}
+use Rattle.model.specs.Tables.{TableSlices, RowsLie}
 use Rattle.model.specs.Analyses.{row_fact}
 use Rattle.model.specs.Transfer.{checked_from}
 use Rattle.model.specs.Lookup.{ascends}

@@ -1,12 +1,9 @@
 -- The output of the constant analysis, from which the length facts are found.
 -- Assumes nothing.
 use Rattle.std.specs.Prelude.{◌≡◌, true, List, ℕ, ◌*◌, ◌≤◌, ◌<◌, length, take}
-use Rattle.std.proofs.Math.Option.{some}
 use Rattle.model.specs.Call.{Table}
 use Rattle.model.specs.Sheet.{code_count, instruction}
-use Rattle.model.specs.Fact.{kind, value, Row}
-use Rattle.model.specs.Run.{row_at}
-use Rattle.model.specs.Tables.{present_bytes, cells, RowsLie, table_slices}
+use Rattle.model.specs.Tables.{RowsLie, table_slices}
 use Rattle.model.specs.Analyses.{Analysed, length_facts}
 use Rattle.model.specs.Lookup.{ascends}
 use Rattle.model.specs.declared.Counts.{Counts}

@@ -7,13 +7,12 @@ ghost use Rattle.model.specs.Run.{row_at};
 ghost use Rattle.model.specs.Tables.{cell_of, length_table, table_slices};
 ghost use Rattle.model.specs.Transfer.{checked_from};
 ghost use Rattle.model.specs.Analyses.{Analysed, row_fact, length_facts};
-ghost use Rattle.sheet.specs.Measured.{Measured};
 ghost use Rattle.call_order.specs.Lengths.{EndedRows, length_fact, length_kinds, length_values};
 
 use crate::INDEX_CHECK;
-use fact_row::{checked_cell, find, wide};
+use fact_row::{checked_cell, find};
 use model::FactCell;
-use sheet::Sizes;
+use sheet_fields::Sheet;
 
 // The fact of a slot in the row at pc: Unknown where the row is absent or the slot is not tracked.
 fn row_fact(
@@ -43,22 +42,21 @@ fn row_fact(
 
 // What stands in the table for the instruction at pc.
 fn length_fact(
-    sheet: &[u8],
-    sizes: Sizes,
+    sheet: &Sheet,
     slots: &[u16],
     present: &[u8],
     kinds: &[u8],
     values: &[u64],
     pc: usize,
 ) -> FactCell
-    requires measured { Measured sheet.now sizes × ((rows : List (Option Row)) × EndedRows slots.now rows (table_slices present.now kinds.now values.now)) }
-    requires pc_bound { (pc < sizes.code_count) × (length present.now ≡ sizes.code_count) }
+    requires ended { (rows : List (Option Row)) × EndedRows slots.now rows (table_slices present.now kinds.now values.now) }
+    requires pc_bound { (pc < sheet.now.sizes.code_count) × (length present.now ≡ sheet.now.sizes.code_count) }
     ensures { (rows : List (Option Row)) → EndedRows slots.now rows (table_slices present.now kinds.now values.now)
-        → result ≡ cell_of (length_fact sheet.now slots.now rows pc) }
+        → result ≡ cell_of (length_fact sheet.now.bytes.now slots.now rows pc) }
 {
-    let inst = sheet_fields::instruction_at(sheet, pc);
+    let inst = sheet.instruction(pc);
     if inst.op == INDEX_CHECK {
-        checked_cell(row_fact(slots, present, kinds, values, pc, wide(inst.b)))
+        checked_cell(row_fact(slots, present, kinds, values, pc, usize::from(inst.b)))
     } else {
         FactCell::UNKNOWN
     }
@@ -67,8 +65,7 @@ fn length_fact(
 // For each instruction the fact that `length_fact` names, in the first n places of two tables: at each IndexCheck what it makes of the
 // ended constant run's fact of b, which is all that the index analysis reads. So a value is a length of 16 bits.
 pub fn length_facts(
-    sheet: &[u8],
-    sizes: Sizes,
+    sheet: &Sheet,
     slots: &[u16],
     present: &[u8],
     kinds: &[u8],
@@ -76,19 +73,19 @@ pub fn length_facts(
     out_kinds: &mut [u8],
     out_values: &mut [u16],
 )
-    requires measured { Measured sheet.now sizes × ((rows : List (Option Row)) × EndedRows slots.now rows (table_slices present.now kinds.now values.now)) }
-    requires present_len { (length present.now ≡ sizes.code_count) × (sizes.code_count ≤ length out_kinds.old) × (sizes.code_count ≤ length out_values.old) }
+    requires ended { (rows : List (Option Row)) × EndedRows slots.now rows (table_slices present.now kinds.now values.now) }
+    requires present_len { (length present.now ≡ sheet.now.sizes.code_count) × (sheet.now.sizes.code_count ≤ length out_kinds.old) × (sheet.now.sizes.code_count ≤ length out_values.old) }
     ensures stored { (rows : List (Option Row)) → EndedRows slots.now rows (table_slices present.now kinds.now values.now)
-        → (out_kinds.new ≡ length_kinds sheet.now slots.now rows out_kinds.old)
-        × (out_values.new ≡ length_values sheet.now slots.now rows out_values.old) }
+        → (out_kinds.new ≡ length_kinds sheet.now.bytes.now slots.now rows out_kinds.old)
+        × (out_values.new ≡ length_values sheet.now.bytes.now slots.now rows out_values.old) }
     ensures read { (constants : Analysed) → constants.slots ≡ slots.now
         → EndedRows slots.now constants.rows (table_slices present.now kinds.now values.now)
-        → (pc : ℕ) → pc < code_count sheet.now → (instruction sheet.now pc).op ≡ 121
-        → checked_from (length_table out_kinds.new out_values.new pc) ≡ checked_from (length_facts sheet.now constants pc) }
+        → (pc : ℕ) → pc < code_count sheet.now.bytes.now → (instruction sheet.now.bytes.now pc).op ≡ 121
+        → checked_from (length_table out_kinds.new out_values.new pc) ≡ checked_from (length_facts sheet.now.bytes.now constants pc) }
 {
-    let n = sizes.code_count;
+    let n = sheet.sizes.code_count;
     for pc in 0..n {
-        let cell = length_fact(sheet, sizes, slots, present, kinds, values, pc);
+        let cell = length_fact(sheet, slots, present, kinds, values, pc);
         out_kinds[pc] = cell.kind;
         out_values[pc] = cell.value as u16;
     }

@@ -2,18 +2,16 @@
 ghost use Rattle.std.specs.Prelude.{◌≡◌, true, false, ◌≤◌, is_err, length};
 ghost use Rattle.model.specs.Call.{table};
 ghost use Rattle.model.specs.Analyses.{Analysed};
-ghost use Rattle.sheet.specs.Measured.{Measured};
 ghost use Rattle.call_order.specs.Stored.{Stored, Lengthened};
 
 use crate::facts::length_facts;
 use budget::Outcome;
 use model::Counts;
-use sheet::Sizes;
+use sheet_fields::Sheet;
 
 // The constants' facts at each IndexCheck, from the output of the constant analysis; nothing where the outcome so far is a refusal.
 pub fn store_lengths(
-    sheet: &[u8],
-    sizes: Sizes,
+    sheet: &Sheet,
     constant: Counts,
     slots: &[u16],
     present: &[u8],
@@ -23,24 +21,23 @@ pub fn store_lengths(
     length_kinds: &mut [u8],
     length_values: &mut [u16],
 )
-    requires measured { Measured sheet.now sizes × (sizes.code_count ≤ length length_kinds.old) × (sizes.code_count ≤ length length_values.old) }
+    requires room { (sheet.now.sizes.code_count ≤ length length_kinds.old) × (sheet.now.sizes.code_count ≤ length length_values.old) }
     requires constants_stored { is_err before ≡ false
-        → (a : Analysed) × Stored sheet.now a constant (table slots.now present.now kinds.now values.now) }
+        → (a : Analysed) × Stored sheet.now.bytes.now a constant (table slots.now present.now kinds.now values.now) }
     ensures stored { is_err before ≡ false
-        → (a : Analysed) → Stored sheet.now a constant (table slots.now present.now kinds.now values.now)
-        → Lengthened sheet.now a length_kinds.old length_values.old length_kinds.new length_values.new }
+        → (a : Analysed) → Stored sheet.now.bytes.now a constant (table slots.now present.now kinds.now values.now)
+        → Lengthened sheet.now.bytes.now a length_kinds.old length_values.old length_kinds.new length_values.new }
     ensures kept { is_err before ≡ true
         → (length_kinds.new ≡ length_kinds.old) × (length_values.new ≡ length_values.old) }
 {
     if before.is_err() {
         return;
     }
-    let n = sizes.code_count;
+    let n = sheet.sizes.code_count;
     let s = constant.tracked as usize;
     let cells = n * s;
     length_facts(
         sheet,
-        sizes,
         &slots[..s],
         &present[..n],
         &kinds[..cells],

@@ -17,7 +17,7 @@ use call_order::{counts_unless, store_lengths};
 use closure_edges::charge_graph;
 use fixpoint_list::clear;
 use model::{AnalysisKind, Counts, VerifierResources};
-use sheet::Sizes;
+use sheet_fields::Sheet;
 use stage::analyze_stage;
 use stage_memory::{clear_scratch, clear_table_if};
 
@@ -32,8 +32,7 @@ pub struct Values {
 
 // The charges of the graph, then the constant and the index analysis, which reads the constants; both outputs are zero after a refusal.
 pub fn analyze_values(
-    sheet: &[u8],
-    sizes: Sizes,
+    sheet: &Sheet,
     firsts: &[u16],
     classes: &[u16],
     resources: VerifierResources,
@@ -51,27 +50,26 @@ pub fn analyze_values(
     row_values: &mut [u64],
     work_list: &mut [u16],
 ) -> Values
-    requires { Accepted sheet.now sizes × Holds (first_range sheet.now) (code_count sheet.now) firsts.now × Classes sheet.now classes.now
-        × (local_slots sheet.now ≤ length marks.old) × (local_slots sheet.now ≤ length stack.old) }
+    requires { Accepted sheet.now.bytes.now sheet.now.sizes × Holds (first_range sheet.now.bytes.now) (code_count sheet.now.bytes.now) firsts.now × Classes sheet.now.bytes.now classes.now
+        × (local_slots sheet.now.bytes.now ≤ length marks.old) × (local_slots sheet.now.bytes.now ≤ length stack.old) }
     ensures { (
         let c = lent_table constant_slots constant_present constant_kinds constant_values in
         let i = lent_table index_slots index_present index_kinds index_values in
         let w = lent_scratch marks stack row_kinds row_values work_list in
-        let room : Table → ℕ → Bool = λ t. room_for (code_count sheet.now) t w.entry.row_kinds w.entry.row_values w.entry.work_list in
+        let room : Table → ℕ → Bool = λ t. room_for (code_count sheet.now.bytes.now) t w.entry.row_kinds w.entry.row_values w.entry.work_list in
         some (leaves result.outcome (valued result.constant result.index c.exit i.exit w.exit))
         ≡ leaves_of (valued_by c.entry i.entry w.entry) (no_values c.entry i.entry w.entry)
-        (values sheet.now (room c.entry) (room i.entry) resources)
+        (values sheet.now.bytes.now (room c.entry) (room i.entry) resources)
         ) }
 {
     clear_scratch(marks, stack, row_kinds, row_values);
     clear(work_list);
     let mut length_kinds = [0u8; 4096];
     let mut length_values = [0u16; 4096];
-    let begun = charge_graph(sheet, sizes, resources);
+    let begun = charge_graph(sheet, resources);
     let constants = analyze_stage(
         AnalysisKind::Constant,
         sheet,
-        sizes,
         firsts,
         classes,
         &length_kinds,
@@ -91,7 +89,6 @@ pub fn analyze_values(
     let ended = constants.outcome;
     store_lengths(
         sheet,
-        sizes,
         constant,
         constant_slots,
         constant_present,
@@ -104,7 +101,6 @@ pub fn analyze_values(
     let staged = analyze_stage(
         AnalysisKind::IndexCheck,
         sheet,
-        sizes,
         firsts,
         classes,
         &length_kinds,

@@ -20,7 +20,7 @@ use crate::conclusion::conclude_run;
 use budget::Outcome;
 use fixpoint::run_to_fixpoint;
 use model::{AnalysisKind, Counts};
-use sheet::Sizes;
+use sheet_fields::Sheet;
 use stage_memory::clear_rows;
 use stage_prepare::{Room, prepare};
 
@@ -35,8 +35,7 @@ pub struct Staged {
 // The next analysis, in a scratch that is zero; its output is cleared, and stays so where the outcome so far is a refusal.
 pub fn analyze_stage(
     which: AnalysisKind,
-    sheet: &[u8],
-    sizes: Sizes,
+    sheet: &Sheet,
     firsts: &[u16],
     classes: &[u16],
     length_kinds: &[u8],
@@ -53,14 +52,14 @@ pub fn analyze_stage(
     work_list: &mut [u16],
 ) -> Staged
     requires { let w = scratch marks.old stack.old row_kinds.old row_values.old work_list.old in
-        SheetIndex sheet.now sizes firsts.now classes.now length_kinds.now length_values.now × ScratchZero sheet.now w }
+        SheetIndex sheet.now.bytes.now sheet.now.sizes firsts.now classes.now length_kinds.now length_values.now × ScratchZero sheet.now.bytes.now w }
     ensures { let t = lent_table slots present kinds values in
         let w = lent_scratch marks stack row_kinds row_values work_list in
-        let room = room_for (code_count sheet.now) t.entry w.entry.row_kinds w.entry.row_values w.entry.work_list in
+        let room = room_for (code_count sheet.now.bytes.now) t.entry w.entry.row_kinds w.entry.row_values w.entry.work_list in
         let lengths = length_table length_kinds.now length_values.now in
         some (leaves result.outcome (staged result.counts t.exit w.exit))
         ≡ leaves_of (staged_by t.entry w.entry) (staged no_counts (zero_table t.entry) (zero_scratch w.entry))
-        (continue (λ _. stage which sheet.now room lengths) (as_spent before)) }
+        (continue (λ _. stage which sheet.now.bytes.now room lengths) (as_spent before)) }
 {
     clear_rows(present, kinds, values);
     let room = Room {
@@ -70,7 +69,7 @@ pub fn analyze_stage(
         work_list: work_list.len(),
     };
     let prepared = match prepare(
-        which, sheet, sizes, room, before, slots, marks, stack, row_kinds, row_values,
+        which, sheet, room, before, slots, marks, stack, row_kinds, row_values,
     ) {
         Ok(prepared) => prepared,
         Err(refused) => {
@@ -94,12 +93,11 @@ pub fn analyze_stage(
             outcome: Ok(left),
         };
     }
-    let n = sizes.code_count;
+    let n = sheet.sizes.code_count;
     let cells = n * s;
     let ran = run_to_fixpoint(
         which,
         sheet,
-        sizes,
         firsts,
         classes,
         length_kinds,

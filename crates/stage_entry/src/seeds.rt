@@ -7,23 +7,20 @@ ghost use Rattle.model.specs.Tables.{RowLies, row_slices, cell_of};
 ghost use Rattle.model.specs.Parameters.{param_start, param_fact, seed_param, seed_params, param_row};
 ghost use Rattle.model.specs.Analyses.{unknown_row};
 ghost use Rattle.budget.specs.Outcome.{leaves, leaves_of};
-ghost use Rattle.sheet.specs.Measured.{Measured};
 ghost use Rattle.fact_row.specs.Rows.{WritableRow};
 ghost use Rattle.stage_entry.specs.First.{RowZero, row_laid, zero_row};
 
 use crate::layouts::charge_layouts;
 use crate::params::{param_fact, param_start};
 use budget::Outcome;
-use fact_row::{set_fact, wide};
+use fact_row::set_fact;
 use memory::clear;
 use model::{FactCell, VerifierResources};
-use sheet::Sizes;
-use sheet_fields::param_width_at;
+use sheet_fields::Sheet;
 
 // "layout bytes are charged even for an untracked slot, and of two at one slot the later stays"
 fn seed_fact(
-    sheet: &[u8],
-    sizes: Sizes,
+    sheet: &Sheet,
     slots: &[u16],
     slot: usize,
     cell: FactCell,
@@ -31,13 +28,13 @@ fn seed_fact(
     row_kinds: &mut [u8],
     row_values: &mut [u64],
 ) -> Outcome
-    requires { Measured sheet.now sizes × WritableRow slots.now row_kinds.old row_values.old }
+    requires { WritableRow slots.now row_kinds.old row_values.old }
     ensures { (row : Row) (fact : Fact) → RowLies row (row_slices row_kinds.old row_values.old) → cell ≡ cell_of fact
         → some (leaves result (row_slices row_kinds.new row_values.new))
         ≡ leaves_of row_laid (zero_row (length slots.now))
-        (seed_param sheet.now slots.now slot (some fact) row resources) }
+        (seed_param sheet.now.bytes.now slots.now slot (some fact) row resources) }
 {
-    let charged = charge_layouts(sheet, sizes, cell, resources);
+    let charged = charge_layouts(sheet, cell, resources);
     if charged.is_err() {
         clear(row_kinds);
         clear(row_values);
@@ -49,8 +46,7 @@ fn seed_fact(
 
 // Parameter i, whose first slot is given. One that is no container changes nothing.
 fn seed_param(
-    sheet: &[u8],
-    sizes: Sizes,
+    sheet: &Sheet,
     slots: &[u16],
     slot: usize,
     i: usize,
@@ -58,65 +54,61 @@ fn seed_param(
     row_kinds: &mut [u8],
     row_values: &mut [u64],
 ) -> Outcome
-    requires { Measured sheet.now sizes × (i < sizes.param_count) × WritableRow slots.now row_kinds.old row_values.old }
+    requires { (i < sheet.now.sizes.param_count) × WritableRow slots.now row_kinds.old row_values.old }
     ensures { (row : Row) → RowLies row (row_slices row_kinds.old row_values.old)
         → some (leaves result (row_slices row_kinds.new row_values.new))
         ≡ leaves_of row_laid (zero_row (length slots.now))
-        (seed_param sheet.now slots.now slot (param_fact sheet.now i) row resources) }
+        (seed_param sheet.now.bytes.now slots.now slot (param_fact sheet.now.bytes.now i) row resources) }
 {
-    let cell = param_fact(sheet, sizes, i);
+    let cell = param_fact(sheet, i);
     if cell.kind == 0 {
         return Ok(resources);
     }
-    seed_fact(
-        sheet, sizes, slots, slot, cell, resources, row_kinds, row_values,
-    )
+    seed_fact(sheet, slots, slot, cell, resources, row_kinds, row_values)
 }
 
 // All parameters in order, the first at start.
 fn seed_params(
-    sheet: &[u8],
-    sizes: Sizes,
+    sheet: &Sheet,
     slots: &[u16],
     start: u16,
     resources: VerifierResources,
     row_kinds: &mut [u8],
     row_values: &mut [u64],
 ) -> Outcome
-    requires { Measured sheet.now sizes × WritableRow slots.now row_kinds.old row_values.old }
+    requires { WritableRow slots.now row_kinds.old row_values.old }
     ensures { (row : Row) → RowLies row (row_slices row_kinds.old row_values.old)
         → some (leaves result (row_slices row_kinds.new row_values.new))
         ≡ leaves_of row_laid (zero_row (length slots.now))
-        (seed_params sheet.now slots.now start (param_count sheet.now) row resources) }
+        (seed_params sheet.now.bytes.now slots.now start (param_count sheet.now.bytes.now) row resources) }
 {
-    let count = sizes.param_count;
-    let begin = wide(start);
+    let count = sheet.sizes.param_count;
+    let begin = usize::from(start);
     let mut left = resources;
     let mut passed: usize = 0;
     for i in 0..count {
         let slot = begin + passed;
-        left = seed_param(sheet, sizes, slots, slot, i, left, row_kinds, row_values)?;
-        passed += wide(param_width_at(sheet, sizes, i));
+        left = seed_param(sheet, slots, slot, i, left, row_kinds, row_values)?;
+        passed += usize::from(sheet.param_width(i));
     }
     Ok(left)
 }
 
 // "for containers with the Parameters facts in it": a row that is zero, with these facts in it if there is a start.
 pub fn param_row(
-    sheet: &[u8],
-    sizes: Sizes,
+    sheet: &Sheet,
     slots: &[u16],
     resources: VerifierResources,
     row_kinds: &mut [u8],
     row_values: &mut [u64],
 ) -> Outcome
-    requires { Measured sheet.now sizes × RowZero slots.now row_kinds.old row_values.old }
+    requires { RowZero slots.now row_kinds.old row_values.old }
     ensures { some (leaves result (row_slices row_kinds.new row_values.new))
         ≡ leaves_of row_laid (zero_row (length slots.now))
-        (param_row sheet.now slots.now (param_start sheet.now) (unknown_row slots.now) resources) }
+        (param_row sheet.now.bytes.now slots.now (param_start sheet.now.bytes.now) (unknown_row slots.now) resources) }
 {
-    let Some(start) = param_start(sheet, sizes) else {
+    let Some(start) = param_start(sheet) else {
         return Ok(resources);
     };
-    seed_params(sheet, sizes, slots, start, resources, row_kinds, row_values)
+    seed_params(sheet, slots, start, resources, row_kinds, row_values)
 }

@@ -28,8 +28,7 @@ use Rattle.budget.proofs.Outcomes.{NotCovered, covered_leaves, stopped_then, sto
 use Rattle.finality.proofs.Closure.{closure_exact}
 use Rattle.finality.proofs.Lengths.{zeros_same}
 use Rattle.sheet.specs.declared.Sizes.{Sizes}
-use Rattle.sheet.specs.Measured.{Accepted}
-use Rattle.sheet.proofs.AcceptedSheet.{measured}
+use Rattle.sheet.specs.Measured.{Measured}
 use Rattle.sheet.proofs.SizeNames.{counted}
 use Rattle.sheet.proofs.SizeLimits.{limited}
 use Rattle.model.proofs.Tests.{both_left, both_right}
@@ -112,10 +111,10 @@ module _ (which : AnalysisKind) (sheet slots row_kinds row_values : List ℕ) (r
       exact : TrackedExactly which sheet found
       exact = closure_exact which sheet budget found left done.1
 
-      pub few_tracked : {sizes : Sizes} → Accepted sheet sizes → s ≤ 65535
-      few_tracked {sizes} a =
+      pub few_tracked : {sizes : Sizes} → Measured sheet sizes → s ≤ 65535
+      few_tracked m =
           let below = few_below (local_slots sheet) found exact.ascending exact.below in
-          let most = rw (counted a.are).local_slots_is at (limited (measured a)).local_slots_is in
+          let most = rw (counted m.are).local_slots_is at (limited m).local_slots_is in
           omega (arith, many)
 
       long : length slots' ≡ length slots

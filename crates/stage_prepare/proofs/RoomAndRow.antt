@@ -7,7 +7,7 @@ use mathlib.Core.Bool.{Bool, true, false}
 use mathlib.Core.Logic.{◌⊎◌, inl, inr}
 use mathlib.Core.List.{List, ◌∷◌, ◌++◌, map}
 use mathlib.Core.Option.{Option, some}
-use Prim.Native.Nat.{ℕ, zero, suc, ◌+◌, ◌*◌, ◌≤◌, ◌<◌}
+use Prim.Native.Nat.{ℕ, zero, suc, ◌*◌, ◌≤◌, ◌<◌}
 use native.Mathlib.Omega.{arith}
 use lib.ListN.{length, replicate, take, drop}
 use lib.Seq.{length-take-le}
@@ -23,9 +23,6 @@ use Rattle.model.specs.declared.AnalysisKind.{AnalysisKind}
 use Rattle.model.proofs.Tests.{both}
 use Rattle.budget.specs.Outcome.{Outcome, refused_by, Leaves, leaves, leaves_of}
 use Rattle.budget.proofs.Outcomes.{Left, covered, stopped, left_by, covered_leaves, stopped_leaves}
-use Rattle.sheet.specs.Measured.{Accepted, Measured}
-use Rattle.sheet.specs.declared.Sizes.{Sizes}
-use Rattle.sheet.proofs.AcceptedSheet.{measured}
 use Rattle.stage_memory.specs.Room.{room_by}
 use Rattle.stage_entry.specs.First.{RowZero, row_laid, zero_row}
 use Rattle.stage_entry.proofs.RowsMade.{lies_of}
@@ -112,18 +109,17 @@ module _ (which : AnalysisKind) (sheet : List ℕ) (n s : ℕ) (all : n ≡ code
             let v = zero_filled s row_values fit.2 zv (unknown_cells s).1 in cc))
 
     -- what the entry row asks
-    pub entry_asks : {sizes : Sizes} → n ≡ sizes.code_count → Accepted sheet sizes → s ≤ 65535 → (s ≤ length slots → ascends (take s slots) ≡ true) → (n ≡ 0 → ⊥) → (s ≡ 0 → ⊥)
-        → Measured sheet sizes × RowZero (take s slots) (take s row_kinds) (take s row_values) × (0 < sizes.code_count) × (0 < length (take s slots)) × (length (take s slots) ≤ 65535)
-    entry_asks is accepted few up some_n some_s =
+    pub entry_asks : s ≤ 65535 → (s ≤ length slots → ascends (take s slots) ≡ true) → (n ≡ 0 → ⊥) → (s ≡ 0 → ⊥)
+        → RowZero (take s slots) (take s row_kinds) (take s row_values) × (0 < n) × (0 < length (take s slots)) × (length (take s slots) ≤ 65535)
+    entry_asks few up some_n some_s =
         let long : length (take s slots) ≡ s = length-take-le s slots slots_fit in
         let fit = room_parts n s _ _ _ _ _ _ _ e in (
-          measured accepted,
           record {
             ascending = up slots_fit;
             kinds_zero = rw long (take_zero s row_kinds fit.1 zk);
             values_zero = rw long (take_zero s row_values fit.2 zv);
           },
-          rw (← is) (above n some_n),
+          above n some_n,
           rw long (above s some_s),
           rw long few,
         )

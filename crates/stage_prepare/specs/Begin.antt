@@ -6,7 +6,7 @@ use Rattle.model.specs.Charges.{no_room, stop, Metered, give, ◌>>=◌, ◌>>�
 use Rattle.model.specs.Closure.{tracked_slots}
 use Rattle.model.specs.Fact.{kind, value, Row}
 use Rattle.model.specs.Sheet.{code_count, local_slots}
-use Rattle.model.specs.Analyses.{ask_room, charge_matrix, first_row}
+use Rattle.model.specs.Analyses.{charge_matrix, first_row}
 use Rattle.model.specs.Call.{zeros, filled}
 use Rattle.model.specs.declared.AnalysisKind.{AnalysisKind}
 use Rattle.stage_memory.specs.Room.{room_by}

@@ -6,7 +6,6 @@ ghost use Rattle.model.specs.Sheet.{code_count};
 ghost use Rattle.model.specs.Lookup.{ascends};
 ghost use Rattle.model.specs.Call.{zeros};
 ghost use Rattle.budget.specs.Outcome.{leaves, leaves_of};
-ghost use Rattle.sheet.specs.Measured.{Accepted};
 ghost use Rattle.stage_prepare.specs.Begin.{begin, enter_if, enough, MarksAndRowZero, row_filled, cleared_row};
 ghost use Rattle.stage_prepare.specs.Prepare.{something, outcome_of, prepared_in, prepared_by, unprepared};
 
@@ -16,7 +15,7 @@ use budget::{Outcome, Refused};
 use closure::tracked_slots;
 use memory::clear;
 use model::{AnalysisKind, VerifierResources};
-use sheet::Sizes;
+use sheet_fields::Sheet;
 use stage_memory::room_for;
 
 // "With s or n zero it ends at once"
@@ -32,8 +31,7 @@ fn is_something(n: usize, s: usize) -> bool
 // Question 8 for s tracked slots, then the matrix charge and the entry row, in a row scratch that is zero.
 fn enter_tracked(
     which: AnalysisKind,
-    sheet: &[u8],
-    sizes: Sizes,
+    sheet: &Sheet,
     room: Room,
     s: usize,
     slots: &[u16],
@@ -41,14 +39,14 @@ fn enter_tracked(
     row_kinds: &mut [u8],
     row_values: &mut [u64],
 ) -> Outcome
-    requires { Accepted sheet.now sizes × (s ≤ 65535) × (s ≤ length slots.now → ascends (take s slots.now) ≡ true)
+    requires { (s ≤ 65535) × (s ≤ length slots.now → ascends (take s slots.now) ≡ true)
         × (row_kinds.old ≡ zeros row_kinds.old) × (row_values.old ≡ zeros row_values.old) }
     ensures { let rk = row_kinds.old in let rv = row_values.old in
         some (leaves result (row_slices row_kinds.new row_values.new))
         ≡ leaves_of (row_filled rk rv) (cleared_row rk rv)
-        (enter_if (enough room sheet.now slots.now rk rv s) which sheet.now (take s slots.now) resources) }
+        (enter_if (enough room sheet.now.bytes.now slots.now rk rv s) which sheet.now.bytes.now (take s slots.now) resources) }
 {
-    let n = sizes.code_count;
+    let n = sheet.sizes.code_count;
     if !room_for(
         n,
         s,
@@ -71,7 +69,6 @@ fn enter_tracked(
     entry_row(
         which,
         sheet,
-        sizes,
         &slots[..s],
         resources,
         &mut row_kinds[..s],
@@ -83,8 +80,7 @@ fn enter_tracked(
 // slots after a refusal.
 pub fn begin_stage(
     which: AnalysisKind,
-    sheet: &[u8],
-    sizes: Sizes,
+    sheet: &Sheet,
     room: Room,
     resources: VerifierResources,
     slots: &mut [u16],
@@ -93,23 +89,21 @@ pub fn begin_stage(
     row_kinds: &mut [u8],
     row_values: &mut [u64],
 ) -> Result<Prepared, Refused>
-    requires { Accepted sheet.now sizes × (slots.old ≡ zeros slots.old) × MarksAndRowZero sheet.now marks.old stack.old row_kinds.old row_values.old }
-    ensures { let n = code_count sheet.now in
+    requires { (slots.old ≡ zeros slots.old) × MarksAndRowZero sheet.now.bytes.now marks.old stack.old row_kinds.old row_values.old }
+    ensures { let n = code_count sheet.now.bytes.now in
         let ss = slots.old in let rk = row_kinds.old in let rv = row_values.old in
         (some (leaves (outcome_of result) (prepared_in result slots.new row_kinds.new row_values.new))
         ≡ leaves_of (prepared_by n ss rk rv) (unprepared ss rk rv)
-        (begin which sheet.now (enough room sheet.now ss rk rv) resources))
+        (begin which sheet.now.bytes.now (enough room sheet.now.bytes.now ss rk rv) resources))
         × (marks.new ≡ zeros marks.old) × (stack.new ≡ zeros stack.old) }
 {
-    let tracked = tracked_slots(which, sheet, sizes, resources, slots, marks, stack)?;
+    let tracked = tracked_slots(which, sheet, resources, slots, marks, stack)?;
     let s = tracked.s;
     let left = tracked.left;
-    let entered = enter_tracked(
-        which, sheet, sizes, room, s, slots, left, row_kinds, row_values,
-    );
+    let entered = enter_tracked(which, sheet, room, s, slots, left, row_kinds, row_values);
     match entered {
         Ok(left) => Ok(Prepared {
-            runs: is_something(sizes.code_count, s),
+            runs: is_something(sheet.sizes.code_count, s),
             s,
             left,
         }),

@@ -53,8 +53,8 @@ pub fn analyze(
         (constant index container : Counts) (left : VerifierResources) → result ≡ Analyzed constant index container left
         → LentDemand sheet.now resources l.entry constant index container left l.exit }
 {
-    let sizes = match admit(sheet, marks.len(), stack.len()) {
-        Ok(sizes) => sizes,
+    let sheet = match admit(sheet, marks.len(), stack.len()) {
+        Ok(sheet) => sheet,
         Err(question) => {
             return Answer::Invalid {
                 question,
@@ -64,10 +64,9 @@ pub fn analyze(
     };
     let mut firsts = [0u16; 4096];
     let mut classes = [0u16; 1025];
-    index_sheet(sheet, sizes, &mut firsts, &mut classes);
+    index_sheet(&sheet, &mut firsts, &mut classes);
     analyze_indexed(
-        sheet,
-        sizes,
+        &sheet,
         &firsts,
         &classes,
         resources,

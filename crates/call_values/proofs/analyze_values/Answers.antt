@@ -2,7 +2,6 @@
 -- Assumes nothing.
 use mathlib.Core.Path.{◌≡◌, refl, ◌∙◌}
 use Rattle.model.specs.Call.{table, scratch}
-use Rattle.sheet.proofs.AcceptedSheet.{measured}
 use Rattle.stage_memory.specs.Stage.{zero_scratch}
 use Rattle.stage_memory.proofs.RecordEqualities.{scratch_zeroed}
 use Rattle.call_order.proofs.ClearedOutputs.{clean, still_clear, few_code, index_found}
@@ -11,9 +10,6 @@ use Rattle.call_order.proofs.CallOrder.{values_promise}
 use Rattle.call_values.proofs.analyze_values.Goals as goal
 
 -- ---- the needs
-pub charge_graph-begun-requires : goal.charge_graph-begun-requires
-charge_graph-begun-requires c = measured c.requires.0
-
 pub analyze_stage-constants-requires : goal.analyze_stage-constants-requires
 analyze_stage-constants-requires c = (
   index_found c.requires.0 c.requires.1 c.requires.2 refl refl,
@@ -24,7 +20,7 @@ analyze_stage-constants-requires c = (
 
 pub store_lengths-requires : goal.store_lengths-requires
 store_lengths-requires c =
-    record { measured = (measured c.requires.0, few_code c.requires.0, few_code c.requires.0); constants_stored = constants_stored _ c.requires.0 (table c.args.constant_slots.now c.args.constant_present.now c.args.constant_kinds.now c.args.constant_values.now) _ _ _ c.analyze_stage-constants.ensures }
+    record { room = (few_code c.requires.0, few_code c.requires.0); constants_stored = constants_stored _ c.requires.0 (table c.args.constant_slots.now c.args.constant_present.now c.args.constant_kinds.now c.args.constant_values.now) _ _ _ c.analyze_stage-constants.ensures }
 
 pub analyze_stage-staged-requires : goal.analyze_stage-staged-requires
 analyze_stage-staged-requires c = (

@@ -1,7 +1,9 @@
 -- `analyze` meets its contract: questions 1 to 6, the sheet's index, then the three analyses.
 -- Assumes nothing.
+use mathlib.Core.Path.{refl}
 use Rattle.model.specs.Call.{lent, table, scratch}
 use Rattle.sheet_index.proofs.IndexFound.{few_layouts, firsts_found, classes_found}
+use Rattle.sheet_questions.specs.Check.{sized}
 use Rattle.sheet_questions.proofs.AdmissionTests.{admitted_lengths, turned_away}
 use Rattle.call_order.proofs.ClearedOutputs.{few_code}
 use Rattle.call_order.proofs.CallOrder.{demanded}
@@ -9,21 +11,24 @@ use Rattle.verifier.proofs.analyze.Goals as goal
 
 -- ---- the needs
 pub index_sheet-requires : goal.index_sheet-requires
+unfolding sized
 index_sheet-requires c =
-    let asks = admitted_lengths _ _ _ c.admit.ensures c.in-Ok.is in
+    let asks = rw (← c.in-Ok.ensures.bytes) at (admitted_lengths _ _ _ c.in-Ok.ensures.answer refl) in
     (asks.0, few_code asks.0, few_layouts asks.0)
 
 pub analyze_indexed-requires : goal.analyze_indexed-requires
+unfolding sized
 analyze_indexed-requires c =
-    let asks = admitted_lengths _ _ _ c.admit.ensures c.in-Ok.is in
+    let asks = rw (← c.in-Ok.ensures.bytes) at (admitted_lengths _ _ _ c.in-Ok.ensures.answer refl) in
     (asks.0, firsts_found asks.0 _ (few_code asks.0) c.index_sheet.ensures.0, classes_found asks.0 _ (few_layouts asks.0) c.index_sheet.ensures.1, asks.1, asks.2)
 
 pub returns-in-Err : goal.returns-in-Err
+unfolding sized
 returns-in-Err c =
     let call = turned_away _ (lent (table c.args.constant_slots.now c.args.constant_present.now c.args.constant_kinds.now c.args.constant_values.now)
     (table c.args.index_slots.now c.args.index_present.now c.args.index_kinds.now c.args.index_values.now)
     (table c.args.container_slots.now c.args.container_present.now c.args.container_kinds.now c.args.container_values.now)
-    (scratch c.args.marks.now c.args.stack.now c.args.row_kinds.now c.args.row_values.now c.args.work_list.now)) c.admit.ensures c.args.resources c.in-Err.is in
+    (scratch c.args.marks.now c.args.stack.now c.args.row_kinds.now c.args.row_values.now c.args.work_list.now)) c.in-Err.ensures.answer c.args.resources refl in
     record {
       call = call;
       demand = demanded _ c.args.resources (lent (table c.args.constant_slots.now c.args.constant_present.now c.args.constant_kinds.now c.args.constant_values.now)
@@ -86,12 +91,12 @@ shape_of-row_values c = c.analyze_indexed.auto.row_values
 pub shape_of-work_list : goal.shape_of-work_list
 shape_of-work_list c = c.analyze_indexed.auto.work_list
 
-pub returns : goal.returns
-returns c =
-    record {
-      call = c.analyze_indexed.ensures;
-      demand = demanded _ c.args.resources (lent (table c.args.constant_slots.now c.args.constant_present.now c.args.constant_kinds.now c.args.constant_values.now)
-          (table c.args.index_slots.now c.args.index_present.now c.args.index_kinds.now c.args.index_values.now)
-          (table c.args.container_slots.now c.args.container_present.now c.args.container_kinds.now c.args.container_values.now)
-          (scratch c.args.marks.now c.args.stack.now c.args.row_kinds.now c.args.row_values.now c.args.work_list.now)) _ _ c.analyze_indexed.ensures;
-    }
+pub returns-clause-call : goal.returns-clause-call
+returns-clause-call c = rw c.in-Ok.ensures.bytes at c.analyze_indexed.ensures
+
+pub returns-clause-demand : goal.returns-clause-demand
+returns-clause-demand c =
+    demanded _ c.args.resources (lent (table c.args.constant_slots.now c.args.constant_present.now c.args.constant_kinds.now c.args.constant_values.now)
+    (table c.args.index_slots.now c.args.index_present.now c.args.index_kinds.now c.args.index_values.now)
+    (table c.args.container_slots.now c.args.container_present.now c.args.container_kinds.now c.args.container_values.now)
+    (scratch c.args.marks.now c.args.stack.now c.args.row_kinds.now c.args.row_values.now c.args.work_list.now)) _ _ (rw c.in-Ok.ensures.bytes at c.analyze_indexed.ensures)

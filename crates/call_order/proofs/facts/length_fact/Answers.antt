@@ -6,29 +6,24 @@ use Rattle.model.specs.Run.{row_at}
 use Rattle.model.specs.Tables.{cell_of}
 use Rattle.model.specs.Analyses.{row_fact}
 use Rattle.model.specs.declared.Instruction.{Instruction}
-use Rattle.sheet.proofs.FieldBounds.{code_inside}
 use Rattle.call_order.proofs.EndedTables.{unknown_is}
 use Rattle.call_order.proofs.LengthTables.{checked_of, check_fact, other_fact}
 use Rattle.call_order.proofs.facts.length_fact.Goals as goal
 
-pub instruction_at-inst-requires : goal.instruction_at-inst-requires
-instruction_at-inst-requires c =
-    code_inside c.requires.measured.0 _ c.requires.pc_bound.0
-
 pub row_fact-requires : goal.row_fact-requires
 row_fact-requires c =
-    (c.requires.measured.1, omega arith)
+    (c.requires.ended, omega arith)
 
 pub returns-then-inst-eq-INDEX_CHECK : goal.returns-then-inst-eq-INDEX_CHECK
 returns-then-inst-eq-INDEX_CHECK c =
     λ rows e.
-    let read = c.instruction_at-inst.ensures in
-    let slot = c.wide.ensures.0 ∙ ap (λ (i : Instruction). i.b) read in
+    let read = c.instruction-inst.ensures in
+    let slot = c.from.ensures ∙ ap (λ (i : Instruction). i.b) read in
     checked_of _ (c.row_fact.ensures rows e ∙ ap (λ (b : ℕ). cell_of (row_fact c.args.slots.now (row_at rows c.args.pc) b)) slot) c.checked_cell.ensures
     ∙ ap cell_of (check_fact _ c.args.slots.now rows c.args.pc (sym (ap (λ (i : Instruction). i.op) read) ∙ c.if-inst-eq-INDEX_CHECK.true))
 
 pub returns-else-inst-eq-INDEX_CHECK : goal.returns-else-inst-eq-INDEX_CHECK
 returns-else-inst-eq-INDEX_CHECK c =
     λ rows e.
-    let read = c.instruction_at-inst.ensures in
+    let read = c.instruction-inst.ensures in
     unknown_is ∙ ap cell_of (other_fact _ c.args.slots.now rows c.args.pc (λ o. c.if-inst-eq-INDEX_CHECK.false (ap (λ (i : Instruction). i.op) read ∙ o)))

@@ -11,12 +11,12 @@ loop-pc-init c =
 
 pub length_fact-cell-requires : goal.length_fact-cell-requires
 length_fact-cell-requires c =
-    record { measured = c.requires.measured; pc_bound = (c.loop-pc-test.true, c.requires.present_len.0) }
+    record { ended = c.requires.ended; pc_bound = (c.loop-pc-test.true, c.requires.present_len.0) }
 
 pub overflow_cast-out_values : goal.overflow_cast-out_values
 overflow_cast-out_values c =
-    let rows = c.requires.measured.1.0 in
-    omega (arith, value_of _ (c.length_fact-cell.ensures rows c.requires.measured.1.1), small_fact c.args.sheet.now c.args.slots.now rows c.loop-pc.pc)
+    let rows = c.requires.ended.0 in
+    omega (arith, value_of _ (c.length_fact-cell.ensures rows c.requires.ended.1), small_fact c.args.sheet.now.bytes.now c.args.slots.now rows c.loop-pc.pc)
 
 pub loop-pc-preserved : goal.loop-pc-preserved
 loop-pc-preserved c = stored_more _ _ _ _ _ _ _ _ c.loop-pc.invariant c.loop-pc-test.true c.length_fact-cell.ensures
@@ -29,6 +29,6 @@ shape_of-out_values c = c.loop-pc.invariant.values_long
 
 pub returns : goal.returns
 returns c =
-    let n = (counted c.requires.measured.0.are).code_count_is in
+    let n = (counted c.args.sheet.now.measured.are).code_count_is in
     let all = stored_all _ _ _ _ _ _ _ _ c.loop-pc.invariant c.loop-pc-test.false n in
     record { stored = all; read = λ constants same e pc l o. lengths_read _ constants same _ _ (omega arith) (omega arith) (all constants.rows e).0 (all constants.rows e).1 pc l o }

@@ -1,7 +1,7 @@
 -- `store_lengths` meets its contract.
 -- Assumes nothing.
-use mathlib.Core.Path.{◌≡◌, refl, sym, ◌∙◌}
-use mathlib.Core.Bool.{false, false≢true}
+use mathlib.Core.Path.{refl, sym, ◌∙◌}
+use mathlib.Core.Bool.{false≢true}
 use native.Mathlib.Omega.{arith}
 use lib.Seq.{length-take-le}
 use Rattle.sheet.proofs.SizeNames.{counted}
@@ -18,38 +18,35 @@ returns-then-is_err c =
 pub overflow_mul-cells : goal.overflow_mul-cells
 overflow_mul-cells c = omega (
   arith,
-  stored_cells_fit _ _ (limited c.requires.measured.0).code_count_is (stored_few (stored_there c.args.before c.requires.constants_stored c.is_err.ensures.value c.if-is_err.false).1 (counted c.requires.measured.0.are).code_count_is refl),
+  stored_cells_fit _ _ (limited c.args.sheet.now.measured).code_count_is (stored_few (stored_there c.args.before c.requires.constants_stored c.is_err.ensures.value c.if-is_err.false).1 (counted c.args.sheet.now.measured.are).code_count_is refl),
 )
 
 pub slice_bounds-length_facts-end : goal.slice_bounds-length_facts-end
-slice_bounds-length_facts-end c = sym (length-take-le _ _ (slots_fit (stored_there c.args.before c.requires.constants_stored c.is_err.ensures.value c.if-is_err.false).1 (counted c.requires.measured.0.are).code_count_is refl))
+slice_bounds-length_facts-end c = sym (length-take-le _ _ (slots_fit (stored_there c.args.before c.requires.constants_stored c.is_err.ensures.value c.if-is_err.false).1 (counted c.args.sheet.now.measured.are).code_count_is refl))
 
 pub slice_bounds-length_facts-end-2 : goal.slice_bounds-length_facts-end-2
-slice_bounds-length_facts-end-2 c = sym (length-take-le _ _ (present_fits (stored_there c.args.before c.requires.constants_stored c.is_err.ensures.value c.if-is_err.false).1 (counted c.requires.measured.0.are).code_count_is refl))
+slice_bounds-length_facts-end-2 c = sym (length-take-le _ _ (present_fits (stored_there c.args.before c.requires.constants_stored c.is_err.ensures.value c.if-is_err.false).1 (counted c.args.sheet.now.measured.are).code_count_is refl))
 
 pub slice_bounds-length_facts-end-3 : goal.slice_bounds-length_facts-end-3
-slice_bounds-length_facts-end-3 c = sym (length-take-le _ _ (kinds_fit (stored_there c.args.before c.requires.constants_stored c.is_err.ensures.value c.if-is_err.false).1 (counted c.requires.measured.0.are).code_count_is refl))
+slice_bounds-length_facts-end-3 c = sym (length-take-le _ _ (kinds_fit (stored_there c.args.before c.requires.constants_stored c.is_err.ensures.value c.if-is_err.false).1 (counted c.args.sheet.now.measured.are).code_count_is refl))
 
 pub slice_bounds-length_facts-end-4 : goal.slice_bounds-length_facts-end-4
-slice_bounds-length_facts-end-4 c = sym (length-take-le _ _ (values_fit (stored_there c.args.before c.requires.constants_stored c.is_err.ensures.value c.if-is_err.false).1 (counted c.requires.measured.0.are).code_count_is refl))
+slice_bounds-length_facts-end-4 c = sym (length-take-le _ _ (values_fit (stored_there c.args.before c.requires.constants_stored c.is_err.ensures.value c.if-is_err.false).1 (counted c.args.sheet.now.measured.are).code_count_is refl))
 
 pub length_facts-requires : goal.length_facts-requires
 length_facts-requires c =
     record {
-      measured = (
-        c.requires.measured.0,
-        (
-          _,
-          stored_ended (stored_there c.args.before c.requires.constants_stored c.is_err.ensures.value c.if-is_err.false).1 (counted c.requires.measured.0.are).code_count_is refl,
-        ),
+      ended = (
+        _,
+        stored_ended (stored_there c.args.before c.requires.constants_stored c.is_err.ensures.value c.if-is_err.false).1 (counted c.args.sheet.now.measured.are).code_count_is refl,
       );
       present_len = (
-        length-take-le _ _ (present_fits (stored_there c.args.before c.requires.constants_stored c.is_err.ensures.value c.if-is_err.false).1 (counted c.requires.measured.0.are).code_count_is refl),
-        c.requires.measured.1,
-        c.requires.measured.2,
+        length-take-le _ _ (present_fits (stored_there c.args.before c.requires.constants_stored c.is_err.ensures.value c.if-is_err.false).1 (counted c.args.sheet.now.measured.are).code_count_is refl),
+        c.requires.room.0,
+        c.requires.room.1,
       );
     }
 
 pub returns : goal.returns
 returns c =
-    record { stored = λ goes a st. lengthened st (counted c.requires.measured.0.are).code_count_is refl c.length_facts.ensures.stored c.length_facts.ensures.read; kept = λ refused. absurd (false≢true (sym (sym c.is_err.ensures.value ∙ c.if-is_err.false) ∙ refused)) }
+    record { stored = λ goes a st. lengthened st (counted c.args.sheet.now.measured.are).code_count_is refl c.length_facts.ensures.stored c.length_facts.ensures.read; kept = λ refused. absurd (false≢true (sym (sym c.is_err.ensures.value ∙ c.if-is_err.false) ∙ refused)) }

@@ -5,4 +5,4 @@ use Rattle.budget.proofs.Spending.{Charged}
 use Rattle.stage_entry.proofs.layouts.charge_instruction_facts.Given as goal
 
 abbrev pub invariant-loop-pc : goal.invariant-loop-pc
-invariant-loop-pc l = Charged (λ i. charge_fact l.sheet (instruction_fact l.sheet i)) l.n l.initial.left l.left l.pc
+invariant-loop-pc l = Charged (λ i. charge_fact l.sheet.bytes.now (instruction_fact l.sheet.bytes.now i)) l.n l.initial.left l.left l.pc

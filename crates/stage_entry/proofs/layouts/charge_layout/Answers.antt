@@ -8,4 +8,4 @@ pub returns : goal.returns
 unfolding charge_layout
 returns c =
     let a = c.args in
-    bytes_came 5 c.metered.result a.resources c.charge_bytes.ensures c.metered.ensures (omega (arith, c.layout_length_at-slots.ensures))
+    bytes_came 5 c.metered.result a.resources c.charge_bytes.ensures c.metered.ensures (omega (arith, c.layout_length-slots.ensures))

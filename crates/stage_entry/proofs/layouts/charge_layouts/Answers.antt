@@ -26,13 +26,13 @@ unfolding fact_in
 returns-in_err-first c =
     let a = c.args in
     ap as_spent (refused_again c.from_residual.result c.in_err-first.was c.from_residual.ensures.1)
-    ∙ first_refused _ (charge_layout a.sheet.now (a.cell.value % 65536)) a.resources c.charge_layout-first.result c.charge_layout-first.ensures (refused_not_covered c.in_err-first.was)
+    ∙ first_refused _ (charge_layout a.sheet.now.bytes.now (a.cell.value % 65536)) a.resources c.charge_layout-first.result c.charge_layout-first.ensures (refused_not_covered c.in_err-first.was)
     ∙ two_layouts _ a.cell.value a.resources a.cell.kind c.if-cell-ne2.false
 
 pub returns : goal.returns
 unfolding fact_in
 returns c =
     let a = c.args in
-    second_came _ (charge_layout a.sheet.now (a.cell.value % 65536)) a.resources _ c.charge_layout-first.ensures c.charge_layout.result c.in_ok-first.was
+    second_came _ (charge_layout a.sheet.now.bytes.now (a.cell.value % 65536)) a.resources _ c.charge_layout-first.ensures c.charge_layout.result c.in_ok-first.was
     c.charge_layout.ensures
     ∙ two_layouts _ a.cell.value a.resources a.cell.kind c.if-cell-ne2.false

@@ -10,12 +10,12 @@ pub loop-i-init : goal.loop-i-init
 loop-i-init c = added_none _ _
 
 pub overflow_add-sum : goal.overflow_add-sum
-overflow_add-sum c = let l = limited c.requires in omega arith
+overflow_add-sum c = let l = limited c.args.sheet.now.measured in omega arith
 
 pub loop-i-preserved : goal.loop-i-preserved
-loop-i-preserved c = added_more c.loop-i.invariant c.loop-i-test.true c.param_width_at.ensures (omega arith)
+loop-i-preserved c = added_more c.loop-i.invariant c.loop-i-test.true c.param_width.ensures (omega arith)
 
 pub returns : goal.returns
 unfolding transfer_slots
 returns c =
-    (added_all c.loop-i.invariant c.loop-i-test.false (counted c.requires.are).param_count_is, let l = limited c.requires in omega arith)
+    (added_all c.loop-i.invariant c.loop-i-test.false (counted c.args.sheet.now.measured.are).param_count_is, let l = limited c.args.sheet.now.measured in omega arith)

@@ -11,13 +11,13 @@ pub returns-in_err-left : goal.returns-in_err-left
 returns-in_err-left c =
     let a = c.args in
     leaves_again c.from_residual.result c.in_err-left.was c.from_residual.ensures.1
-    (params_refused a.sheet.now a.slots.now a.resources c.param_row.result c.param_row.ensures (refused_not_covered c.in_err-left.was))
+    (params_refused a.sheet.now.bytes.now a.slots.now a.resources c.param_row.result c.param_row.ensures (refused_not_covered c.in_err-left.was))
 
 pub returns-then-is_err : goal.returns-then-is_err
 returns-then-is_err c =
     let a = c.args in
-    let wide = blank_rowed c.requires.1 in
-    notes_refused a.sheet.now a.slots.now a.resources _ c.param_row.ensures c.in_ok-left.was c.charge_instruction_facts-charged.result
+    let wide = blank_rowed c.requires in
+    notes_refused a.sheet.now.bytes.now a.slots.now a.resources _ c.param_row.ensures c.in_ok-left.was c.charge_instruction_facts-charged.result
     c.charge_instruction_facts-charged.ensures (err_not_covered (sym c.is_err.ensures.value ∙ c.if-is_err.true))
     (blanked _ _ {s = length a.slots.now} c.clear.ensures c.clear-then-is_err.ensures (omega (arith, wide)) (omega (arith, wide)))
 
@@ -25,4 +25,4 @@ pub returns-else-is_err : goal.returns-else-is_err
 returns-else-is_err c =
     let a = c.args in
     let o = ok_covered c.charge_instruction_facts-charged.result (sym c.is_err.ensures.value ∙ c.if-is_err.false) in
-    notes_covered a.sheet.now a.slots.now a.resources _ c.param_row.ensures c.in_ok-left.was _ c.charge_instruction_facts-charged.ensures o.1
+    notes_covered a.sheet.now.bytes.now a.slots.now a.resources _ c.param_row.ensures c.in_ok-left.was _ c.charge_instruction_facts-charged.ensures o.1

@@ -13,11 +13,11 @@ use Rattle.stage_entry.proofs.seeds.seed_param.Goals as goal
 pub returns-then-cell-eq0 : goal.returns-then-cell-eq0
 returns-then-cell-eq0 c row l =
     let a = c.args in
-    seed_none a.sheet.now a.slots.now a.slot _ l (param_fact a.sheet.now a.i) (brings_none _ a.i c.param_fact-cell.ensures c.if-cell-eq0.true)
+    seed_none a.sheet.now.bytes.now a.slots.now a.slot _ l (param_fact a.sheet.now.bytes.now a.i) (brings_none _ a.i c.param_fact-cell.ensures c.if-cell-eq0.true)
 
 pub returns : goal.returns
 returns c row l =
     let a = c.args in
     let b = brings _ a.i c.param_fact-cell.ensures c.if-cell-eq0.false in
     c.seed_fact.ensures row b.0 l b.2
-    ∙ ap (λ (o : Option Fact). leaves_of row_laid (zero_row (length a.slots.now)) (seed_param a.sheet.now a.slots.now a.slot o row a.resources)) (sym b.1)
+    ∙ ap (λ (o : Option Fact). leaves_of row_laid (zero_row (length a.slots.now)) (seed_param a.sheet.now.bytes.now a.slots.now a.slot o row a.resources)) (sym b.1)

@@ -4,4 +4,4 @@ use Rattle.stage_entry.proofs.seeds.seed_params.Given as goal
 
 abbrev pub invariant-loop-i : goal.invariant-loop-i
 invariant-loop-i l =
-    Seeded l.sheet l.slots l.begin l.initial.left l.initial.row_kinds l.initial.row_values l.count l.row_kinds l.row_values l.left l.passed l.i
+    Seeded l.sheet.bytes.now l.slots l.begin l.initial.left l.initial.row_kinds l.initial.row_values l.count l.row_kinds l.row_values l.left l.passed l.i

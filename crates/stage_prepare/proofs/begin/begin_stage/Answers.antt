@@ -3,7 +3,6 @@
 use mathlib.Core.Path.{refl, ap, ◌∙◌}
 use Prim.Native.Nat.{ℕ}
 use Rattle.std.proofs.lemmas.Result.{err_from_is_err_and}
-use Rattle.sheet.proofs.AcceptedSheet.{measured}
 use Rattle.sheet.proofs.SizeNames.{counted}
 use Rattle.stage_entry.proofs.Refusals.{refused_not_covered}
 use Rattle.stage_prepare.specs.Prepare.{something}
@@ -13,8 +12,8 @@ use Rattle.stage_prepare.proofs.begin.begin_stage.Goals as goal
 pub tracked_slots-requires : goal.tracked_slots-requires
 tracked_slots-requires c =
     let asked = c.requires in
-    let l = (counted asked.0.are).local_slots_is in
-    (measured asked.0, rw l asked.2.wide, rw l asked.2.deep, asked.2.no_marks, asked.2.no_stack)
+    let l = (counted c.args.sheet.now.measured.are).local_slots_is in
+    (rw l asked.1.wide, rw l asked.1.deep, asked.1.no_marks, asked.1.no_stack)
 
 pub returns-in_err-tracked : goal.returns-in_err-tracked
 returns-in_err-tracked c =
@@ -22,8 +21,8 @@ returns-in_err-tracked c =
     let ends = c.in_err-tracked.ensures in
     let p = err_from_is_err_and c.from_residual.result c.from_residual.ensures.1 in
     rw (p.1, p.2) (
-      begin_stopped a.which a.sheet.now a.slots.now a.row_kinds.now a.row_values.now a.room a.resources c.requires.1 ends.closes c.requires.2.no_row_kinds
-          c.requires.2.no_row_values (refused_not_covered refl),
+      begin_stopped a.which a.sheet.now.bytes.now a.slots.now a.row_kinds.now a.row_values.now a.room a.resources c.requires.0 ends.closes c.requires.1.no_row_kinds
+          c.requires.1.no_row_values (refused_not_covered refl),
       ends.no_marks,
       ends.no_entries,
     )
@@ -32,18 +31,17 @@ pub enter_tracked-entered-requires : goal.enter_tracked-entered-requires
 enter_tracked-entered-requires c =
     let a = c.args in
     let came = c.in_ok-tracked.ensures.closes in (
-      c.requires.0,
-      few_tracked a.which a.sheet.now a.slots.now a.row_kinds.now a.row_values.now a.room a.resources c.requires.1 came refl c.requires.0,
-      tracked_ascend a.which a.sheet.now a.slots.now a.row_kinds.now a.row_values.now a.room a.resources c.requires.1 came refl,
-      c.requires.2.no_row_kinds,
-      c.requires.2.no_row_values,
+      few_tracked a.which a.sheet.now.bytes.now a.slots.now a.row_kinds.now a.row_values.now a.room a.resources c.requires.0 came refl a.sheet.now.measured,
+      tracked_ascend a.which a.sheet.now.bytes.now a.slots.now a.row_kinds.now a.row_values.now a.room a.resources c.requires.0 came refl,
+      c.requires.1.no_row_kinds,
+      c.requires.1.no_row_values,
     )
 
 pub returns-in-Err : goal.returns-in-Err
 returns-in-Err c =
     let a = c.args in
     let ends = c.in_ok-tracked.ensures in (
-      begin_refused a.which a.sheet.now a.slots.now a.row_kinds.now a.row_values.now a.room a.resources c.requires.1 ends.closes refl
+      begin_refused a.which a.sheet.now.bytes.now a.slots.now a.row_kinds.now a.row_values.now a.room a.resources c.requires.0 ends.closes refl
           c.in-Err.ensures (refused_not_covered refl) c.clear.ensures,
       ends.no_marks,
       ends.no_entries,
@@ -53,9 +51,9 @@ pub returns-in-Ok : goal.returns-in-Ok
 returns-in-Ok c =
     let a = c.args in
     let ends = c.in_ok-tracked.ensures in (
-      begin_covered a.which a.sheet.now a.slots.now a.row_kinds.now a.row_values.now a.room a.resources c.requires.1 ends.closes refl
+      begin_covered a.which a.sheet.now.bytes.now a.slots.now a.row_kinds.now a.row_values.now a.room a.resources c.requires.0 ends.closes refl
           c.in-Ok.ensures refl
-          (c.is_something.ensures ∙ ap (λ (n : ℕ). something n c.in_ok-tracked.tracked.s) (counted c.requires.0.are).code_count_is),
+          (c.is_something.ensures ∙ ap (λ (n : ℕ). something n c.in_ok-tracked.tracked.s) (counted a.sheet.now.measured.are).code_count_is),
       ends.no_marks,
       ends.no_entries,
     )

@@ -6,15 +6,15 @@ use Rattle.stage_prepare.proofs.EntryRow.{enter_refused, enter_covered}
 use Rattle.stage_prepare.proofs.entry.entry_row.Goals as goal
 
 pub charge_matrix-requires : goal.charge_matrix-requires
-charge_matrix-requires c = let asked = c.requires in ((limited asked.0).code_count_is, asked.4)
+charge_matrix-requires c = let asked = c.requires in ((limited c.args.sheet.now.measured).code_count_is, asked.3)
 
 pub returns-in_err-left : goal.returns-in_err-left
 returns-in_err-left c =
     let a = c.args in
     leaves_again c.from_residual.result c.in_err-left.was c.from_residual.ensures.1
-    (enter_refused _ _ _ a.slots.now a.resources c.charge_matrix.result c.requires.0 c.charge_matrix.ensures (refused_not_covered c.in_err-left.was) c.requires.1)
+    (enter_refused _ _ _ a.slots.now a.resources c.charge_matrix.result c.args.sheet.now.measured c.charge_matrix.ensures (refused_not_covered c.in_err-left.was) c.requires.0)
 
 pub returns : goal.returns
 returns c =
     let a = c.args in
-    enter_covered _ _ _ a.slots.now a.resources _ c.requires.0 c.charge_matrix.ensures c.in_ok-left.was c.first_row.ensures
+    enter_covered _ _ _ a.slots.now a.resources _ c.args.sheet.now.measured c.charge_matrix.ensures c.in_ok-left.was c.first_row.ensures
