@@ -22,28 +22,32 @@ impl TryFrom<u8> for Asked {
     }
 }
 
-#[tactic(auto, unfolding(crate::specs::Heads::head_of))]
-pub fn head_of(b: &[u8; 8]) -> Head
-    ensures { result ≡ head_of b.now }
-{
-    Head {
-        name: u8::read(b, 0) as usize,
-        questions: u16::read(b, 2),
-        sheet: u32::read(b, 4) as usize,
+impl From<[u8; 8]> for Head {
+    ghost from_gives = { λ b head. head ≡ head_of b };
+
+    #[tactic(auto, unfolding(crate::specs::Heads::head_of))]
+    fn from(b: [u8; 8]) -> Head {
+        Head {
+            name: u8::read(&b, 0) as usize,
+            questions: u16::read(&b, 2),
+            sheet: u32::read(&b, 4) as usize,
+        }
     }
 }
 
-#[tactic(auto, unfolding(crate::specs::Heads::question_of))]
-pub fn question_of(b: &[u8; 16]) -> Question
-    ensures { result ≡ question_of b.now }
-{
-    Question {
-        asks: Asked::try_from(u8::read(b, 0)),
-        pc: u16::read(b, 2) as usize,
-        slot: u16::read(b, 4),
-        before: FactCell {
-            kind: u8::read(b, 1),
-            value: u64::read(b, 8),
-        },
+impl From<[u8; 16]> for Question {
+    ghost from_gives = { λ b question. question ≡ question_of b };
+
+    #[tactic(auto, unfolding(crate::specs::Heads::question_of))]
+    fn from(b: [u8; 16]) -> Question {
+        Question {
+            asks: Asked::try_from(u8::read(&b, 0)),
+            pc: u16::read(&b, 2) as usize,
+            slot: u16::read(&b, 4),
+            before: FactCell {
+                kind: u8::read(&b, 1),
+                value: u64::read(&b, 8),
+            },
+        }
     }
 }

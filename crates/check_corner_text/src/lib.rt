@@ -5,7 +5,6 @@ mod cases;
 mod lines;
 mod text;
 
-pub use cases::{head_of, question_of};
 pub use lines::{accepted_line, refused_corner_line};
 use model::FactCell;
 pub use text::answer_line;

@@ -6,7 +6,7 @@ use model::{FactCell, InstructionSuccessors};
 use sheet::Sizes;
 use text_lines::Page;
 
-// The number of the question that refuses a sheet.
+// The number of the question that refuses a sheet; any number, since a narrower type would ask more of callers.
 pub fn refused_corner_line(question: u8, page: &mut Page<'_>)
     requires { HasRoom 31 page.old }
     ensures { Written 31 (refused_corner_line question) page.old page.new }

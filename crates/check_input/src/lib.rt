@@ -67,7 +67,8 @@ fn read_to<R: Read>(
     Ok(count)
 }
 
-// Reads until the buffer is full or the input ends, and answers how many bytes came. Behind them the buffer stays as it was.
+// Reads until the buffer is full or the input ends, and answers how many bytes came. Behind them the buffer stays as it was. The loop is no count of
+// turns: a read moves as much as it will, and std's own `read_to_end` needs a Vec.
 pub fn read_whole<R: Read>(reader: &mut R, buffer: &mut [u8]) -> Result<usize, FailedRead>
     ensures came { IfOk result (λ count. IsPrefixLen count buffer.new × (drop count buffer.new ≡ drop count buffer.old)) }
     ensures failed { IfErr result (λ failed. IsPrefixLen failed.count buffer.new

@@ -7,7 +7,8 @@ use crate::calls::replay;
 use export_numbers::put_answer;
 use text_lines::Page;
 
-// The whole line, at the front of out: the numbers of the first answer, and the checksum over all calls.
+// The whole line, at the front of out: the numbers of the first answer, and the checksum over all calls. Its length is answered, and not the line: no
+// contract can say what stays behind a slice that is handed back.
 pub fn put_line(head: &[u8; 88], sheet: &[u8], out: &mut [u8]) -> usize
     requires { 289 ≤ length out.old }
     ensures { ShowsText (replay_line head.now sheet.now) out.old result out.new }

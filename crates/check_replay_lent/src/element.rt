@@ -46,7 +46,7 @@ impl Element for u8 {
     }
 
     fn number(self) -> u64 {
-        self as u64
+        u64::from(self)
     }
 
     ghost pattern_filled = { pattern_filled 1 };

@@ -19,7 +19,7 @@ use Rattle.model.specs.Listing.{lowest}
 use Rattle.model.specs.declared.VerifierResources.{VerifierResources}
 use Rattle.model.specs.declared.AnalysisKind.{AnalysisKind}
 use Rattle.model.specs.declared.AnalysisKind.TheVariants.{Constant, IndexCheck, Container}
-use Rattle.std.specs.Prelude.{Result, Ok, Err}
+use Rattle.std.specs.Prelude.{Ok, Err}
 use Rattle.budget.specs.Outcome.{Outcome, leaves, leaves_of}
 use Rattle.budget.proofs.Outcomes.{Left, covered, stopped, left_by}
 use Rattle.sheet.specs.Measured.{Measured}
@@ -86,10 +86,11 @@ module _ (sheet marks stack out : List ℕ) where
   unfolding room_of
   out_too_short h = rw (lt-leb 4 (length out) h) refl
 
-  module _ (long : 4 ≤ length out) {given : Result Sizes Question} (e : given ≡ admission sheet (length marks) (length stack)) where
-    pub room_refused : {question : Question} → given ≡ Err question → room (question_number question) marks stack out ≡ room_of (leb 4 (length out)) sheet marks stack out
+  module _ (long : 4 ≤ length out) where
+    pub room_refused : {question : Question} → Err question ≡ admission sheet (length marks) (length stack)
+        → room (question_number question) marks stack out ≡ room_of (leb 4 (length out)) sheet marks stack out
     unfolding room_of room_after_five room_if
-    room_refused c = rw (le-leb 4 (length out) long) (go (refused_by_lem sheet _ _ e c))
+    room_refused e = rw (le-leb 4 (length out) long) (go (refused_by_lem sheet _ _ e refl))
       where
         go : {question : Question}
             → (sheet_refusal sheet ≡ some question) ⊎ ((sheet_refusal sheet ≡ none) × (leb (local_slots sheet) (length marks) && leb (local_slots sheet) (length stack) ≡ false) × (question ≡ ClosureRoom))
@@ -98,11 +99,11 @@ module _ (sheet marks stack out : List ℕ) where
         go (inr h) = rw (h.0, h.1, h.2)
 
     -- all four room-told
-    pub room_told : {sizes : Sizes} {marks' stack' out' : List ℕ} → given ≡ Ok sizes → marks' ≡ zeros marks → stack' ≡ zeros stack → out' ≡ in_front (room_numbers sheet) out
-        → room 0 marks' stack' out' ≡ room_of (leb 4 (length out)) sheet marks stack out
+    pub room_told : {sizes : Sizes} {marks' stack' out' : List ℕ} → Ok sizes ≡ admission sheet (length marks) (length stack) → marks' ≡ zeros marks
+        → stack' ≡ zeros stack → out' ≡ in_front (room_numbers sheet) out → room 0 marks' stack' out' ≡ room_of (leb 4 (length out)) sheet marks stack out
     unfolding room_of room_after_five room_if
-    room_told c p q o =
-        let t = admitted_lengths sheet _ _ e c in
+    room_told e p q o =
+        let t = admitted_lengths sheet _ _ e refl in
         rw (le-leb 4 (length out) long, t.0.accepted, le-leb _ _ t.1, le-leb _ _ t.2, p, q, o) refl
 
 -- ---- the lowest layout
@@ -125,12 +126,12 @@ module _ (sheet : List ℕ) (layout : ℕ) (out : List ℕ) where
   unfolding lowest_of
   no_entry h = rw (lt-leb 1 (length out) h) refl
 
-  module _ (long : 1 ≤ length out) {checked : Result Sizes Question} (e : checked ≡ sheet_check sheet) where
-    pub sheet_refused : {question : Question} → checked ≡ Err question → looked (question_number question) out ≡ lowest_of (leb 1 (length out)) sheet layout out
+  module _ (long : 1 ≤ length out) where
+    pub sheet_refused : {question : Question} → Err question ≡ sheet_check sheet → looked (question_number question) out ≡ lowest_of (leb 1 (length out)) sheet layout out
     unfolding lowest_of lowest_after_five
-    sheet_refused c = rw (le-leb 1 (length out) long, refused sheet (sym c ∙ e))
+    sheet_refused e = rw (le-leb 1 (length out) long, refused sheet e)
 
-    pub searched : {sizes : Sizes} {returned : ℕ} {out' : List ℕ} → checked ≡ Ok sizes
+    pub searched : {sizes : Sizes} {returned : ℕ} {out' : List ℕ} → Ok sizes ≡ sheet_check sheet
         → looked returned out' ≡ lowest_if (ltb layout (layout_count sheet)) sheet layout out → looked returned out' ≡ lowest_of (leb 1 (length out)) sheet layout out
     unfolding lowest_of lowest_after_five
-    searched c p = rw (le-leb 1 (length out) long, (accepted sheet (sym c ∙ e)).accepted) p
+    searched e p = rw (le-leb 1 (length out) long, (accepted sheet e).accepted) p

@@ -5,7 +5,7 @@ ghost use Rattle.sheet.specs.Measured.{Accepted};
 ghost use Rattle.model.specs.Interface.{looked};
 ghost use Rattle.model.specs.Room.{lowest_if, lowest_of};
 
-use sheet::Sizes;
+use sheet_fields::Sheet;
 use sheet_index::layout_starts;
 use sheet_layouts::lowest;
 use sheet_questions::check_sheet;
@@ -16,29 +16,29 @@ const NO_LAYOUT: u8 = 254;
 const TOO_SHORT: u8 = 255;
 
 // Of a sheet that questions 1 to 5 do not refuse: the lowest number of a layout with this one's content, or 254.
-fn put_lowest(sheet: &[u8], sizes: Sizes, layout: u64, out: &mut [u64]) -> u8
-    requires { Accepted sheet.now sizes × (1 ≤ length out.old) }
-    ensures { looked result out.new ≡ lowest_if (ltb layout (layout_count sheet.now)) sheet.now layout out.old }
+fn put_lowest(sheet: &Sheet, layout: u64, out: &mut [u64]) -> u8
+    requires { Accepted sheet.now.bytes.now sheet.now.sizes × (1 ≤ length out.old) }
+    ensures { looked result out.new ≡ lowest_if (ltb layout (layout_count sheet.now.bytes.now)) sheet.now.bytes.now layout out.old }
 {
-    if sizes.layout_count as u64 <= layout {
+    if sheet.sizes.layout_count as u64 <= layout {
         return NO_LAYOUT;
     }
     let mut starts = [0u16; 1024];
-    layout_starts(sheet, sizes, &mut starts);
-    out[0] = lowest(sheet, sizes, &starts, layout);
+    layout_starts(sheet, &mut starts);
+    out[0] = lowest(sheet, &starts, layout);
     0
 }
 
 // 0 with the lowest layout number of equal content at the front of out; the number of the first of the questions 1 to 5 that refuses; 254 where
 // the number names no layout; 255 where out has no entry.
-pub fn lowest_layout(sheet: &[u8], layout: u64, out: &mut [u64]) -> u8
-    ensures { looked result out.new ≡ lowest_of (leb 1 (length out.old)) sheet.now layout out.old }
+pub fn lowest_layout(bytes: &[u8], layout: u64, out: &mut [u64]) -> u8
+    ensures { looked result out.new ≡ lowest_of (leb 1 (length out.old)) bytes.now layout out.old }
 {
     if out.len() < 1 {
         return TOO_SHORT;
     }
-    match check_sheet(sheet) {
-        Ok(sizes) => put_lowest(sheet, sizes, layout, out),
+    match check_sheet(bytes) {
+        Ok(sheet) => put_lowest(&sheet, layout, out),
         Err(question) => question.number(),
     }
 }

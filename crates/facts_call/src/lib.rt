@@ -14,26 +14,20 @@ ghost use Rattle.text_lines.specs.Text.{ShowsText};
 use call_indexed::analyze_indexed;
 use lookup::Tables;
 use model::VerifierResources;
-use sheet::Sizes;
+use sheet_fields::Sheet;
 use text_lines::Page;
 use text_listing::call_lines;
 
 // "for s over 32 in question 8's [place]": what is lent has room for 32 tracked slots. The sheet is accepted and its index found, and n and L are in
-// their limits: nothing is asked or found again.
-pub fn list_facts(
-    sheet: &[u8],
-    sizes: Sizes,
-    firsts: &[u16],
-    classes: &[u16],
-    out: &mut [u8],
-) -> usize
-    requires { Accepted sheet.now sizes
-        × Holds (first_range sheet.now) (code_count sheet.now) firsts.now
-        × Classes sheet.now classes.now
-        × (sizes.code_count ≤ 256)
-        × (sizes.local_slots ≤ 4096)
+// their limits: nothing is asked or found again. A length is answered, and not the text: no contract can say what stays behind a slice that is handed back.
+pub fn list_facts(sheet: &Sheet, firsts: &[u16], classes: &[u16], out: &mut [u8]) -> usize
+    requires { Accepted sheet.now.bytes.now sheet.now.sizes
+        × Holds (first_range sheet.now.bytes.now) (code_count sheet.now.bytes.now) firsts.now
+        × Classes sheet.now.bytes.now classes.now
+        × (sheet.now.sizes.code_count ≤ 256)
+        × (sheet.now.sizes.local_slots ≤ 4096)
         × (2187530 ≤ length out.old) }
-    ensures { ShowsText (call_lines sheet.now (call sheet.now fresh listing_lent)) out.old result out.new }
+    ensures { ShowsText (call_lines sheet.now.bytes.now (call sheet.now.bytes.now fresh listing_lent)) out.old result out.new }
 {
     let mut constant_slots = [0u16; 32];
     let mut constant_present = [0u8; 256];
@@ -54,7 +48,6 @@ pub fn list_facts(
     let mut work_list = [0u16; 16640];
     let answer = analyze_indexed(
         sheet,
-        sizes,
         firsts,
         classes,
         VerifierResources::new(),
@@ -98,7 +91,7 @@ pub fn list_facts(
     call_lines(
         answer,
         classes,
-        sizes.code_count,
+        sheet.sizes.code_count,
         &constants,
         &index,
         &containers,

@@ -5,17 +5,13 @@ use mathlib.Core.Bool.{Bool, true, false, ◌&&◌}
 use mathlib.Core.List.{List}
 use mathlib.Core.Option.{Option, none, some}
 use Prim.Native.Nat.{ℕ}
-use native.Mathlib.Omega.{arith}
 use lib.Dec.{leb}
 use lib.ListN.{length}
 use Rattle.model.specs.Sheet.{code_count, local_slots, question_number, sheet_refusal}
-use Rattle.std.proofs.Common.{Err}
 use Rattle.model.specs.declared.Question.{Question}
 use Rattle.model.specs.Charges.{fresh}
 use Rattle.model.specs.Call.{call}
 use Rattle.model.specs.Listing.{too_large, refused_line, call_lines, listing_lent, sized, asked, fits, listing}
-use Rattle.sheet.specs.Sizes.{sizes_of}
-use Rattle.sheet_questions.specs.Check.{check_of, sheet_check}
 use Rattle.text_lines.specs.Text.{ShowsText}
 
 -- the same text under another name
@@ -46,12 +42,3 @@ module _ (sheet : List ℕ) where
   pub asked_call : leb (code_count sheet) 256 ≡ true → leb (local_slots sheet) 4096 ≡ true → asked none sheet ≡ call_lines sheet (call sheet fresh listing_lent)
   unfolding asked sized
   asked_call e k = ap₂ (λ (b c : Bool). sized (b && c) sheet) e k
-
-  -- what a check refuses with is the first question that does
-  pub check_refused : (question : Question) → Err question ≡ sheet_check sheet → sheet_refusal sheet ≡ some question
-  unfolding sheet_check check_of
-  check_refused question e = go (sheet_refusal sheet) e
-    where
-      go : (o : Option Question) → Err question ≡ check_of (sizes_of sheet) o → o ≡ some question
-      go none k = let z : ◌≡◌ {A = ℕ} 0 1 = cc in absurd (omega arith)
-      go (some other) k = cc

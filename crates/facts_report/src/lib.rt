@@ -10,7 +10,7 @@ ghost use Rattle.text_lines.specs.Text.{ShowsText};
 
 use facts_call::list_facts;
 use model::Question;
-use sheet::Sizes;
+use sheet_fields::Sheet;
 use sheet_index::index_sheet;
 use sheet_questions::check_sheet;
 use text_lines::Page;
@@ -23,6 +23,8 @@ const MOST_INSTRUCTIONS: usize = 256;
 
 // "L over 4,096"
 const MOST_LOCALS: usize = 4096;
+
+// A length is answered, here and below, and not the text: no contract can say what stays behind a slice that is handed back.
 
 // "`too large` alone"
 fn too_large(out: &mut [u8]) -> usize
@@ -47,31 +49,31 @@ fn refused(question: Question, out: &mut [u8]) -> usize
 // Writes the listing of a sheet to the front of out, and answers its length: the first r bytes of out are the text that the definitions give for the
 // sheet (`listing`), for every outcome of the call, and the rest of out stays as it was. Three analyses have at most 729,161 bytes each, and the last
 // line 47. "`too large` alone is printed for a sheet over 65,536 bytes before question 1"
-pub fn list(sheet: &[u8], out: &mut [u8; 2187530]) -> usize
-    ensures { (result ≤ length out.new) × (listing sheet.now ≡ some (take result out.new)) × (drop result out.new ≡ drop result out.old) }
+pub fn list(bytes: &[u8], out: &mut [u8; 2187530]) -> usize
+    ensures { (result ≤ length out.new) × (listing bytes.now ≡ some (take result out.new)) × (drop result out.new ≡ drop result out.old) }
 {
-    if MOST_BYTES < sheet.len() {
+    if MOST_BYTES < bytes.len() {
         return too_large(out);
     }
-    match check_sheet(sheet) {
-        Ok(sizes) => list_accepted(sheet, sizes, out),
+    match check_sheet(bytes) {
+        Ok(sheet) => list_accepted(&sheet, out),
         Err(question) => refused(question, out),
     }
 }
 
 // "for n over 256 or L over 4,096 in question 6's place": the call itself would first charge for them, and could answer 7
-fn list_accepted(sheet: &[u8], sizes: Sizes, out: &mut [u8]) -> usize
-    requires { Accepted sheet.now sizes × (2187530 ≤ length out.old) }
-    ensures { ShowsText (asked none sheet.now) out.old result out.new }
+fn list_accepted(sheet: &Sheet, out: &mut [u8]) -> usize
+    requires { Accepted sheet.now.bytes.now sheet.now.sizes × (2187530 ≤ length out.old) }
+    ensures { ShowsText (asked none sheet.now.bytes.now) out.old result out.new }
 {
-    if MOST_INSTRUCTIONS < sizes.code_count {
+    if MOST_INSTRUCTIONS < sheet.sizes.code_count {
         return too_large(out);
     }
-    if MOST_LOCALS < sizes.local_slots {
+    if MOST_LOCALS < sheet.sizes.local_slots {
         return too_large(out);
     }
     let mut firsts = [0u16; 256];
     let mut classes = [0u16; 1025];
-    index_sheet(sheet, sizes, &mut firsts, &mut classes);
-    list_facts(sheet, sizes, &firsts, &classes, out)
+    index_sheet(sheet, &mut firsts, &mut classes);
+    list_facts(sheet, &firsts, &classes, out)
 }

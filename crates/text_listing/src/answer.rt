@@ -8,22 +8,22 @@ ghost use Rattle.text_listing.specs.Answer.{Listable, AnswerListable, choose, an
 use crate::rows::rows_lines;
 use lookup::Tables;
 use model::{AnalysisKind, Answer, Counts};
+use text_facts::FactPrinter;
 use text_lines::Page;
 
 // "Heads: analysis, n, s, pops.", and behind it the rows.
 fn analysis_lines(
-    which: AnalysisKind,
-    classes: &[u16],
+    printer: &FactPrinter<'_>,
     n: usize,
     counts: Counts,
     tables: &Tables<'_>,
     page: &mut Page<'_>,
 )
     requires { (n ≤ 256) × (length tables.now.slots ≤ 32) × Listable n counts tables.now × HasRoom 729161 page.old }
-    ensures { Written 729161 (printed_analysis which (fact_text_by which classes.now) n counts tables.now) page.old page.new }
+    ensures { Written 729161 (printed_analysis printer.now.which (fact_text_by printer.now.which printer.now.classes.now) n counts tables.now) page.old page.new }
 {
-    page.head_line(which, n as u64, counts.tracked, counts.pops);
-    rows_lines(which, classes, n, counts.tracked as usize, tables, page);
+    page.head_line(printer.which, n as u64, counts.tracked, counts.pops);
+    rows_lines(printer, n, counts.tracked as usize, tables, page);
 }
 
 // The counts of an analysis, of the three that a call answers.
@@ -41,15 +41,14 @@ fn counts_of(which: AnalysisKind, constant: Counts, index: Counts, container: Co
 // The lines of an analysis of n instructions from the answer of a call and the table that it left: none unless the answer has facts. Layouts are
 // printed by their classes. 73 bytes of head at most, and 89 for each of at most 256 × 32 cells.
 pub fn answer_lines(
-    which: AnalysisKind,
+    printer: &FactPrinter<'_>,
     answer: Answer,
-    classes: &[u16],
     n: usize,
     tables: &Tables<'_>,
     page: &mut Page<'_>,
 )
-    requires { (n ≤ 256) × (length tables.now.slots ≤ 32) × AnswerListable which answer n tables.now × HasRoom 729161 page.old }
-    ensures { Written 729161 (answer_part which (fact_text_by which classes.now) n answer tables.now) page.old page.new }
+    requires { (n ≤ 256) × (length tables.now.slots ≤ 32) × AnswerListable printer.now.which answer n tables.now × HasRoom 729161 page.old }
+    ensures { Written 729161 (answer_part printer.now.which (fact_text_by printer.now.which printer.now.classes.now) n answer tables.now) page.old page.new }
 {
     if let Answer::Analyzed {
         constant,
@@ -58,8 +57,8 @@ pub fn answer_lines(
         left: _,
     } = answer
     {
-        let counts = counts_of(which, constant, index, container);
-        analysis_lines(which, classes, n, counts, tables, page);
+        let counts = counts_of(printer.which, constant, index, container);
+        analysis_lines(printer, n, counts, tables, page);
     }
 }
 

@@ -8,6 +8,7 @@ ghost use Rattle.text_listing.specs.Answer.{TablesListable, text_by};
 use crate::answer::{answer_lines, last_line};
 use lookup::Tables;
 use model::{AnalysisKind, Answer};
+use text_facts::FactPrinter;
 use text_lines::Page;
 
 // The three analyses in their order, and the last line: of a call's answer and the tables that it left.
@@ -23,15 +24,20 @@ pub fn call_lines(
     requires { TablesListable answer n constants.now index.now containers.now × (n ≤ 256) × HasRoom 2187530 page.old }
     ensures { Written 2187530 (text_by (λ which. fact_text_by which classes.now) n answer constants.now index.now containers.now) page.old page.new }
 {
-    answer_lines(AnalysisKind::Constant, answer, classes, n, constants, page);
-    answer_lines(AnalysisKind::IndexCheck, answer, classes, n, index, page);
-    answer_lines(
-        AnalysisKind::Container,
-        answer,
+    let constant = FactPrinter {
+        which: AnalysisKind::Constant,
         classes,
-        n,
-        containers,
-        page,
-    );
+    };
+    answer_lines(&constant, answer, n, constants, page);
+    let index_check = FactPrinter {
+        which: AnalysisKind::IndexCheck,
+        classes,
+    };
+    answer_lines(&index_check, answer, n, index, page);
+    let container = FactPrinter {
+        which: AnalysisKind::Container,
+        classes,
+    };
+    answer_lines(&container, answer, n, containers, page);
     last_line(answer, page);
 }

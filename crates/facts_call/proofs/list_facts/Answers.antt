@@ -10,7 +10,7 @@ use Rattle.facts_call.proofs.list_facts.Goals as goal
 pub analyze_indexed-answer-requires : goal.analyze_indexed-answer-requires
 analyze_indexed-answer-requires c =
     let p = c.requires in
-    let l = (counted p.0.are).local_slots_is in
+    let l = (counted c.args.sheet.now.measured.are).local_slots_is in
     (p.0, p.1, p.2, omega (arith, p.4), omega (arith, p.4))
 
 pub call_lines-requires : goal.call_lines-requires
@@ -18,7 +18,7 @@ call_lines-requires c =
     let l = c.analyze_indexed-answer.new in
     let after = lent (table l.constant_slots l.constant_present l.constant_kinds l.constant_values) (table l.index_slots l.index_present l.index_kinds l.index_values)
     (table l.container_slots l.container_present l.container_kinds l.container_values) (scratch l.marks l.stack l.row_kinds l.row_values l.work_list) in (
-      call_tables _ (counted c.requires.0.are).code_count_is _ after (listing_call _ c.new.ensures c.analyze_indexed-answer.ensures) (omega arith) (omega arith) (omega arith),
+      call_tables _ (counted c.args.sheet.now.measured.are).code_count_is _ after (listing_call _ c.new.ensures c.analyze_indexed-answer.ensures) (omega arith) (omega arith) (omega arith),
       c.requires.3,
       roomy c.new-page.ensures c.requires.5,
     )
@@ -28,5 +28,5 @@ returns c =
     let l = c.analyze_indexed-answer.new in
     let after = lent (table l.constant_slots l.constant_present l.constant_kinds l.constant_values) (table l.index_slots l.index_present l.index_kinds l.index_values)
     (table l.container_slots l.container_present l.container_kinds l.container_values) (scratch l.marks l.stack l.row_kinds l.row_values l.work_list) in
-    call_shown _ (counted c.requires.0.are).code_count_is _ after (listing_call _ c.new.ensures c.analyze_indexed-answer.ensures) c.requires.2
+    call_shown _ (counted c.args.sheet.now.measured.are).code_count_is _ after (listing_call _ c.new.ensures c.analyze_indexed-answer.ensures) c.requires.2
     (shown c.new-page.ensures c.call_lines.ensures c.finished.ensures.count (search rules))

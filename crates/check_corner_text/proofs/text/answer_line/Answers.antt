@@ -1,31 +1,28 @@
--- `check_corner_text::answer_line` meets its contract: by what is asked. An accepted sheet has each instruction below n.
+-- `check_corner_text::answer_line` meets its contract: by what is asked.
 -- Assumes nothing.
 use Rattle.std.proofs.Common.{Ok, ap, ◌∙◌}
-use Rattle.sheet.proofs.AcceptedSheet.{measured}
 use Rattle.sheet.proofs.SizeNames.{counted}
-use Rattle.sheet.proofs.FieldBounds.{code_inside}
 use Rattle.sheet.proofs.SizeLimits.{limited}
 use Rattle.check_corner_text.proofs.AnswerLines.{successors_answered, writes_answered, index_answered, not_answered}
 use Rattle.check_corner_text.proofs.text.answer_line.Goals as goal
 
-pub instruction_at-inst-requires : goal.instruction_at-inst-requires
-instruction_at-inst-requires c = let p = c.requires in code_inside (measured p.0) _ p.2
-
 pub instruction_successors-successors-requires : goal.instruction_successors-successors-requires
-instruction_successors-successors-requires c = let p = c.requires in ((limited (measured p.0)).code_count_is, p.2)
+instruction_successors-successors-requires c = ((limited c.args.ranged.now.sheet.now.measured).code_count_is, c.requires.0)
 
 pub returns-in-Successors : goal.returns-in-Successors
 returns-in-Successors c =
-    successors_answered c.args.sheet.now c.args.question _ _ (c.in-Ok.is ∙ ap Ok c.in-Successors.is) (counted c.requires.0.are).code_count_is c.instruction_at-inst.ensures
+    let sheet = c.args.ranged.now.sheet.now in
+    successors_answered sheet.bytes.now c.args.question _ _ (c.in-Ok.is ∙ ap Ok c.in-Successors.is) (counted sheet.measured.are).code_count_is c.instruction-inst.ensures
     c.instruction_successors-successors.ensures c.successors_line.ensures
 
 pub returns-in-Writes : goal.returns-in-Writes
 returns-in-Writes c =
-    writes_answered c.args.sheet.now c.args.question (c.in-Ok.is ∙ ap Ok c.in-Writes.is) c.instruction_writes_slot-is_written.ensures c.writes_line.ensures
+    writes_answered c.args.ranged.now.sheet.now.bytes.now c.args.question (c.in-Ok.is ∙ ap Ok c.in-Writes.is) c.instruction_writes_slot-is_written.ensures c.writes_line.ensures
 
 pub returns-in-IndexWrites : goal.returns-in-IndexWrites
 returns-in-IndexWrites c =
-    index_answered c.args.sheet.now c.args.question (c.in-Ok.is ∙ ap Ok c.in-IndexWrites.is) c.index_check_instruction_writes_slot-is_written.ensures c.index_writes_line.ensures
+    index_answered c.args.ranged.now.sheet.now.bytes.now c.args.question (c.in-Ok.is ∙ ap Ok c.in-IndexWrites.is) c.index_check_instruction_writes_slot-is_written.ensures
+    c.index_writes_line.ensures
 
 pub returns-in-Err : goal.returns-in-Err
-returns-in-Err c = not_answered c.args.sheet.now c.args.question c.args.page.now c.in-Err.is
+returns-in-Err c = not_answered c.args.ranged.now.sheet.now.bytes.now c.args.question c.args.page.now c.in-Err.is

@@ -15,4 +15,4 @@ rows_lines-requires c =
 pub returns : goal.returns
 returns c =
     let a = c.args in
-    analysis_written a.which (fact_text_by a.which a.classes.now) a.tables.now a.counts a.n c.requires.0 (omega (arith, c.requires.2.slots)) c.head_line.ensures c.rows_lines.ensures
+    analysis_written a.printer.now.which (fact_text_by a.printer.now.which a.printer.now.classes.now) a.tables.now a.counts a.n c.requires.0 (omega (arith, c.requires.2.slots)) c.head_line.ensures c.rows_lines.ensures

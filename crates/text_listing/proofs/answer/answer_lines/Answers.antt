@@ -33,12 +33,12 @@ pub returns-in-Analyzed : goal.returns-in-Analyzed
 unfolding answer_part
 returns-in-Analyzed c =
     let a = c.args in
-    let text = fact_text_by a.which a.classes.now in
+    let text = fact_text_by a.printer.now.which a.printer.now.classes.now in
     reword (omega arith)
-    (ap (λ (x : Counts). printed_analysis a.which text a.n x a.tables.now) c.counts_of-counts.ensures
-    ∙ sym (ap (λ (x : Answer). answer_part a.which text a.n x a.tables.now) c.in-Analyzed.is))
+    (ap (λ (x : Counts). printed_analysis a.printer.now.which text a.n x a.tables.now) c.counts_of-counts.ensures
+    ∙ sym (ap (λ (x : Answer). answer_part a.printer.now.which text a.n x a.tables.now) c.in-Analyzed.is))
     c.analysis_lines.ensures
 
 pub returns-in_default : goal.returns-in_default
 returns-in_default c =
-    reword (omega arith) (none_listed c.args.which (fact_text_by c.args.which c.args.classes.now) c.args.n c.args.tables.now c.args.answer c.in_default.not-Analyzed) (no_text c.args.page.now)
+    reword (omega arith) (none_listed c.args.printer.now.which (fact_text_by c.args.printer.now.which c.args.printer.now.classes.now) c.args.n c.args.tables.now c.args.answer c.in_default.not-Analyzed) (no_text c.args.page.now)

@@ -15,7 +15,7 @@ next-from pc from s e = omega (arith, add-one pc, suc-mul pc s)
 pub loop-pc-init : goal.loop-pc-init
 loop-pc-init c =
     let a = c.args in
-    (sym (zero-mul a.s), walked_none (fact_text_by a.which a.classes.now) a.s a.tables.now a.page.now)
+    (sym (zero-mul a.s), walked_none (fact_text_by a.printer.now.which a.printer.now.classes.now) a.s a.tables.now a.page.now)
 
 pub loop-pc-preserved : goal.loop-pc-preserved
 loop-pc-preserved c =
@@ -25,4 +25,4 @@ loop-pc-preserved c =
     let row =
     rw (ap (λ (t : Table). t.slots) v, ap (λ (t : Table). t.present) v, ap (λ (t : Table). t.kinds) v, ap (λ (t : Table). t.values) v) at c.row_lines.ensures
     in
-    (next-from l.pc l.from a.s l.invariant.0, walked_more (fact_text_by a.which a.classes.now) a.s a.tables.now l.pc l.from c.requires.0 l.invariant.0 l.invariant.1 row)
+    (next-from l.pc l.from a.s l.invariant.0, walked_more (fact_text_by a.printer.now.which a.printer.now.classes.now) a.s a.tables.now l.pc l.from c.requires.0 l.invariant.0 l.invariant.1 row)
