@@ -24,15 +24,15 @@ use Rattle.sheet.specs.Measured.{Measured}
 use Rattle.sheet.specs.declared.Sizes.{Sizes}
 use Rattle.sheet.proofs.SizeNames.{counted}
 use Rattle.sheet.proofs.SizeLimits.{limited}
-use Rattle.finality.proofs.Marks.{IsSet, set_below, mark_grows, free, weight, stack_fits}
+use Rattle.finality.proofs.Marks.{IsSet, set_below, mark_grows, free, weight, stack_fits, unmarked_weight}
 use Rattle.finality.proofs.Closure.{follow_weight, seeded_weight}
 use Rattle.finality.proofs.Cells.{stacked_top, stacked_pop}
-use Rattle.closure_marks.specs.Marks.{MarkedLies, Lain}
+use Rattle.closure_marks.specs.Marks.{MarkedLies, Taken}
+use Rattle.closure_marks.specs.Room.{Room}
+use Rattle.closure_marks.specs.declared.mark.SlotMarks.{SlotMarks}
 use Rattle.closure.specs.Sources.{Follows}
 use Rattle.closure.specs.Taking.{Standing, top_edges, top_taken, Takes}
-use Rattle.closure.specs.Expanded.{MarksZero}
-use Rattle.closure.specs.declared.Followed.{Followed}
-use Rattle.closure_marks.proofs.Marks.{some_lain}
+use Rattle.closure.specs.Expanded.{MarksZero, ExpandEnsures}
 
 -- ---- what is on the stack is below L
 
@@ -133,9 +133,6 @@ module _ {sheet : List ℕ} {room : ℕ} {m : Marked} {marks stack : List ℕ} {
     }
 
 module _ {sheet marks stack : List ℕ} {top : ℕ} (s : Standing sheet marks stack top) (some : 0 < top) where
-  pub standing_below : top ≤ length stack
-  standing_below = lies_below s.lies
-
   pub slot_below : (k : ℕ) → get_or stack k 0 < local_slots sheet
   unfolding stacked
   slot_below =
@@ -147,25 +144,31 @@ module _ {sheet marks stack : List ℕ} {top : ℕ} (s : Standing sheet marks st
       above : 0 < local_slots sheet
       above = omega (arith, d_below s.lies some)
 
-  pub popped_lain : Lain marks (set stack (top - 1) 0) (top - 1)
-  popped_lain = some_lain (popped s.lies some)
+module _ (which : AnalysisKind) (sheet : List ℕ) {old mid new : SlotMarks} {d count : ℕ} (some : 0 < old.top) (t : Taken old mid d)
+    (f : Follows (dependency_bit which) (edges_to sheet d) mid new count) where
+  read : {top : ℕ} → get_or old.stack.now (old.top - 1) 0 ≡ top → d ≡ top
+  read e = t.slot_is ∙ e
 
-pub takes : (which : AnalysisKind) (sheet : List ℕ) {marks stack marks' stack' : List ℕ} {top : ℕ} {r : Followed} → 0 < top
-    → Follows (dependency_bit which) (edges_to sheet (get_or stack (top - 1) 0)) marks (set stack (top - 1) 0) (record { top = top - 1; count = 0 }) marks' stack' r
-    → Takes which sheet marks stack top marks' stack' r
-unfolding top_edges top_taken rest
-takes which sheet {marks} {stack} {marks'} {stack'} {top} {r} some f = record {
-  counts = λ l. many (some_top l some).is (top_is_d l some);
-  lies = λ {room} {m} l. laid m (some_top l some).is (top_is_d l some) (f.goes.on (popped l some));
-}
-  where
-    many : {d : ℕ} {ds whole : List ℕ} → whole ≡ d ∷ ds → get_or stack (top - 1) 0 ≡ d → r.count ≡ top_edges sheet whole
-    many e k = rw e (omega (arith, rw k at f.counts))
+  -- what lies there when the slot on top is taken
+  popped_there : {room : ℕ} {m : Marked} (l : MarkedLies sheet room m old.marks.now old.stack.now old.top) → MarkedLies sheet room (rest l some) mid.marks.now mid.stack.now mid.top
+  popped_there l = rw (t.marks_are, t.stack_is, t.top_is) (popped l some)
 
-    laid : {room d : ℕ} {ds : List ℕ} (m : Marked) → m.stack ≡ d ∷ ds → get_or stack (top - 1) 0 ≡ d
-        → MarkedLies sheet room (follow (dependency_bit which) (edges_to sheet (get_or stack (top - 1) 0)) (record { marks = m.marks; stack = ds })) marks' stack' r.top
-        → MarkedLies sheet room (top_taken which sheet m.stack m) marks' stack' r.top
-    laid m e k l = rw e (rw k at l)
+  pub takes : Takes which sheet old new count
+  unfolding top_edges top_taken rest
+  takes = record {
+    counts = λ l. many (some_top l some).is (read (top_is_d l some));
+    lies = λ {room} {m} l. laid m (some_top l some).is (read (top_is_d l some)) (f.goes.goes.on (popped_there l));
+    same_marks = f.goes.same_marks ∙ t.same_marks;
+    same_stack = f.goes.same_stack ∙ t.same_stack;
+  }
+    where
+      many : {top : ℕ} {ds whole : List ℕ} → whole ≡ top ∷ ds → d ≡ top → count ≡ top_edges sheet whole
+      many e k = rw e (rw k at f.counts)
+
+      laid : {room top : ℕ} {ds : List ℕ} (m : Marked) → m.stack ≡ top ∷ ds → d ≡ top
+          → MarkedLies sheet room (follow (dependency_bit which) (edges_to sheet d) (record { marks = m.marks; stack = ds })) new.marks.now new.stack.now new.top
+          → MarkedLies sheet room (top_taken which sheet m.stack m) new.marks.now new.stack.now new.top
+      laid m e k l = rw e (rw k at l)
 
 -- ---- each slot is taken once
 
@@ -219,17 +222,17 @@ module _ (which : AnalysisKind) (sheet : List ℕ) where
   unfolding weight
   lies_weight l = omega (arith, ap free l.marks_are, l.top_is)
 
-  module _ {budget left : VerifierResources} {room : ℕ} {marks stack marks' stack' : List ℕ} {top : ℕ} {r : Followed} (x : Expanding budget room marks stack top left) (some : 0 < top)
-      (t : Takes which sheet marks stack top marks' stack' r) where
+  module _ {budget left : VerifierResources} {room : ℕ} {old new : SlotMarks} {count : ℕ} (x : Expanding budget room old.marks.now old.stack.now old.top left)
+      (some : 0 < old.top) (t : Takes which sheet old new count) where
     on : Topped x.m.stack
     on = some_top x.lies some
 
     -- the slots without a mark and those on the stack become fewer
-    pub expanding_less : free marks' + r.top < free marks + top
+    pub expanding_less : free new.marks.now + new.top < free old.marks.now + old.top
     unfolding next
     expanding_less = omega (arith, lies_weight x.lies, lies_weight (t.lies x.lies), weight_falls x.m on)
 
-    module _ {charge : Charge} (made : charge ≡ charge_work r.count left) {stage : ℕ} (number : stage ≡ stage_number which) (outcome : Outcome)
+    module _ {charge : Charge} (made : charge ≡ charge_work count left) {stage : ℕ} (number : stage ≡ stage_number which) (outcome : Outcome)
         (came : as_spent outcome ≡ in_stage stage left charge) where
       -- the turn's charge, and what follows it
       charged : whole budget ≡ continue (λ _. expand which sheet (weight (next x.m on)) (next x.m on)) (as_spent outcome)
@@ -238,7 +241,7 @@ module _ (which : AnalysisKind) (sheet : List ℕ) where
           let work = work_came _ outcome left made (came ∙ ap (λ (k : ℕ). in_stage k left charge) number) (t.counts x.lies) in
           x.so_far ∙ turn x.m on left ∙ ap (continue (λ _. expand which sheet (weight (next x.m on)) (next x.m on))) (sym work)
 
-      pub expanding_on : {rest : VerifierResources} → outcome ≡ Ok rest → Expanding budget room marks' stack' r.top rest
+      pub expanding_on : {rest : VerifierResources} → outcome ≡ Ok rest → Expanding budget room new.marks.now new.stack.now new.top rest
       unfolding continue next
       expanding_on e = record {
         m = next x.m on;
@@ -269,6 +272,14 @@ module _ (which : AnalysisKind) (sheet : List ℕ) where
     unfolding stacked
     expanding_empty = x.lies.stack_is ∙ ap (stacked room) empty ∙ (let e : room - 0 ≡ room = omega arith in rw e)
 
+-- ---- how it ends
+
+-- what is held at the end lies in the memory that was lent
+pub at_last : {which : AnalysisKind} {sheet : List ℕ} {budget : VerifierResources} {marks stack : List ℕ} {outcome : Outcome} {marks' stack' : List ℕ} (held_marks held_stack : List ℕ)
+    → marks' ≡ held_marks → stack' ≡ held_stack → ExpandEnsures which sheet budget marks stack outcome held_marks held_stack
+    → ExpandEnsures which sheet budget marks stack outcome marks' stack'
+at_last held_marks held_stack e h w = rw (e, h) w
+
 -- ---- how it begins
 
 pub zero_lies : {sheet marks stack : List ℕ} {sizes : Sizes} → Measured sheet sizes → MarksZero sheet marks stack → MarkedLies sheet (length stack) (unmarked sheet) marks stack 0
@@ -283,6 +294,13 @@ zero_lies {sheet} {marks} {stack} w b = record {
   deep = b.deep;
   small = omega (arith, (limited w).local_slots_is, (counted w.are).local_slots_is);
 }
+
+-- the room that it begins with
+pub zero_room : {sheet marks stack : List ℕ} {sizes : Sizes} → Measured sheet sizes → MarksZero sheet marks stack → Room marks stack 0
+unfolding weight unmarked
+zero_room {sheet} {marks} w b =
+    let l = zero_lies w b in
+    record { fits = omega (arith, unmarked_weight sheet, ap free l.marks_are, l.deep, l.long); small = omega (arith, l.wide, l.small) }
 
 pub lies_room : {sheet : List ℕ} {room : ℕ} {m : Marked} {marks stack : List ℕ} {top : ℕ} → MarkedLies sheet room m marks stack top → MarkedLies sheet (length stack) m marks stack top
 lies_room l = rw l.long l

@@ -1,6 +1,6 @@
 -- The edges to one slot: what an instruction has of them, and how they are followed.
 -- Assumes nothing.
-use Rattle.std.proofs.Common.{◌≡◌, ℕ, zero, suc, ◌+◌, ◌-◌, ◌*◌, ◌%◌, ◌^◌, ◌<◌, ◌≤◌, Bool, true, false, ◌&&◌, ltb, ◌⊎◌, List, [], ◌∷◌, ◌++◌, length, get_or, sym, refl, ap, ◌∙◌, inl, inr, append_assoc, append-nil, eq-or-lt_of_le, add-one, arith, length-append, lt-ltb, eq-eqb, ne_eqb}
+use Rattle.std.proofs.Common.{◌≡◌, ℕ, zero, suc, ◌+◌, ◌-◌, ◌*◌, ◌%◌, ◌^◌, ◌<◌, ◌≤◌, Bool, true, false, ◌&&◌, ltb, ◌⊎◌, List, [], ◌∷◌, ◌++◌, length, get_or, sym, refl, ap, ◌∙◌, inl, inr, append-nil, eq-or-lt_of_le, add-one, arith, length-append, lt-ltb, eq-eqb, ne_eqb}
 use lib.Bits.{bit_and}
 use Rattle.model.specs.Count.{collect}
 use Rattle.model.specs.Sheet.{code_count, local_slots, instruction}
@@ -9,17 +9,17 @@ use Rattle.model.specs.Closure.{Marked, mark, follow_unless, follow}
 use Rattle.model.specs.Opcode.{select}
 use Rattle.model.specs.declared.Instruction.{Instruction}
 use Rattle.closure_edges.specs.Rows.{row, edge_row_if, rows, dependence_by, dependence}
-use Rattle.closure_marks.specs.Marks.{Goes, slots_in, mark_all}
+use Rattle.closure_marks.specs.Marks.{Steps, slots_in, mark_all}
 use Rattle.closure.specs.Sources.{edges_from, edges_in, only_if, Follows}
 use Rattle.closure_edges.specs.declared.Dependence.{Dependence}
-use Rattle.closure.specs.declared.Followed.{Followed}
+use Rattle.closure_marks.specs.declared.mark.SlotMarks.{SlotMarks}
 use Rattle.closure.specs.declared.follow.SlotEdges.{SlotEdges}
 use Rattle.closure_edges.proofs.EdgeRows.{below_or_not, by_rule}
 use Rattle.closure_edges.proofs.EdgesToSlot.{into_append, edge_other, row_misses, misses, span_misses}
 use Rattle.closure_edges.specs.Links.{bucket, link_at}
 use Rattle.closure_edges.specs.Chain.{edges_at, Silent, Chain, ended, linked, Chained}
 use Rattle.closure_edges.specs.declared.Link.{Link}
-use Rattle.closure_marks.proofs.Marks.{goes_self, goes_on, goes_as}
+use Rattle.closure_marks.proofs.Marks.{steps_self, steps_on, steps_as}
 
 -- ---- those of a row that lead to d
 
@@ -126,58 +126,57 @@ module _ (bit : ℕ) where
     marks_all h (s ∷ ss) m = ap (λ (t : Bool). follow bit (edges_from d kinds ss) (follow_unless t s m)) (ne_eqb (bit_and kinds bit) 0 h) ∙ marks_all h ss (mark s m)
 
   -- no edge at all
-  pub followed_nothing : {es : List FactDependency} {marks stack : List ℕ} {from : Followed} → es ≡ [] → Follows bit es marks stack from marks stack from
+  pub followed_nothing : {es : List FactDependency} {old : SlotMarks} → es ≡ [] → Follows bit es old old 0
   unfolding follow
-  followed_nothing e = rw e (record { counts = omega arith; goes = goes_self (λ m. refl) })
+  followed_nothing e = rw e (record { counts = refl; goes = steps_self (λ m. refl) })
 
-  module _ (d : ℕ) (e : SlotEdges) {es : List FactDependency} (is : edges_in d e ≡ es) (from : Followed) {count : ℕ} (many : count ≡ length (slots_in e.sources)) where
-    counted_all : from.count + count ≡ from.count + length es
+  module _ (d : ℕ) (e : SlotEdges) {es : List FactDependency} (is : edges_in d e ≡ es) {count : ℕ} (many : count ≡ length (slots_in e.sources)) where
+    counted_all : count ≡ length es
     unfolding edges_in
     counted_all = omega (arith, many, length_from d e.kinds (slots_in e.sources), ap length is)
 
-    pub followed_none : {marks stack : List ℕ} → bit_and e.kinds bit ≡ 0 → Follows bit es marks stack from marks stack (record { top = from.top; count = from.count + count })
+    pub followed_none : {old : SlotMarks} → bit_and e.kinds bit ≡ 0 → Follows bit es old old count
     unfolding edges_in
     followed_none h = record {
       counts = counted_all;
-      goes = goes_self (λ m. ap (λ (fs : List FactDependency). follow bit fs m) (sym is) ∙ passed_over d e.kinds h (slots_in e.sources) m);
+      goes = steps_self (λ m. ap (λ (fs : List FactDependency). follow bit fs m) (sym is) ∙ passed_over d e.kinds h (slots_in e.sources) m);
     }
 
-    pub followed_some : {marks stack marks' stack' : List ℕ} {top : ℕ} → (bit_and e.kinds bit ≡ 0 → ⊥) → Goes (mark_all (slots_in e.sources)) marks stack from.top marks' stack' top
-        → Follows bit es marks stack from marks' stack' (record { top = top; count = from.count + count })
+    pub followed_some : {old new : SlotMarks} → (bit_and e.kinds bit ≡ 0 → ⊥) → Steps (mark_all (slots_in e.sources)) old new → Follows bit es old new count
     unfolding edges_in
     followed_some h g = record {
       counts = counted_all;
-      goes = goes_as g (follow bit es) (λ m. ap (λ (fs : List FactDependency). follow bit fs m) (sym is) ∙ marks_all d e.kinds h (slots_in e.sources) m);
+      goes = steps_as g (follow bit es) (λ m. ap (λ (fs : List FactDependency). follow bit fs m) (sym is) ∙ marks_all d e.kinds h (slots_in e.sources) m);
     }
 
   -- one list of edges after another
-  pub follows_on : (xs ys : List FactDependency) {marks stack marks' stack' marks'' stack'' : List ℕ} {a b c : Followed}
-      → Follows bit xs marks stack a marks' stack' b → Follows bit ys marks' stack' b marks'' stack'' c → Follows bit (xs ++ ys) marks stack a marks'' stack'' c
+  pub follows_on : (xs ys : List FactDependency) {old mid new : SlotMarks} {n k : ℕ}
+      → Follows bit xs old mid n → Follows bit ys mid new k → Follows bit (xs ++ ys) old new (n + k)
   follows_on xs ys p q = record {
     counts = omega (arith, p.counts, q.counts, length-append xs ys);
-    goes = goes_on p.goes (follow bit (xs ++ ys)) q.goes (λ m. follow_append xs ys m);
+    goes = steps_on p.goes (follow bit (xs ++ ys)) q.goes (λ m. follow_append xs ys m);
   }
 
 -- ---- the instructions one after the other
 
-pub follows_none : (bit : ℕ) (sheet : List ℕ) (d : ℕ) (marks stack : List ℕ) (from : Followed) → Follows bit (collect (edges_at sheet d) 0) marks stack from marks stack from
+pub follows_none : (bit : ℕ) (sheet : List ℕ) (d : ℕ) (old : SlotMarks) → Follows bit (collect (edges_at sheet d) 0) old old 0
 unfolding collect follow
-follows_none bit sheet d marks stack from = record { counts = omega arith; goes = goes_self (λ m. refl) }
+follows_none bit sheet d old = record { counts = refl; goes = steps_self (λ m. refl) }
 
-pub follows_more : (bit : ℕ) (sheet : List ℕ) (d pc l : ℕ) (inst : Instruction) {marks stack marks' stack' marks'' stack'' : List ℕ} {a b c : Followed}
-    → Follows bit (collect (edges_at sheet d) pc) marks stack a marks' stack' b → inst ≡ instruction sheet pc → l ≡ local_slots sheet
-    → Follows bit (edges_into d (instruction_edges l inst)) marks' stack' b marks'' stack'' c
-    → Follows bit (collect (edges_at sheet d) (pc + 1)) marks stack a marks'' stack'' c
+pub follows_more : (bit : ℕ) (sheet : List ℕ) (d pc l : ℕ) (inst : Instruction) {old mid new : SlotMarks} {n k : ℕ}
+    → Follows bit (collect (edges_at sheet d) pc) old mid n → inst ≡ instruction sheet pc → l ≡ local_slots sheet
+    → Follows bit (edges_into d (instruction_edges l inst)) mid new k
+    → Follows bit (collect (edges_at sheet d) (pc + 1)) old new (n + k)
 unfolding collect edges_at
 follows_more bit sheet d pc l inst p e k q = rw add-one (follows_on bit (collect (edges_at sheet d) pc) (edges_at sheet d pc) p (rw (e, k) at q))
 
-pub follows_below : (bit : ℕ) (sheet : List ℕ) (d : ℕ) {pc end : ℕ} {marks stack marks' stack' : List ℕ} {a b : Followed} → pc ≤ end → end ≤ pc → b.count ≤ pc * 255
-    → Follows bit (collect (edges_at sheet d) pc) marks stack a marks' stack' b → (b.count ≤ end * 255) × Follows bit (collect (edges_at sheet d) end) marks stack a marks' stack' b
+pub follows_below : (bit : ℕ) (sheet : List ℕ) (d : ℕ) {pc end n : ℕ} {old new : SlotMarks} → pc ≤ end → end ≤ pc → n ≤ pc * 255
+    → Follows bit (collect (edges_at sheet d) pc) old new n → (n ≤ end * 255) × Follows bit (collect (edges_at sheet d) end) old new n
 follows_below bit sheet d {pc} {end} h k small p = let e : end ≡ pc = omega arith in (rw e small, rw e p)
 
-pub follows_all : (which-bit bit : ℕ) (sheet : List ℕ) (d : ℕ) {n : ℕ} {marks stack marks' stack' : List ℕ} {a b : Followed}
-    → bit ≡ which-bit → n ≡ code_count sheet → Follows bit (collect (edges_at sheet d) n) marks stack a marks' stack' b
-    → Follows which-bit (edges_to sheet d) marks stack a marks' stack' b
+pub follows_all : (which-bit bit : ℕ) (sheet : List ℕ) (d : ℕ) {n count : ℕ} {old new : SlotMarks}
+    → bit ≡ which-bit → n ≡ code_count sheet → Follows bit (collect (edges_at sheet d) n) old new count
+    → Follows which-bit (edges_to sheet d) old new count
 unfolding edges_to edges_at
 follows_all which-bit bit sheet d w e p = rw (w, e) at p
 
@@ -216,64 +215,52 @@ module _ (sheet : List ℕ) (d : ℕ) where
   chain_end none (ended e s) = s
   chain_end none (linked e inside back later code s rest) = absurd (omega arith)
 
-  -- The edges of the instructions below lo are followed, and the chain tells the others. `es` are those from `from` on.
-  pub record ChainWalked (entries : List Link) (from bit : ℕ) (marks₀ stack₀ : List ℕ) (followed₀ : Followed) (marks stack : List ℕ) (followed : Followed) (link : ℕ) : Type 0 where
+  -- The edges of the instructions below lo are followed, and the chain tells the others.
+  pub record ChainWalked (entries : List Link) (bit : ℕ) (old new : SlotMarks) (count link : ℕ) : Type 0 where
     pub lo : ℕ
     pub inside : lo ≤ code_count sheet
     pub chain : Chain sheet entries d link lo
-    pub small : followed.count ≤ lo * 255
-    pub es : List FactDependency
-    pub follows : Follows bit es marks₀ stack₀ followed₀ marks stack followed
-    pub are : collect (edges_at sheet d) from ++ es ≡ collect (edges_at sheet d) lo
+    pub small : count ≤ lo * 255
+    pub follows : Follows bit (collect (edges_at sheet d) lo) old new count
 
-  pub chain_walked_none : {entries : List Link} {from bit : ℕ} {marks stack : List ℕ} {followed : Followed} {link : ℕ} → from ≤ code_count sheet → Chain sheet entries d link from
-      → followed.count ≤ from * 255 → ChainWalked entries from bit marks stack followed marks stack followed link
-  unfolding follow
-  chain_walked_none {from = from} h c k = record {
+  pub chain_walked_none : {entries : List Link} {from bit : ℕ} {old new : SlotMarks} {count link : ℕ} → from ≤ code_count sheet → Chain sheet entries d link from
+      → count ≤ from * 255 → Follows bit (collect (edges_at sheet d) from) old new count → ChainWalked entries bit old new count link
+  chain_walked_none {from = from} h c k f = record {
     lo = from;
     inside = h;
     chain = c;
     small = k;
-    es = [];
-    follows = record { counts = omega arith; goes = goes_self (λ m. refl) };
-    are = append-nil (collect (edges_at sheet d) from);
+    follows = f;
   }
 
-  module _ {entries : List Link} {from bit : ℕ} {marks₀ stack₀ : List ℕ} {followed₀ : Followed} {marks stack : List ℕ} {followed : Followed} {link : ℕ}
-      (w : ChainWalked entries from bit marks₀ stack₀ followed₀ marks stack followed link) where
+  module _ {entries : List Link} {bit : ℕ} {old mid : SlotMarks} {count link : ℕ} (w : ChainWalked entries bit old mid count link) where
     pub walked_next : 0 < link → NextLink entries link w.lo
     walked_next some = next some w.chain
 
-    pub chain_walked_more : (some : 0 < link) {at : Link} → at ≡ link_at entries (link - 1) → {inst : Instruction} {l : ℕ} {marks' stack' : List ℕ} {r : Followed}
+    pub chain_walked_more : (some : 0 < link) {at : Link} → at ≡ link_at entries (link - 1) → {inst : Instruction} {l : ℕ} {new : SlotMarks} {k : ℕ}
         → inst ≡ instruction sheet at.pc → l ≡ local_slots sheet
-        → r.count ≤ followed.count + 255 → Follows bit (edges_into d (instruction_edges l inst)) marks stack followed marks' stack' r
-        → ChainWalked entries from bit marks₀ stack₀ followed₀ marks' stack' r at.next
+        → k ≤ 255 → Follows bit (edges_into d (instruction_edges l inst)) mid new k
+        → ChainWalked entries bit old new (count + k) at.next
     unfolding collect edges_at
-    chain_walked_more some {at} is e k small f =
+    chain_walked_more some {at} is {k = more} e k small f =
         let n = walked_next some in
         let p = at.pc in
         let later : w.lo ≤ p = rw is n.later in
         let silent : Silent sheet d w.lo p = rw is n.silent in
+        let same : collect (edges_at sheet d) p ≡ collect (edges_at sheet d) w.lo = skipped w.lo p later silent in
         record {
           lo = p + 1;
           inside = rw is (omega (arith, n.code));
           chain = rw is n.rest;
-          small = omega (arith, w.small, later);
-          es = w.es ++ edges_at sheet d p;
-          follows = follows_on bit w.es (edges_at sheet d p) w.follows (rw (e, k) at f);
-          are =
-              sym (append_assoc (collect (edges_at sheet d) from) w.es (edges_at sheet d p))
-              ∙ ap (λ (xs : List FactDependency). xs ++ edges_at sheet d p) (w.are ∙ sym (skipped w.lo p later silent))
-              ∙ rw (add-one p);
+          small = omega (arith, w.small, later, small);
+          follows = rw (add-one p) (follows_on bit (collect (edges_at sheet d) p) (edges_at sheet d p) (rw same w.follows) (rw (e, k) at f));
         }
 
-    -- with those below `from`
-    pub walked_done : link ≤ 0 → {which-bit : ℕ} {marks₁ stack₁ : List ℕ} {start : Followed} → bit ≡ which-bit
-        → Follows bit (collect (edges_at sheet d) from) marks₁ stack₁ start marks₀ stack₀ followed₀ → Follows which-bit (edges_to sheet d) marks₁ stack₁ start marks stack followed
+    pub walked_done : link ≤ 0 → {which-bit : ℕ} → bit ≡ which-bit → Follows which-bit (edges_to sheet d) old mid count
     unfolding edges_to edges_at
-    walked_done none e p =
-        let all = w.are ∙ sym (skipped w.lo (code_count sheet) w.inside (chain_end none w.chain)) in
-        rw (e, all) at (follows_on bit (collect (edges_at sheet d) from) w.es p w.follows)
+    walked_done none e =
+        let all = skipped w.lo (code_count sheet) w.inside (chain_end none w.chain) in
+        rw (e, ← all) at w.follows
 
 -- the chain of a slot's bucket
 pub chain_of : {sheet heads : List ℕ} {entries : List Link} {from : ℕ} → Chained sheet heads entries from → (d : ℕ) {l : ℕ} → l ≡ local_slots sheet → d < l

@@ -1,11 +1,11 @@
 -- The edges to one slot, as the definitions have them.
 -- Assumes nothing.
-use Rattle.std.specs.Prelude.{◌≡◌, ℕ, ◌+◌, Bool, true, false, List, [], ◌∷◌, length}
+use Rattle.std.specs.Prelude.{◌≡◌, ℕ, Bool, true, false, List, [], ◌∷◌, length}
 use Rattle.model.specs.Dependencies.{FactDependency}
 use Rattle.model.specs.Closure.{follow}
-use Rattle.closure_marks.specs.Marks.{Goes, slots_in}
+use Rattle.closure_marks.specs.Marks.{Steps, slots_in}
 use Rattle.closure.specs.declared.follow.SlotEdges.{SlotEdges}
-use Rattle.closure.specs.declared.Followed.{Followed}
+use Rattle.closure_marks.specs.declared.mark.SlotMarks.{SlotMarks}
 
 -- edges to d from the sources, all of one mask
 unfoldable pub edges_from : ℕ → ℕ → List ℕ → List FactDependency
@@ -22,6 +22,6 @@ only_if true slot = slot ∷ []
 only_if false slot = []
 
 -- The edges are counted, all of them, and those of the bit are followed.
-pub record Follows (bit : ℕ) (es : List FactDependency) (marks stack : List ℕ) (from : Followed) (marks' stack' : List ℕ) (to : Followed) : Type 0 where
-  pub counts : to.count ≡ from.count + length es
-  pub goes : Goes (follow bit es) marks stack from.top marks' stack' to.top
+pub record Follows (bit : ℕ) (es : List FactDependency) (old new : SlotMarks) (count : ℕ) : Type 0 where
+  pub counts : count ≡ length es
+  pub goes : Steps (follow bit es) old new

@@ -4,31 +4,27 @@ ghost use Rattle.closure_edges.specs.Chain.{Tells};
 ghost use Rattle.closure.specs.Taking.{Standing, Takes};
 ghost use Rattle.closure.specs.Expanded.{MarksZero, ExpandEnsures};
 
-use crate::Followed;
 use crate::follow::follow_edges;
 use budget::{Outcome, charge_work, metered, stage_number};
 use closure_edges::{Chains, Link};
-use closure_marks::seed_slots;
+use closure_marks::{SlotMarks, seed_slots};
 use memory::clear;
 use model::{AnalysisKind, VerifierResources};
 use sheet_fields::Sheet;
 
-// The slot on top is taken from the stack, its place is zero again, and its edges are followed.
+// The slot on top is taken from the stack, and its edges are followed: how many there are.
 fn take_slot(
     which: AnalysisKind,
     sheet: &Sheet,
     chains: Option<&Chains>,
-    marks: &mut [u8],
-    stack: &mut [u16],
-    top: usize,
-) -> Followed
-    requires { (0 < top) × Standing sheet.now.bytes.now marks.old stack.old top × IfSome chains (λ c. Tells sheet.now.bytes.now c.now) }
-    ensures { Takes which sheet.now.bytes.now marks.old stack.old top marks.new stack.new result }
+    marked: &mut SlotMarks,
+) -> u64
+    requires { (0 < marked.old.top) × Standing sheet.now.bytes.now marked.old.marks.now marked.old.stack.now marked.old.top
+        × IfSome chains (λ c. Tells sheet.now.bytes.now c.now) }
+    ensures { Takes which sheet.now.bytes.now marked.old marked.new result }
 {
-    let at = top - 1;
-    let d = stack[at] as usize;
-    stack[at] = 0;
-    follow_edges(which, sheet, chains, d, marks, stack, at)
+    let d = marked.take();
+    follow_edges(which, sheet, chains, d, marked)
 }
 
 // Until the stack is empty, or a charge is refused: then marks and stack are cleared. "A refused charge takes nothing."
@@ -44,18 +40,27 @@ fn expand_along(
     ensures { ExpandEnsures which sheet.now.bytes.now resources marks.old stack.old result marks.new stack.new }
 {
     let stage = stage_number(which);
-    let mut top = seed_slots(which, sheet, marks, stack);
+    let mut marked = SlotMarks {
+        marks,
+        stack,
+        top: 0,
+    };
+    seed_slots(which, sheet, &mut marked);
     let mut left = resources;
-    while 0 < top {
-        let followed = take_slot(which, sheet, chains, marks, stack, top);
-        let charged = metered(stage, left, charge_work(left, followed.count));
+    while 0 < marked.top {
+        let count = take_slot(which, sheet, chains, &mut marked);
+        let charged = metered(stage, left, charge_work(left, count));
         let Ok(rest) = charged else {
+            let SlotMarks {
+                marks,
+                stack,
+                top: _,
+            } = marked;
             clear(marks);
             clear(stack);
             return charged;
         };
         left = rest;
-        top = followed.top;
     }
     Ok(left)
 }

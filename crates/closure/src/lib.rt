@@ -10,13 +10,6 @@ mod slots;
 use model::VerifierResources;
 pub use slots::tracked_slots;
 
-// How far the edges to a slot have been followed: the stack's top, and how many edges were met.
-#[derive(Clone, Copy)]
-pub struct Followed {
-    pub top: usize,
-    pub count: u64,
-}
-
 // The tracked slots of an analysis: how many there are, and what their closure left of the resources.
 #[derive(Clone, Copy)]
 pub struct Tracked {

@@ -19,6 +19,7 @@ pub use edges::{CONSTANT, CONTAINER, COPY_N, INDEX_CHECK, dependence_of};
 #[derive(Clone, Copy)]
 pub struct Dependence {
     pub span: u16,
+    // not an Option: the second source begins at the instruction's own c, which a value here would only repeat
     pub fold: bool,
     pub kinds: u8,
 }

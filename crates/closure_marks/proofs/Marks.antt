@@ -1,9 +1,9 @@
 -- Marks and stack, as they lie in lent memory: one slot is marked, or several.
 -- Assumes nothing.
-use mathlib.Core.Path.{◌≡◌, refl, sym, ◌∙◌}
+use mathlib.Core.Path.{◌≡◌, refl, sym, ap, ◌∙◌}
 use mathlib.Core.Bool.{true, false}
 use mathlib.Core.List.{List, [], ◌∷◌}
-use Prim.Native.Nat.{ℕ, ◌+◌, ◌≤◌, ◌<◌}
+use Prim.Native.Nat.{ℕ, suc, ◌+◌, ◌≤◌, ◌<◌}
 use native.Mathlib.Omega.{arith}
 use lib.Dec.{eqb}
 use lib.ListN.{length, get_or, set, length-set, get_or-eq_default}
@@ -11,20 +11,19 @@ use borrow.Author.Tests.{eq-eqb, ne_eqb}
 use Rattle.model.specs.Sheet.{local_slots}
 use Rattle.model.specs.Closure.{Marked, marked, mark}
 use Rattle.model.specs.CallDemand.{marking}
-use Rattle.finality.proofs.Marks.{same_below, stack_room}
+use Rattle.finality.proofs.Marks.{free, weight, mark_weight, same_below, stack_room}
 use Rattle.finality.proofs.Cells.{stacked_push}
-use Rattle.closure_marks.specs.Marks.{MarkedLies, Lain, Goes, mark_all}
-
-pub some_lain : {sheet : List ℕ} {room : ℕ} {m : Marked} {marks stack : List ℕ} {top : ℕ} → MarkedLies sheet room m marks stack top → Lain marks stack top
-some_lain {sheet} {room} {m} l = record { sheet = sheet; room = room; m = m; lies = l }
+use Rattle.closure_marks.specs.Room.{Room}
+use Rattle.closure_marks.specs.Marks.{MarkedLies, Goes, Steps, mark_all}
+use Rattle.closure_marks.specs.declared.mark.SlotMarks.{SlotMarks}
 
 -- ---- one slot
 
 module _ (slot : ℕ) (marks stack : List ℕ) (top : ℕ) where
-  module _ (inside : slot < length marks) (free : get_or marks slot 0 ≡ 0) where
+  module _ (inside : slot < length marks) (free_there : get_or marks slot 0 ≡ 0) where
     module _ {sheet : List ℕ} {room : ℕ} {m : Marked} (l : MarkedLies sheet room m marks stack top) where
       no_mark : eqb (get_or m.marks slot 1) 0 ≡ true
-      no_mark = let e : get_or m.marks slot 1 ≡ 0 = rw l.marks_are at (sym (same_below marks slot inside) ∙ free) in eq-eqb (get_or m.marks slot 1) 0 e
+      no_mark = let e : get_or m.marks slot 1 ≡ 0 = rw l.marks_are at (sym (same_below marks slot inside) ∙ free_there) in eq-eqb (get_or m.marks slot 1) 0 e
 
       has_room : length m.stack < local_slots sheet
       has_room = stack_room sheet m slot l.passed no_mark
@@ -42,9 +41,28 @@ module _ (slot : ℕ) (marks stack : List ℕ) (top : ℕ) where
         small = l.small;
       }
 
+    -- one slot less is without a mark
+    less_free : free marks ≡ suc (free (set marks slot 1))
+    unfolding weight mark marked
+    less_free =
+        let m : Marked = record { marks = marks; stack = [] } in
+        let e : eqb (get_or marks slot 1) 0 ≡ true = eq-eqb (get_or marks slot 1) 0 (sym (same_below marks slot inside) ∙ free_there) in
+        let kept : weight (marked (eqb (get_or marks slot 1) 0) slot m) ≡ weight m = mark_weight slot m in
+        let fewer : free (set marks slot 1) + 1 ≡ free marks + 0 = rw e at kept in
+        omega (arith, fewer)
+
     -- there is room on the stack
-    pub push_room : Lain marks stack top → top < length stack
-    push_room w = omega (arith, has_room w.lies, w.lies.deep, w.lies.long, w.lies.top_is)
+    pub push_room : Room marks stack top → top < length stack
+    push_room w = omega (arith, less_free, w.fits)
+
+    pub marked_room : Room marks stack top → Room (set marks slot 1) stack top
+    marked_room w = record { fits = omega (arith, less_free, w.fits); small = omega (arith, length-set marks slot 1, w.small) }
+
+    pub pushed_room : Room marks stack top → Room (set marks slot 1) (set stack top slot) (top + 1)
+    pushed_room w = record {
+      fits = omega (arith, less_free, w.fits, length-set stack top slot);
+      small = omega (arith, length-set marks slot 1, w.small);
+    }
 
     pub mark_new : Goes (mark slot) marks stack top (set marks slot 1) (set stack top slot) (top + 1)
     mark_new = record { on = λ l. lies_new l }
@@ -75,24 +93,29 @@ module _ {f : Marked → Marked} {marks stack marks' stack' : List ℕ} {top top
   pub goes_as : (h : Marked → Marked) → ((m : Marked) → h m ≡ f m) → Goes h marks stack top marks' stack' top'
   goes_as h e = record { on = λ {sheet} {room} {m} l. rw (e m) (p.on l) }
 
-  pub lain_on : Lain marks stack top → Lain marks' stack' top'
-  lain_on w = some_lain (p.on w.lies)
+-- ---- the value that holds them
 
-  -- no length changes
-  pub goes_long : Lain marks stack top → length stack' ≡ length stack
-  goes_long w = (p.on w.lies).long ∙ sym w.lies.long
+pub steps_self : {f : Marked → Marked} {old : SlotMarks} → ((m : Marked) → f m ≡ m) → Steps f old old
+steps_self e = record { goes = goes_self e; same_marks = refl; same_stack = refl }
 
-module _ {marks stack : List ℕ} {top : ℕ} where
-  pub none_marked : Goes (mark_all []) marks stack top marks stack top
+module _ {f : Marked → Marked} {old mid : SlotMarks} (p : Steps f old mid) where
+  -- one step after another
+  pub steps_on : {g : Marked → Marked} (h : Marked → Marked) {new : SlotMarks} → Steps g mid new → ((m : Marked) → h m ≡ g (f m)) → Steps h old new
+  steps_on h q e = record { goes = goes_on p.goes h q.goes e; same_marks = q.same_marks ∙ p.same_marks; same_stack = q.same_stack ∙ p.same_stack }
+
+  -- the same step by another name
+  pub steps_as : (h : Marked → Marked) → ((m : Marked) → h m ≡ f m) → Steps h old mid
+  steps_as h e = record { goes = goes_as p.goes h e; same_marks = p.same_marks; same_stack = p.same_stack }
+
+pub none_marked : {old : SlotMarks} → Steps (mark_all []) old old
+unfolding mark_all
+none_marked = steps_self (λ m. refl)
+
+module _ (slot : ℕ) {old mid : SlotMarks} (first : Steps (mark slot) old mid) where
+  pub one_marked : Steps (mark_all (slot ∷ [])) old mid
   unfolding mark_all
-  none_marked = goes_self (λ m. refl)
+  one_marked = steps_as first (mark_all (slot ∷ [])) (λ m. refl)
 
-  module _ (slot : ℕ) {marks' stack' : List ℕ} {top' : ℕ} (first : Goes (mark slot) marks stack top marks' stack' top') where
-    pub one_marked : Goes (mark_all (slot ∷ [])) marks stack top marks' stack' top'
-    unfolding mark_all
-    one_marked = goes_as first (mark_all (slot ∷ [])) (λ m. refl)
-
-    pub both_marked : (other : ℕ) {marks'' stack'' : List ℕ} {top'' : ℕ} → Goes (mark other) marks' stack' top' marks'' stack'' top''
-        → Goes (mark_all (slot ∷ other ∷ [])) marks stack top marks'' stack'' top''
-    unfolding mark_all
-    both_marked other second = goes_on first (mark_all (slot ∷ other ∷ [])) second (λ m. refl)
+  pub both_marked : (other : ℕ) {new : SlotMarks} → Steps (mark other) mid new → Steps (mark_all (slot ∷ other ∷ [])) old new
+  unfolding mark_all
+  both_marked other second = steps_on first (mark_all (slot ∷ other ∷ [])) second (λ m. refl)

@@ -16,11 +16,12 @@ use Rattle.model.specs.Dependencies.{Field, field, seed_fields}
 use Rattle.model.specs.Closure.{Marked, mark, mark_fields, mark_seeds}
 use Rattle.model.specs.declared.Instruction.{Instruction}
 use Rattle.model.specs.declared.AnalysisKind.{AnalysisKind}
-use Rattle.closure_marks.specs.Marks.{Goes, slots_in, mark_all}
+use Rattle.closure_marks.specs.Marks.{Steps, slots_in, mark_all}
 use Rattle.closure_marks.specs.Fields.{fields_in}
 use Rattle.closure_marks.specs.declared.Candidates.{Candidates}
 use Rattle.closure_marks.specs.declared.Fields.{Fields}
-use Rattle.closure_marks.proofs.Marks.{goes_self, goes_on}
+use Rattle.closure_marks.specs.declared.mark.SlotMarks.{SlotMarks}
+use Rattle.closure_marks.proofs.Marks.{steps_self, steps_on}
 
 -- ---- a rule by opcode
 
@@ -43,22 +44,22 @@ marks_fields inst [] m = refl
 marks_fields inst (f ∷ fs) m = marks_fields inst fs (mark (field inst f) m)
 
 -- one more instruction
-pub seeds_more : (which : AnalysisKind) (sheet : List ℕ) (pc : ℕ) {inst : Instruction} (c : Candidates) {marks stack marks' stack' marks'' stack'' : List ℕ} {top top' top'' : ℕ}
-    → Goes (mark_seeds which sheet pc) marks stack top marks' stack' top' → inst ≡ instruction sheet pc
-    → slots_in c ≡ map (field inst) (seed_fields which inst.op) → Goes (mark_all (slots_in c)) marks' stack' top' marks'' stack'' top''
-    → Goes (mark_seeds which sheet (pc + 1)) marks stack top marks'' stack'' top''
+pub seeds_more : (which : AnalysisKind) (sheet : List ℕ) (pc : ℕ) {inst : Instruction} (c : Candidates) {old mid new : SlotMarks}
+    → Steps (mark_seeds which sheet pc) old mid → inst ≡ instruction sheet pc
+    → slots_in c ≡ map (field inst) (seed_fields which inst.op) → Steps (mark_all (slots_in c)) mid new
+    → Steps (mark_seeds which sheet (pc + 1)) old new
 unfolding mark_seeds
-seeds_more which sheet pc {inst} c p e h q = goes_on p (mark_seeds which sheet (pc + 1)) q same
+seeds_more which sheet pc {inst} c p e h q = steps_on p (mark_seeds which sheet (pc + 1)) q same
   where
     same : (m : Marked) → mark_seeds which sheet (pc + 1) m ≡ mark_all (slots_in c) (mark_seeds which sheet pc m)
     same m = rw (add-one, h, e) (marks_fields (instruction sheet pc) (seed_fields which (instruction sheet pc).op) (mark_seeds which sheet pc m))
 
-pub seeds_none : (which : AnalysisKind) (sheet marks stack : List ℕ) (top : ℕ) → Goes (mark_seeds which sheet 0) marks stack top marks stack top
+pub seeds_none : (which : AnalysisKind) (sheet : List ℕ) (old : SlotMarks) → Steps (mark_seeds which sheet 0) old old
 unfolding mark_seeds
-seeds_none which sheet marks stack top = goes_self (λ m. refl)
+seeds_none which sheet old = steps_self (λ m. refl)
 
-pub seeds_all : (which : AnalysisKind) (sheet : List ℕ) (pc n : ℕ) {marks stack marks' stack' : List ℕ} {top top' : ℕ} → pc ≤ n → n ≤ pc → n ≡ code_count sheet
-    → Goes (mark_seeds which sheet pc) marks stack top marks' stack' top' → Goes (mark_seeds which sheet (code_count sheet)) marks stack top marks' stack' top'
+pub seeds_all : (which : AnalysisKind) (sheet : List ℕ) (pc n : ℕ) {old new : SlotMarks} → pc ≤ n → n ≤ pc → n ≡ code_count sheet
+    → Steps (mark_seeds which sheet pc) old new → Steps (mark_seeds which sheet (code_count sheet)) old new
 seeds_all which sheet pc n h k e p = let q : pc ≡ code_count sheet = omega arith in rw q at p
 
 -- ---- as the code finds them

@@ -6,7 +6,7 @@ mod mark;
 mod seeds;
 mod slots;
 
-pub use mark::mark_slots;
+pub use mark::SlotMarks;
 pub use seeds::seed_slots;
 pub use slots::list_slots;
 

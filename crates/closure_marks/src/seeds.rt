@@ -3,14 +3,15 @@ ghost use Rattle.std.specs.Prelude.{◌≡◌, map};
 ghost use Rattle.model.specs.Sheet.{code_count};
 ghost use Rattle.model.specs.Dependencies.{field, seed_fields};
 ghost use Rattle.model.specs.Closure.{mark_seeds};
-ghost use Rattle.closure_marks.specs.Marks.{Lain, Goes, slots_in};
+ghost use Rattle.closure_marks.specs.Marks.{Steps, slots_in};
 ghost use Rattle.closure_marks.specs.Fields.{fields_in};
 
-use crate::mark::mark_slots;
+use crate::mark::SlotMarks;
 use crate::{Candidates, Fields};
 use model::{AnalysisKind, Instruction};
 use sheet_fields::Sheet;
 
+// (The opcodes stay numbers: any byte may come, and the names stand above the numbers, so an enum would only list them a second time.)
 // `tracked_constant_slots`: MapNew; ArrayNew, SliceNew, PtrNew, QueueNew, IndexCheck; SliceAppend.
 fn constant_fields(op: u8) -> Fields
     ensures { fields_in result ≡ seed_fields AnalysisKind.Constant op }
@@ -76,15 +77,12 @@ fn seed_fields(which: AnalysisKind, inst: Instruction) -> Candidates
     }
 }
 
-// The seeds of all instructions, in code order. The stack's new top.
-pub fn seed_slots(which: AnalysisKind, sheet: &Sheet, marks: &mut [u8], stack: &mut [u16]) -> usize
-    requires { Lain marks.old stack.old 0 }
-    ensures { Goes (mark_seeds which sheet.now.bytes.now (code_count sheet.now.bytes.now)) marks.old stack.old 0 marks.new stack.new result }
+// The seeds of all instructions, in code order.
+pub fn seed_slots(which: AnalysisKind, sheet: &Sheet, marked: &mut SlotMarks)
+    ensures { Steps (mark_seeds which sheet.now.bytes.now (code_count sheet.now.bytes.now)) marked.old marked.new }
 {
-    let mut top = 0;
     for pc in 0..sheet.sizes.code_count {
         let seeds = seed_fields(which, sheet.instruction(pc));
-        top = mark_slots(seeds, marks, stack, top);
+        marked.mark_all(seeds);
     }
-    top
 }

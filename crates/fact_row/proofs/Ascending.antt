@@ -37,9 +37,6 @@ pub record Halved (xs : List ℕ) (slot base size : ℕ) : Type 0 where
   pub below : (k : ℕ) → k < base → get_or xs k 0 < slot
   pub above : (k : ℕ) → base + size ≤ k → k < length xs → slot < get_or xs k 0
 
-pub halved_none : (xs : List ℕ) (slot : ℕ) → 1 ≤ length xs → Halved xs slot 0 (length xs)
-halved_none xs slot h = record { some = h; within = omega arith; below = λ k m. omega arith; above = λ k m l. omega arith }
-
 module _ {xs : List ℕ} {slot base size : ℕ} (b : Halved xs slot base size) (h : ascends xs ≡ true) (more : 1 < size) where
   halved_by : (t : Bool) → ltb slot (get_or xs (base + size / 2) 0) ≡ t → Halved xs slot (cond t base (base + size / 2)) (size - size / 2)
   halved_by true e = record {
@@ -61,33 +58,6 @@ module _ {xs : List ℕ} {slot base size : ℕ} (b : Halved xs slot base size) (
 
   pub halved : {r t : ℕ} → t ≡ get_or xs (base + size / 2) 0 → r ≡ cond (ltb slot t) base (base + size / 2) → Halved xs slot r (size - size / 2)
   halved p e = rw (e, p) (halved_by _ refl)
-
--- one place is left: it lies below the given slot, or not
-module _ {xs : List ℕ} {slot base size : ℕ} (b : Halved xs slot base size) (h : ascends xs ≡ true) (one : size ≤ 1) where
-  pub bound_above : get_or xs base 0 < slot → Bound xs slot (base + 1)
-  bound_above l = record {
-    within = omega (arith, b.within, b.some);
-    below = λ k m. let u : k ≤ base = omega arith in go k (eq-or-lt_of_le u);
-    above = λ k m u. omega (arith, b.above k (omega (arith, b.some)) u);
-  }
-    where
-      go : (k : ℕ) → (k ≡ base) ⊎ (k < base) → get_or xs k 0 < slot
-      go k (inl q) = rw q l
-      go k (inr q) = b.below k q
-
-  pub bound_at : slot ≤ get_or xs base 0 → Bound xs slot base
-  bound_at l = record {
-    within = omega (arith, b.within);
-    below = b.below;
-    above = λ k m u. go k u (eq-or-lt_of_le m);
-  }
-    where
-      go : (k : ℕ) → k < length xs → (base ≡ k) ⊎ (base < k) → slot ≤ get_or xs k 0
-      go k u (inl q) = rw (sym q) l
-      go k u (inr q) = omega (arith, b.above k (omega (arith, b.some)) u)
-
-pub bound_none : (xs : List ℕ) (slot : ℕ) → length xs ≡ 0 → Bound xs slot 0
-bound_none xs slot e = record { within = omega arith; below = λ k m. omega arith; above = λ k m u. omega arith }
 
 -- a product with 0 or 1 chooses the half
 pub times_le : (half : ℕ) (t : Bool) → half * bool_byte t ≤ half

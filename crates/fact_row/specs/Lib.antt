@@ -4,3 +4,4 @@ pub mod Target
 pub mod Rows
 pub mod Tracked
 pub mod Place
+pub mod Changed

@@ -1,10 +1,11 @@
 -- Where a slot stands, as `model` says it, and what is stored there.
 -- Assumes nothing.
-use Rattle.std.specs.Prelude.{List, ℕ, set, Option as Choice, Some, None}
+-- `Option` is the definitions' own, and `StdOption` std's, which functions answer.
+use Rattle.std.specs.Prelude.{List, ℕ, set, Option as StdOption, Some, None}
 use Rattle.std.proofs.Math.Option.{Option, none, some}
 
 -- the place that is answered
-abbrev pub placed : Choice ℕ → Option ℕ
+abbrev pub placed : StdOption ℕ → Option ℕ
 placed (Some j) = some j
 placed None = none
 

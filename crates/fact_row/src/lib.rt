@@ -6,7 +6,7 @@ mod cells;
 mod notes;
 mod row;
 
-pub use bound::{find, lower_bound, set_fact};
+pub use bound::{find, lower_bound};
 pub use cells::{checked_cell, map_cell, queue_cell};
 pub use notes::instruction_fact;
-pub use row::TrackedRow;
+pub use row::{FactRow, TrackedRow};

@@ -1,5 +1,5 @@
-// A row of facts about the tracked slots, as it is read.
-ghost use Rattle.fact_row.specs.Rows.{ReadableRow};
+// A row of facts about the tracked slots, as it is read and as it is written.
+ghost use Rattle.fact_row.specs.Rows.{ReadableRow, WritableRow};
 
 use crate::bound::find;
 use model::FactCell;
@@ -31,5 +31,39 @@ impl TrackedRow<'_> {
             },
             None => FactCell::UNKNOWN,
         }
+    }
+}
+
+// The same row as it is written.
+#[derive(Drop)]
+pub struct FactRow<'a> {
+    pub slots: &'a [u16],
+    pub kinds: &'a mut [u8],
+    pub values: &'a mut [u64],
+    // the slots ascend, and kinds and values have a place for each
+    pub ghost writable: { WritableRow slots.now kinds.now values.now },
+}
+
+impl FactRow<'_> {
+    ghost use Rattle.fact_row.specs.Changed.{FactSet, SameRow, RowZero};
+
+    // A slot's fact is set, if the slot is tracked.
+    #[tactic(auto, using(crate::proofs::Places::place_inside))]
+    pub fn set(&mut self, slot: usize, cell: FactCell)
+        ensures { FactSet slot cell self.old self.new }
+    {
+        if let Some(at) = find(self.slots, slot) {
+            self.kinds[at] = cell.kind;
+            self.values[at] = cell.value;
+        }
+    }
+
+    // Each slot's fact becomes Unknown.
+    pub fn clear(&mut self)
+        ensures same { SameRow self.old self.new }
+        ensures zero { RowZero self.new }
+    {
+        self.kinds.fill(0);
+        self.values.fill(0);
     }
 }

@@ -44,3 +44,10 @@ module _ (same : ℕ → ℕ → ℕ → ℕ → Bool) where
   unfolding differs
   other_kind k v g h =
       rw (ne_eqb (kind (fact_of k v)) (kind (join same (fact_of k v) g)) (λ q. h (sym q ∙ kind-fact_of k v)))
+
+  -- a fact that equals itself stays
+  pub joined_self : ((k v : ℕ) → same k v k v ≡ true) → (k v : ℕ) → kind (join same (fact_of k v) (fact_of k v)) ≡ k
+  unfolding fact_of join kind
+  joined_self r zero v = refl
+  joined_self r (suc zero) v = refl
+  joined_self r (suc (suc k)) v = rw (r k v)

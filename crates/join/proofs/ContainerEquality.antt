@@ -53,3 +53,10 @@ module _ (which : AnalysisKind) (classes : List ℕ) (f g : Fact) (r : FactCell)
   pub joins_containers : which ≡ Container → r ≡ cell_of (join (equal_containers_by classes) f g) → r ≡ cell_of (join (equal_by which classes) f g)
   unfolding equal_by
   joins_containers e h = rw e h
+
+-- in each analysis a fact equals itself
+pub equals_itself : (which : AnalysisKind) (classes : List ℕ) (k v : ℕ) → equal_by which classes k v k v ≡ true
+unfolding equal_by equal_numbers equal_containers_by
+equals_itself Constant classes k v = rw (eqb_self k, eqb_self v)
+equals_itself IndexCheck classes k v = rw (eqb_self k, eqb_self v)
+equals_itself Container classes k v = rw (eqb_self k, eqb_self (class_of classes (v / 65536)), eqb_self (class_of classes (v % 65536)))

@@ -2,12 +2,14 @@
 -- Assumes nothing.
 use mathlib.Core.Path.{◌≡◌, refl, sym, ap, ◌∙◌}
 use mathlib.Core.Logic.{◌≢◌}
-use mathlib.Core.Bool.{Bool, true, false, ◌||◌, or-true, or-false}
+use mathlib.Core.Bool.{Bool, true, false, ◌&&◌, ◌||◌, or-true, or-false}
 use mathlib.Core.List.{List, ◌++◌, map}
 use Prim.Native.Nat.{ℕ, ◌+◌, ◌≤◌, ◌<◌}
 use native.Mathlib.Numerals.{add-one}
 use native.Mathlib.Omega.{arith}
+use lib.Dec.{eqb}
 use lib.ListN.{length, get_or, set, take, drop, length-map, length-set}
+use borrow.Author.Tests.{eqb-true}
 use lib.Seq.{take_all, set-get_or}
 use Rattle.model.specs.Fact.{Fact, kind, value, differs, row_differs, join}
 use Rattle.model.specs.Tables.{row_slices, RowLies, fact_of, facts_of, fact_in, cell_of}
@@ -15,7 +17,8 @@ use Rattle.model.specs.declared.FactCell.{FactCell}
 use Rattle.join.specs.Rows.{JoinedRow}
 use Rattle.join.proofs.CellJoins.{cell_joined}
 use Rattle.join.proofs.Prefixes.{fill_get, fill_set, fill_done}
-use Rattle.join.proofs.CellChanges.{kept, same_kind, other_kind}
+use Rattle.join.proofs.CellChanges.{kept, same_kind, other_kind, joined_self}
+use Rattle.model.proofs.Tests.{both_left, both_right}
 use Rattle.model.proofs.Facts.{length_facts_lem, lies_kinds, lies_values}
 use Rattle.join.proofs.JoinedPlaces.{facts_of-get, joined, join_at, changed_to, joined_length, joined_get, changed_to-suc}
 
@@ -136,3 +139,12 @@ module _ {same : ℕ → ℕ → ℕ → ℕ → Bool} {ok ov nk nv : List ℕ} 
             rw (k, v, ← at_kind, ← at_value, set-get_or kinds i 0, set-get_or values i 0) at
             (step changed
             (sym (or-false changed) ∙ ap (λ (x : Bool). changed || x) (sym (same_kind same (get_or ok i 0) (get_or ov i 0) (fact_of (get_or nk i 0) (get_or nv i 0)) encoded_here k))))
+
+      -- an equal cell is left
+      pub partly_equal : ((k v : ℕ) → same k v k v ≡ true) → eqb (get_or kinds i 0) (get_or nk i 0) && eqb (get_or values i 0) (get_or nv i 0) ≡ true
+          → Partly same ok ov nk nv kinds values changed (i + 1)
+      unfolding cell_of fact_in
+      partly_equal r e =
+          let k : get_or kinds i 0 ≡ get_or nk i 0 = eqb-true _ _ (both_left _ _ e) in
+          let v : get_or values i 0 ≡ get_or nv i 0 = eqb-true _ _ (both_right _ _ e) in
+          partly_kept _ refl (rw (← k, ← v) (joined_self same r (get_or kinds i 0) (get_or values i 0)))

@@ -21,7 +21,8 @@ fn merge_fact_of(which: AnalysisKind, classes: &[u16], old: FactCell, new: FactC
 }
 
 // "joined into it slot by slot, the old fact first"; whether "a kind or value changed". A join keeps a fact or makes it Unknown or
-// Conflict, so a change of value is a change of kind too: only then something is stored.
+// Conflict, so a change of value is a change of kind too: only then something is stored. Four slices and no FactRow nor TrackedRow: those have
+// the slots too, which a join neither has nor needs; and a struct for the old row would take four `split_at_mut`s of the tables at the one call.
 pub fn join_row(
     which: AnalysisKind,
     classes: &[u16],
@@ -48,6 +49,10 @@ pub fn join_row(
             kind: new_kinds[i],
             value: new_values[i],
         };
+        // equal facts stay, and most are equal
+        if old == new {
+            continue;
+        }
         let joined = merge_fact_of(which, classes, old, new);
         let kind = joined.kind;
         if kind != was {

@@ -1,10 +1,12 @@
 -- Loops that store one element a turn, from the front. A number's width makes no difference.
 -- Assumes nothing.
-use mathlib.Core.Path.{◌≡◌, refl, ◌∙◌}
-use mathlib.Core.List.{List}
-use Prim.Native.Nat.{ℕ, ◌+◌, ◌≤◌, ◌<◌}
+use mathlib.Core.Path.{◌≡◌, refl, ap, ◌∙◌}
+use mathlib.Core.List.{List, [], ◌∷◌, ◌++◌, append-nil}
+use Prim.Native.Nat.{ℕ, zero, suc, ◌+◌, ◌≤◌, ◌<◌}
+use native.Mathlib.Nat.{suc_inj}
 use native.Mathlib.Omega.{arith}
-use lib.ListN.{length, set, length-set}
+use lib.ListN.{length, get_or, set, take, drop, length-set, drop_of_length-le}
+use lib.Seq.{take_all}
 use Rattle.memory.specs.Front.{front}
 use Rattle.memory.proofs.Front.{front_none, front_more}
 
@@ -23,3 +25,14 @@ turn {f} {old} {out} {i} {v} t h e = record {
   is = front_more f i old t.is e;
   long = length-set out i v ∙ t.long;
 }
+
+-- one element more of from, and all of them
+pub copied_more : {A : Type 0} (from old : List A) (i : ℕ) (x : A) → length from ≡ length old → i < length old → x ≡ get_or from i x
+    → set (take i from ++ drop i old) i x ≡ take (suc i) from ++ drop (suc i) old
+copied_more [] old i x e h g = absurd (omega arith)
+copied_more (a ∷ from) [] i x e h g = absurd (omega arith)
+copied_more {A} (a ∷ from) (b ∷ old) zero x e h g = ap (λ (y : A). y ∷ old) g
+copied_more {A} (a ∷ from) (b ∷ old) (suc i) x e h g = ap (λ (l : List A). a ∷ l) (copied_more from old i x (suc_inj e) (omega arith) g)
+
+pub copied_all : {A : Type 0} (from old : List A) (i : ℕ) → length from ≡ length old → length old ≤ i → take i from ++ drop i old ≡ from
+copied_all from old i e h = rw (take_all i from (omega arith), drop_of_length-le old {i = i} h, append-nil) refl

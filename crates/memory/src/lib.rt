@@ -1,9 +1,13 @@
 // Clearing of lent memory, and the laws of loops that write a list from its front, for any element (proofs/StoreLoops).
 #![tactic(auto)]
 
+mod rows;
+
 ghost use Rattle.std.specs.Prelude.{◌≡◌, List, length, replicate};
 ghost use Rattle.model.specs.Call.{zeros};
 ghost use Rattle.memory.specs.Zeros.{zeros_replicate};
+
+pub use rows::{clear_row, clear_rows};
 
 // A number that lent memory is made of.
 pub trait Zero: Copy {
@@ -77,4 +81,15 @@ pub fn clear<T: Zero>(out: &mut [T])
     ensures { out.new ≡ T.zeros out.old }
 {
     out.fill(T::zero());
+}
+
+// The elements of from, in as many places. A loop and not `copy_from_slice`, which calls memmove: four short copies a step would take longer than
+// the rest of it.
+pub fn copy<T: Zero>(from: &[T], to: &mut [T])
+    requires { length from.now ≡ length to.old }
+    ensures { to.new ≡ from.now }
+{
+    for i in 0..to.len() {
+        to[i] = from[i];
+    }
 }

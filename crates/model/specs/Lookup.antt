@@ -1,6 +1,7 @@
 -- Lookups: `fact_for_slot`, `is_reachable`, and "fixed", each over "the used parts" of the tables it is lent.
 -- Assumes nothing.
-use Rattle.std.specs.Prelude.{Bool, true, false, cond, ◌&&◌, ◌||◌, List, [], ◌∷◌, ℕ, zero, suc, ◌+◌, ◌*◌, ◌-◌, leb, ltb, eqb, length, get_or, Result, Ok, Err, Option as Choice, Some, None}
+-- `Option` is the definitions' own, and `StdOption` std's, which functions answer.
+use Rattle.std.specs.Prelude.{Bool, true, false, cond, ◌&&◌, ◌||◌, List, [], ◌∷◌, ℕ, zero, suc, ◌+◌, ◌*◌, ◌-◌, leb, ltb, eqb, length, get_or, Result, Ok, Err, Option as StdOption, Some, None}
 use Rattle.std.proofs.Math.Option.{Option, none, some}
 use Rattle.model.specs.Count.{every}
 use Rattle.model.specs.declared.AnalysisKind.{AnalysisKind}
@@ -10,7 +11,7 @@ use Rattle.model.specs.declared.Damaged.{Damaged}
 
 -- What a lookup answers: a cell, none, or 9.
 abbrev pub SlotFact : Type 0
-SlotFact = Result (Choice FactCell) Damaged
+SlotFact = Result (StdOption FactCell) Damaged
 
 -- What `is_reachable` answers: yes, no, or 9.
 abbrev pub Reachability : Type 0

@@ -1,7 +1,7 @@
 -- Each field lies inside the sheet.
 -- Assumes nothing.
 use mathlib.Core.List.{List}
-use Prim.Native.Nat.{ℕ, ◌+◌, ◌*◌, ◌≤◌, ◌<◌}
+use Prim.Native.Nat.{ℕ, ◌+◌, ◌*◌, ◌≤◌}
 use native.Mathlib.Omega.{arith}
 use lib.ListN.{length}
 use Rattle.sheet.specs.Measured.{Measured}
@@ -29,6 +29,3 @@ pub record ArraysInside (whole : ℕ) (s : Sizes) : Type 0 where
 module _ {sheet : List ℕ} {sizes : Sizes} (m : Measured sheet sizes) where
   pub arrays_inside : ArraysInside (length sheet) sizes
   arrays_inside = let l = laid m in omega arith
-
-  pub code_inside : (i : ℕ) → i < sizes.code_count → 40 + 8 * i + 8 ≤ length sheet
-  code_inside i h = omega (arith, arrays_inside.code)

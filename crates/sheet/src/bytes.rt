@@ -83,8 +83,7 @@ fn wide_byte(x: u8) -> u16
     x as u16
 }
 
-// Three functions, since each joins halves of another type, and programs that read no slice call them by these names: one that takes the
-// type would be no plainer.
+// Three functions, since each joins halves of another type: one that takes the type would be no plainer.
 // 16 bits from two bytes.
 pub fn u16_of(low: u8, high: u8) -> u16
     ensures { result ≡ low + 256 * high }

@@ -6,8 +6,10 @@ ghost use Rattle.sheet.specs.Measured.{Accepted};
 ghost use Rattle.sheet_layouts.specs.Classes.{layout_classes};
 ghost use Rattle.sheet_index.specs.Tables.{first_ranges};
 
+mod indexed;
 mod offsets;
 
+pub use indexed::IndexedSheet;
 pub use offsets::{first_ranges, layout_starts};
 use sheet_fields::Sheet;
 use sheet_layouts::layout_classes;

@@ -1,7 +1,7 @@
 -- A range of ascending slots, written from its first tracked slot on, and several ranges one after the other.
 -- Assumes nothing.
 use mathlib.Core.Path.{◌≡◌, refl, sym, ap, ◌∙◌}
-use mathlib.Core.Bool.{Bool, true, false}
+use mathlib.Core.Bool.{true, false}
 use mathlib.Core.List.{List}
 use mathlib.Core.Logic.{◌⊎◌, inl, inr}
 use Prim.Native.Nat.{ℕ, ◌+◌, ◌-◌, ◌≤◌, ◌<◌}
@@ -11,18 +11,16 @@ use native.Mathlib.Omega.{arith}
 use lib.ListN.{length, get_or, set}
 use borrow.Author.Tests.{lt-ltb, le-ltb}
 use Rattle.model.specs.Lookup.{ascends}
+use Rattle.model.specs.Sheet.{range_start, range_length}
 use Rattle.model.specs.Tables.{row_slices}
-use Rattle.model.specs.Written.{in_range}
+use Rattle.model.specs.Written.{in_range, in_ranges}
 use Rattle.model.specs.declared.FactCell.{FactCell}
-use Rattle.transfer_written.specs.Ranges.{holds_slot, slot_range_count, slot_range}
-use Rattle.transfer_written.specs.declared.SlotRange.{SlotRange}
-use Rattle.transfer_written.specs.declared.Written.{Written}
 use Rattle.transfer_written.proofs.RangeTests.{starts_before, from_start}
-use Rattle.transfer_written.proofs.RangeLoop.{among, among_all}
+use Rattle.transfer_written.proofs.RangeLoop.{ranges_suc}
 use Rattle.fact_row.specs.Rows.{Bound}
 use Rattle.fact_row.proofs.Ascending.{ascends_lt}
 use Rattle.transfer.specs.Wrote.{Wrote}
-use Rattle.transfer.proofs.SlotWrites.{FrontWritten, front_written_none, front_written_more, front_written_all, wrote, wrote_none, wrote_both, wrote_as}
+use Rattle.transfer.proofs.SlotWrites.{FrontWritten, front_written_none, front_written_more, front_written_all, wrote, wrote_none, wrote_both}
 
 -- ---- one range
 
@@ -74,9 +72,6 @@ module _ (slots : List ℕ) (start count : ℕ) (cell : ℕ → FactCell) (kinds
         (front_written_all _ _ kinds w.kinds_partly (λ k m u. h k m (omega (arith, w.long))))
         (front_written_all _ _ values w.values_partly (λ k m u. h k m (omega (arith, w.long))))
 
-    pub written_all : length slots ≤ j → Wrote slots (λ slot. in_range slot start count) cell (row_slices kinds values) (row_slices kinds' values')
-    written_all h = done (λ k m u. absurd (omega arith))
-
     pub written_range : ascends slots ≡ true → j < length slots → count ≤ get_or slots j 0 - start
         → Wrote slots (λ slot. in_range slot start count) cell (row_slices kinds values) (row_slices kinds' values')
     written_range asc h l = done (λ k m u. sym (from_start (get_or slots k 0) start count (w.from k m u)) ∙ le-ltb _ _ (later k u (eq-or-lt_of_le m)))
@@ -94,13 +89,6 @@ wrote_beyond slots start count cell kinds values nk nv h =
     (λ k l. rw (← starts_before (get_or slots k 0) start count (h k (omega arith))))
     (λ k l. rw (← starts_before (get_or slots k 0) start count (h k (omega arith))))
 
--- no slots at all
-pub wrote_nowhere : (slots : List ℕ) (writes : ℕ → Bool) (cell : ℕ → FactCell) (kinds values : List ℕ) → length slots ≡ 0 → length kinds ≡ length slots
-    → length values ≡ length slots
-    → Wrote slots writes cell (row_slices kinds values) (row_slices kinds values)
-wrote_nowhere slots writes cell kinds values none nk nv =
-    wrote slots writes cell kinds values nk nv kinds values refl refl (λ k l. absurd (omega arith)) (λ k l. absurd (omega arith))
-
 -- so, where the last slot lies before it
 pub last_below : (slots : List ℕ) (start : ℕ) → ascends slots ≡ true → get_or slots (length slots - 1) 0 < start → (k : ℕ) → k < length slots → get_or slots k 0 < start
 last_below slots start asc h k l = let m : k ≤ length slots - 1 = omega arith in go (eq-or-lt_of_le m)
@@ -111,31 +99,21 @@ last_below slots start asc h k l = let m : k ≤ length slots - 1 = omega arith 
 
 -- ---- several
 
--- i of the ranges are written
-pub record Ranging (w : Written) (sheet slots : List ℕ) (cell : ℕ → FactCell) (kinds values kinds' values' : List ℕ) (i : ℕ) : Type 0 where
-  pub within : i ≤ slot_range_count w
-  pub kinds_long : length kinds ≡ length slots
-  pub is : Wrote slots (among w sheet i) cell (row_slices kinds values) (row_slices kinds' values')
+module _ (sheet : List ℕ) (first : ℕ) (slots : List ℕ) (cell : ℕ → FactCell) (kinds values : List ℕ) where
+  -- the first i ranges are written
+  abbrev pub Ranging : List ℕ → List ℕ → ℕ → Type 0
+  Ranging kinds' values' i = Wrote slots (λ slot. in_ranges sheet slot first i) cell (row_slices kinds values) (row_slices kinds' values')
 
-module _ (w : Written) (sheet slots : List ℕ) (cell : ℕ → FactCell) (kinds values : List ℕ) where
-  pub ranging_start : length kinds ≡ length slots → length values ≡ length slots → Ranging w sheet slots cell kinds values kinds values 0
-  unfolding among
-  ranging_start nk nv = record {
-    within = omega arith;
-    kinds_long = nk;
-    is = wrote_none slots (among w sheet 0) cell kinds values nk nv (λ slot. refl);
-  }
+  pub ranging_start : length kinds ≡ length slots → length values ≡ length slots → Ranging kinds values 0
+  unfolding in_ranges
+  ranging_start nk nv = wrote_none slots (λ slot. in_ranges sheet slot first 0) cell kinds values nk nv (λ slot. refl)
 
-  module _ {kinds' values' : List ℕ} {i : ℕ} (r : Ranging w sheet slots cell kinds values kinds' values' i) where
-    pub ranging_more : {kinds'' values'' : List ℕ} {range : SlotRange} → i < slot_range_count w → range ≡ slot_range w sheet i
-        → Wrote slots (λ slot. in_range slot range.start range.count) cell (row_slices kinds' values') (row_slices kinds'' values'')
-        → Ranging w sheet slots cell kinds values kinds'' values'' (i + 1)
-    unfolding among
-    ranging_more h e u = record {
-      within = omega arith;
-      kinds_long = r.kinds_long;
-      is = wrote_both (among w sheet (i + 1)) (λ slot. rw (add-one i, e)) r.is u;
-    }
+  module _ (i : ℕ) {kinds' values' : List ℕ} {start : ℕ} (r : Ranging kinds' values' i) (e : start ≡ range_start sheet (first + i)) where
+    pub ranging_more : {kinds'' values'' : List ℕ} {count : ℕ} → count ≡ range_length sheet (first + i)
+        → Wrote slots (λ slot. in_range slot start count) cell (row_slices kinds' values') (row_slices kinds'' values'') → Ranging kinds'' values'' (i + 1)
+    ranging_more d w = wrote_both (λ slot. in_ranges sheet slot first (i + 1)) (λ slot. rw (add-one i, e, d) (ranges_suc sheet slot first i)) r w
 
-    pub ranging_all : slot_range_count w ≤ i → Wrote slots (holds_slot w sheet) cell (row_slices kinds values) (row_slices kinds' values')
-    ranging_all h = let e : i ≡ slot_range_count w = omega (arith, r.within) in wrote_as (λ slot. rw e (among_all w sheet slot)) r.is
+    -- one that lies behind all slots
+    pub ranging_beyond : ascends slots ≡ true → get_or slots (length slots - 1) 0 < start → Ranging kinds' values' (i + 1)
+    ranging_beyond asc h =
+        ranging_more refl (wrote_beyond slots start (range_length sheet (first + i)) cell kinds' values' r.kinds_long r.values_long (last_below slots start asc h))

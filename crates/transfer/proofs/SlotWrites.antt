@@ -144,16 +144,6 @@ module _ (slots : List ℕ) (writes : ℕ → Bool) (cell : ℕ → FactCell) (k
         (λ k h. w.values_are k (omega arith));
   }
 
--- where another test holds of the same slots
-pub wrote_as : {slots : List ℕ} {writes test : ℕ → Bool} {cell : ℕ → FactCell} {old new : RowSlices} → ((slot : ℕ) → writes slot ≡ test slot)
-    → Wrote slots writes cell old new → Wrote slots test cell old new
-wrote_as {slots} e w = record {
-  kinds_long = w.kinds_long;
-  values_long = w.values_long;
-  kinds_are = λ k h. rw (← e (get_or slots k 0)) (w.kinds_are k h);
-  values_are = λ k h. rw (← e (get_or slots k 0)) (w.values_are k h);
-}
-
 -- first where one test holds, then where another does
 both : (s t : Bool) (x y : ℕ) → cond t y (cond s y x) ≡ cond (s || t) y x
 both true true x y = refl

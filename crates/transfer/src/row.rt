@@ -4,11 +4,13 @@ ghost use Rattle.model.specs.Fact.{Row};
 ghost use Rattle.model.specs.Promise.{lent_row};
 ghost use Rattle.model.specs.Tables.{RowLies, fact_in, facts_in, row_slices};
 ghost use Rattle.model.specs.Transfer.{checked_from, index_checked, transfer_row};
-ghost use Rattle.fact_row.specs.Rows.{ReadableRow, WritableRow};
+ghost use Rattle.fact_row.specs.Changed.{cells_in, SameRow};
+ghost use Rattle.fact_row.specs.Rows.{ReadableRow};
 ghost use Rattle.transfer.specs.Analysis.{checks_index};
 
 use crate::rows::write_slots;
-use fact_row::{TrackedRow, checked_cell, set_fact};
+use fact_row::{FactRow, TrackedRow, checked_cell};
+use memory::copy;
 use model::{AnalysisKind, FactCell, Instruction};
 use transfer_facts::effect_of;
 use transfer_written::RangedSheet;
@@ -28,29 +30,22 @@ fn checks_index(which: AnalysisKind, op: u8) -> bool
 }
 
 // "IndexCheck then sets a from the constant analysis at that instruction", written or not.
-fn set_checked(
-    which: AnalysisKind,
-    inst: Instruction,
-    length_fact: FactCell,
-    slots: &[u16],
-    kinds: &mut [u8],
-    values: &mut [u64],
-)
-    requires { WritableRow slots.now kinds.old values.old }
-    ensures { let out = lent_row kinds values in
-        let fact = checked_from (fact_in length_fact) in
-        (row : Row) → RowLies row out.entry → RowLies (index_checked (checks_index which inst.op) inst slots.now fact row) out.exit }
+fn set_checked(which: AnalysisKind, inst: Instruction, length_fact: FactCell, out: &mut FactRow)
+    ensures same { SameRow out.old out.new }
+    ensures checked { let fact = checked_from (fact_in length_fact) in
+        (row : Row) → RowLies row (cells_in out.old) → RowLies (index_checked (checks_index which inst.op) inst out.old.slots.now fact row) (cells_in out.new) }
 {
     if checks_index(which, inst.op) {
         let checked = checked_cell(length_fact);
-        set_fact(slots, usize::from(inst.a), checked, kinds, values);
+        out.set(usize::from(inst.a), checked);
     }
 }
 
 // "A copy of that instruction's row goes through its transfer.": the row in kinds and values goes into out_kinds and out_values. "All reads
 // take the state before the instruction.", and length_fact is what the constant analysis knows of b before it; only the index analysis reads it.
 // The row comes as three slices and not as a TrackedRow, which was tried: a proof knows that each number of a slice fits where the slice is a
-// parameter, and not where it is a field, and "no slot lies past 65,535" is needed.
+// parameter, and not where it is a field, and "no slot lies past 65,535" is needed. So what is written comes as two slices: a FactRow would
+// bring the same slots a second time.
 pub fn transfer_row(
     which: AnalysisKind,
     sheet: &RangedSheet,
@@ -77,8 +72,13 @@ pub fn transfer_row(
     };
     let effect = effect_of(which, sheet.sheet, &row, pc, inst);
     let written = sheet.slots_written(which, &row, pc, inst);
-    out_kinds.copy_from_slice(kinds);
-    out_values.copy_from_slice(values);
-    write_slots(effect, written, sheet.sheet, &row, out_kinds, out_values);
-    set_checked(which, inst, length_fact, slots, out_kinds, out_values);
+    copy(kinds, out_kinds);
+    copy(values, out_values);
+    let mut out = FactRow {
+        slots,
+        kinds: out_kinds,
+        values: out_values,
+    };
+    write_slots(effect, written, sheet.sheet, &row, &mut out);
+    set_checked(which, inst, length_fact, &mut out);
 }

@@ -1,6 +1,6 @@
 -- What the slots that an instruction writes become, in each analysis.
 -- Assumes nothing.
-use Rattle.std.specs.Prelude.{Bool, true, false, List, ℕ, ◌+◌, ◌-◌, eqb, Option as Choice, Some, None}
+use Rattle.std.specs.Prelude.{Bool, true, false, List, ℕ, ◌+◌, ◌-◌, eqb, Option, Some, None}
 use Rattle.model.specs.Fact.{Fact, Row}
 use Rattle.model.specs.Opcode.{CopyN, MapIterNext}
 use Rattle.model.specs.Sheet.{instruction}
@@ -15,7 +15,7 @@ use Rattle.transfer_facts.specs.declared.Effect.{Effect}
 use Rattle.transfer_facts.specs.declared.Effect.TheVariants.{Filled, Copied}
 
 -- how far a slot lies from the start, where it is in the range
-unfoldable pub offset_found : Bool → ℕ → Choice ℕ
+unfoldable pub offset_found : Bool → ℕ → Option ℕ
 offset_found true offset = Some offset
 offset_found false offset = None
 

@@ -1,9 +1,9 @@
 -- What an operation on two numbers answers, as a fact.
 -- Assumes nothing.
-use Rattle.std.specs.Prelude.{ℕ, Option as Choice, Some, None}
+use Rattle.std.specs.Prelude.{ℕ, Option, Some, None}
 use Rattle.model.specs.Fact.{Fact, unknown, known}
 
 -- a number, or Unknown
-abbrev pub folded : Choice ℕ → Fact
+abbrev pub folded : Option ℕ → Fact
 folded (Some value) = known 0 value
 folded None = unknown

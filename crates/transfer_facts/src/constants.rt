@@ -1,5 +1,5 @@
 // What the constant analysis knows of a slot that an instruction writes.
-ghost use Rattle.std.specs.Prelude.{◌≡◌, ℕ, ◌+◌, ◌*◌, ◌<◌, eqb, Option as Choice};
+ghost use Rattle.std.specs.Prelude.{◌≡◌, ℕ, ◌+◌, ◌*◌, ◌<◌, eqb, Option};
 ghost use Rattle.model.specs.Fact.{Fact};
 ghost use Rattle.model.specs.Successors.{imm32};
 ghost use Rattle.model.specs.Tables.{fact_in, cell_of};
@@ -49,7 +49,7 @@ fn fold_u64_constant_binary<F: FnOnce(u64, u64) -> Option<u64>>(
 ) -> FactCell
     requires { F.IsAlwaysCallable operation }
     ensures { (f : ℕ → ℕ → Fact)
-        → ((x y : ℕ) (r : Choice ℕ) → F.post operation x y r → folded r ≡ f x y)
+        → ((x y : ℕ) (r : Option ℕ) → F.post operation x y r → folded r ≡ f x y)
         → result ≡ cell_of (fold f inst row.now.slots.now (facts_read row.now)) }
 {
     let left = row.fact_for_tracked_source(usize::from(inst.b));

@@ -22,7 +22,7 @@ unfoldable pub among : Written → List ℕ → ℕ → ℕ → Bool
 among w sheet zero slot = false
 among w sheet (suc i) slot = among w sheet i slot || in_range slot (slot_range w sheet i).start (slot_range w sheet i).count
 
-ranges_suc : (sheet : List ℕ) (slot first i : ℕ)
+pub ranges_suc : (sheet : List ℕ) (slot first i : ℕ)
     → in_ranges sheet slot first (suc i) ≡ in_ranges sheet slot first i || in_range slot (range_start sheet (first + i)) (range_length sheet (first + i))
 unfolding in_ranges
 ranges_suc sheet slot first zero = let e : first + 0 ≡ first = omega arith in rw e (or-false _)

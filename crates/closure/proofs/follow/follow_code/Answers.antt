@@ -3,24 +3,23 @@
 use Rattle.std.proofs.Common.{arith}
 use Rattle.sheet.proofs.SizeNames.{counted}
 use Rattle.sheet.proofs.SizeLimits.{limited}
-use Rattle.closure_marks.proofs.Marks.{lain_on}
 use Rattle.closure.proofs.FollowEdges.{follows_none, follows_more, follows_below}
 use Rattle.closure.proofs.follow.follow_code.Goals as goal
 
 pub loop-pc-init : goal.loop-pc-init
-loop-pc-init c = (omega arith, follows_none _ _ _ _ _ _)
+loop-pc-init c = (omega arith, follows_none _ _ _ _)
 
-pub follow_instruction-followed-requires : goal.follow_instruction-followed-requires
-follow_instruction-followed-requires c =
-    let done = c.loop-pc.invariant in
-    let asked = c.requires in
-    let l = limited c.args.sheet.now.measured in
-    (asked.1, l.local_slots_is, omega (arith, done.0, c.loop-pc-test.true, asked.0, l.code_count_is), lain_on done.1.goes asked.2)
+pub follow_instruction-count-requires : goal.follow_instruction-count-requires
+follow_instruction-count-requires c = (c.requires.1, (limited c.args.sheet.now.measured).local_slots_is)
+
+pub overflow_add-count : goal.overflow_add-count
+overflow_add-count c =
+    omega (arith, c.loop-pc.invariant.0, c.follow_instruction-count.ensures.0, c.loop-pc-test.true, c.requires.0, (limited c.args.sheet.now.measured).code_count_is)
 
 pub loop-pc-preserved : goal.loop-pc-preserved
 loop-pc-preserved c =
     let done = c.loop-pc.invariant in
-    let followed = c.follow_instruction-followed.ensures in
+    let followed = c.follow_instruction-count.ensures in
     (omega (arith, done.0, followed.0), follows_more _ _ _ _ _ _ done.1 c.instruction.ensures (counted c.args.sheet.now.measured.are).local_slots_is followed.1)
 
 pub returns : goal.returns

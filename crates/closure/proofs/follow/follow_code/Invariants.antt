@@ -7,5 +7,4 @@ use Rattle.closure.specs.Sources.{Follows}
 use Rattle.closure.proofs.follow.follow_code.Given as goal
 
 abbrev pub invariant-loop-pc : goal.invariant-loop-pc
-invariant-loop-pc l =
-    (l.followed.count ≤ l.pc * 255) × Follows l.bit (collect (edges_at l.sheet.bytes.now l.d) l.pc) l.initial.marks l.initial.stack l.initial.followed l.marks l.stack l.followed
+invariant-loop-pc l = (l.count ≤ l.pc * 255) × Follows l.bit (collect (edges_at l.sheet.bytes.now l.d) l.pc) l.initial.marked l.marked l.count

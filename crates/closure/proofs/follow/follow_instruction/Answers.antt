@@ -13,10 +13,10 @@ returns-then-reach-wrapping_sub_usize c = (
 
 pub returns-then-edges-bit-eq0 : goal.returns-then-edges-bit-eq0
 returns-then-edges-bit-eq0 c =
-    (omega (arith, c.count.ensures.1), followed_none _ _ c.edges_to-edges.result c.edges_to-edges.ensures c.args.from c.count.ensures.0 c.if-edges-bit-eq0.true)
+    (omega (arith, c.count-count.ensures.1), followed_none _ _ c.edges_to-edges.result c.edges_to-edges.ensures c.count-count.ensures.0 c.if-edges-bit-eq0.true)
 
 pub returns : goal.returns
 returns c = (
-  omega (arith, c.count.ensures.1),
-  followed_some _ _ c.edges_to-edges.result c.edges_to-edges.ensures c.args.from c.count.ensures.0 c.if-edges-bit-eq0.false c.mark_slots-next.ensures,
+  omega (arith, c.count-count.ensures.1),
+  followed_some _ _ c.edges_to-edges.result c.edges_to-edges.ensures c.count-count.ensures.0 c.if-edges-bit-eq0.false c.mark_all.ensures,
 )

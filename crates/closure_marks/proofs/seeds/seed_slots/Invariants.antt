@@ -1,8 +1,8 @@
 -- `closure_marks::seed_slots` meets its contract: the seeds of the instructions passed are marked.
 -- Assumes nothing.
 use Rattle.model.specs.Closure.{mark_seeds}
-use Rattle.closure_marks.specs.Marks.{Goes}
+use Rattle.closure_marks.specs.Marks.{Steps}
 use Rattle.closure_marks.proofs.seeds.seed_slots.Given as goal
 
 abbrev pub invariant-loop-pc : goal.invariant-loop-pc
-invariant-loop-pc l = Goes (mark_seeds l.which l.sheet.bytes.now l.pc) l.initial.marks l.initial.stack l.initial.top l.marks l.stack l.top
+invariant-loop-pc l = Steps (mark_seeds l.which l.sheet.bytes.now l.pc) l.initial.marked l.marked
