@@ -4,7 +4,7 @@ use mathlib.Core.Path.{◌≡◌, sym, ap, ◌∙◌}
 use mathlib.Core.Bool.{Bool}
 use mathlib.Core.List.{List, [], ◌∷◌}
 use mathlib.Core.Option.{Option, none}
-use Prim.Native.Nat.{ℕ, ◌+◌, ◌*◌, ◌≤◌, ◌<◌}
+use Prim.Native.Nat.{ℕ, ◌+◌, ◌*◌, ◌<◌}
 use native.Mathlib.Nat.{mul-le-mul_right}
 use native.Mathlib.Omega.{arith}
 use lib.ListN.{length, set, replicate, length-replicate, length-set}
@@ -16,15 +16,14 @@ use Rattle.model.proofs.Facts.{lies_kinds, lies_values}
 use Rattle.model.specs.Analyses.{analysis}
 use Rattle.model.specs.Demand.{Lawful}
 use Rattle.model.specs.declared.VerifierResources.{VerifierResources}
-use Rattle.model.specs.declared.AnalysisKind.{AnalysisKind}
-use Rattle.sheet.specs.declared.Sizes.{Sizes}
 use Rattle.sheet_layouts.specs.Classes.{equal_by}
 use Rattle.sheet_layouts.proofs.Classes.{equal_by_lem}
 use Rattle.fixpoint_list.specs.Listed.{Listed}
 use Rattle.fixpoint_list.proofs.Listed.{empty_listed, listed_added}
 use Rattle.fixpoint_step.specs.News.{rows_visited}
 use Rattle.fixpoint_step.specs.Visits.{JoinRequires, JoinEnsures}
-use Rattle.fixpoint_step.specs.Stepped.{SheetIndex, TrackedSlots}
+use Rattle.fixpoint_step.specs.OneStep.{sheet_of}
+use Rattle.fixpoint_step.specs.declared.tracked.TrackedAnalysis.{TrackedAnalysis}
 use Rattle.fixpoint.specs.Memory.{RunMemory, run_memory}
 use Rattle.fixpoint.specs.Turn.{ran_analysis, Turn, RunRequires}
 use Rattle.fixpoint.proofs.LoopTurns.{law, turn_of}
@@ -43,8 +42,8 @@ lent_lengths {n} {s} f = (
 )
 
 -- a turn keeps them
-pub turn_lengths : {which : AnalysisKind} {sheet slots length_kinds length_values : List ℕ} {entry : Row} {left room : ℕ} {m old : RunMemory} {top pops rest : ℕ}
-    → Turn which sheet slots length_kinds length_values entry left room m top pops rest → RunRequires (code_count sheet) (length slots) old → RunLengths m old
+pub turn_lengths : {a : TrackedAnalysis} {entry : Row} {left room : ℕ} {m old : RunMemory} {top pops rest : ℕ}
+    → Turn a entry left room m top pops rest → RunRequires (code_count (sheet_of a)) (length a.slots.now) old → RunLengths m old
 turn_lengths t f =
     let w = lent_lengths f in record {
       present = t.present_length ∙ sym w.0;
@@ -54,33 +53,31 @@ turn_lengths t f =
       row_values = t.row_values_length ∙ sym w.4;
     }
 
-module _ (which : AnalysisKind) {sheet : List ℕ} {sizes : Sizes} {firsts classes slots length_kinds length_values : List ℕ} (resources : VerifierResources)
-    {present kinds values row_kinds row_values list : List ℕ}
-    (i : SheetIndex sheet sizes firsts classes length_kinds length_values) (s : TrackedSlots sheet slots)
-    (f : RunRequires (code_count sheet) (length slots) (run_memory present kinds values row_kinds row_values list)) where
+module _ (a : TrackedAnalysis) (resources : VerifierResources) {present kinds values row_kinds row_values list : List ℕ}
+    (f : RunRequires (code_count (sheet_of a)) (length a.slots.now) (run_memory present kinds values row_kinds row_values list)) where
   abbrev first : Row
   first = facts_of row_kinds row_values
 
-  abbrev a : Analysis
-  a = ran_analysis which sheet slots length_kinds length_values first
+  abbrev of : Analysis
+  of = ran_analysis a first
 
-  lawful : Lawful (ran_analysis which sheet slots length_kinds length_values (facts_of row_kinds row_values))
-  lawful = law which sheet sizes firsts classes slots length_kinds length_values first resources (length list) i s f.row_length f.list_fits
+  lawful : Lawful (ran_analysis a (facts_of row_kinds row_values))
+  lawful = law a first f.row_length
 
-  none_lie : RowsLie (length slots) (replicate (code_count sheet) none) (table_slices present kinds values)
+  none_lie : RowsLie (length a.slots.now) (replicate (code_count (sheet_of a)) none) (table_slices present kinds values)
   unfolding ran_analysis analysis
-  none_lie = rw (f.present_zero, f.kinds_zero, f.values_zero) (T.none_lie a lawful)
+  none_lie = rw (f.present_zero, f.kinds_zero, f.values_zero) (T.none_lie of lawful)
 
   -- instruction 0 gets the first row
   pub start_joins : JoinRequires 0 (table_slices present kinds values) (row_slices row_kinds row_values)
   start_joins =
       let w = lent_lengths f in record {
-        below = rw w.0 s.some_code;
+        below = rw w.0 a.tracked.some_code;
         visitable = record {
           row_values_length = w.4 ∙ sym w.3;
           kinds_length = rw (w.3, w.0) w.1;
           values_length = rw (w.3, w.0) w.2;
-          rows = replicate (code_count sheet) none;
+          rows = replicate (code_count (sheet_of a)) none;
           copy = first;
           rows_lie = rw w.3 none_lie;
           copy_lies = f.row_lies;
@@ -89,18 +86,15 @@ module _ (which : AnalysisKind) {sheet : List ℕ} {sizes : Sizes} {firsts class
 
   -- and the list holds 0 alone
   some_room : 0 < length list
-  some_room = let k = mul-le-mul_right (1 + 2 * length slots) s.some_code in omega (arith, f.list_fits)
+  some_room = let k = mul-le-mul_right (1 + 2 * length a.slots.now) a.tracked.some_code in omega (arith, f.list_fits)
 
-  pub start_enters : (0 < length list) × (0 ≤ 65535)
-  start_enters = (some_room, omega arith)
-
-  module _ (new : TableSlices) (fresh : Bool) (j : JoinEnsures (equal_by which classes) 0 (table_slices present kinds values) (row_slices row_kinds row_values) new fresh)
+  module _ (new : TableSlices) (fresh : Bool) (j : JoinEnsures (equal_by a.which a.indexed.now.classes.now) 0 (table_slices present kinds values) (row_slices row_kinds row_values) new fresh)
       {lisnew : List ℕ} {top' : ℕ} (l' : lisnew ≡ set list 0 0) (t' : top' ≡ 0 + 1) where
-    joined : RowsLie (length slots) (rows_visited (equal_known which sheet) first 0 (replicate (code_count sheet) none)) new
+    joined : RowsLie (length a.slots.now) (rows_visited (equal_known a.which (sheet_of a)) first 0 (replicate (code_count (sheet_of a)) none)) new
     unfolding JoinEnsures ran_analysis analysis
     joined =
-        ((rw ((lent_lengths f).3, equal_by_lem i.classes_are which) at j) (replicate (code_count sheet) none) first none_lie f.row_lies
-        (rw (length-replicate {A = Option Row} (code_count sheet) none) s.some_code)).0
+        ((rw ((lent_lengths f).3, equal_by_lem a.indexed.now.classed a.which) at j) (replicate (code_count (sheet_of a)) none) first none_lie f.row_lies
+        (rw (length-replicate {A = Option Row} (code_count (sheet_of a)) none) a.tracked.some_code)).0
 
     listed : Listed (0 ∷ []) lisnew top'
     listed = rw (l', t') (listed_added 0 [] list 0 (empty_listed list f.list_zero) some_room)
@@ -109,9 +103,9 @@ module _ (which : AnalysisKind) {sheet : List ℕ} {sizes : Sizes} {firsts class
     list_length = rw l' (length-set list 0 0)
 
     -- what the loop asks
-    pub start_turn : Turn which sheet slots length_kinds length_values (facts_of row_kinds row_values) resources.work (length lisnew) (run_memory new.present new.kinds new.values row_kinds row_values lisnew) top' 0 resources.work
+    pub start_turn : Turn a (facts_of row_kinds row_values) resources.work (length lisnew) (run_memory new.present new.kinds new.values row_kinds row_values lisnew) top' 0 resources.work
     unfolding ran_analysis analysis
     start_turn =
-        rw list_length (turn_of which sheet sizes firsts classes slots length_kinds length_values first resources (length list) i s f.row_length f.list_fits
+        rw list_length (turn_of a first f.row_length resources.work (length list) f.list_fits
         (run_memory new.present new.kinds new.values row_kinds row_values lisnew) top' 0 resources.work (lent_lengths f).3 (lent_lengths f).4 list_length
-        (T.started a lawful resources.work new lisnew top' joined listed))
+        (T.started of lawful resources.work new lisnew top' joined listed))

@@ -2,7 +2,6 @@
 #![tactic(auto)]
 
 mod answer;
-mod clearing;
 mod list;
 
 pub use list::run_to_fixpoint;

@@ -6,7 +6,6 @@ use mathlib.Core.List.{List, [], ◌∷◌, ◌++◌}
 use Prim.Native.Nat.{ℕ, ◌+◌, ◌-◌, ◌≤◌, ◌<◌}
 use native.Mathlib.Omega.{arith}
 use lib.ListN.{length, get_or, set, take, length-set}
-use lib.Seq.{take_all}
 use Rattle.std.proofs.lemmas.List.{take_more}
 use Rattle.model.specs.Call.{zeros}
 use Rattle.model.specs.Tables.{stacked}
@@ -58,10 +57,6 @@ unfolding EachEntered
 one_more_entered added i old top list list' now top' e h room l t entries lies =
     rw (take_more added i 0 h, entered_more (take i added) (get_or added i 0) entries, l, t)
     (listed_added (get_or added i 0) (entered (take i added) entries) list now (e entries lies) room)
-
-pub all_entered : (added : List ℕ) (i : ℕ) (old : List ℕ) (top : ℕ) (list : List ℕ) (now : ℕ)
-    → EachEntered (take i added) old top list now → length added ≤ i → EachEntered added old top list now
-all_entered added i old top list now e h = rw (take_all i added h) at e
 
 -- the entry added last is taken
 pub listed_take : (entries work_list : List ℕ) (top : ℕ) → Listed entries work_list top → length entries ≤ length work_list → 0 < top

@@ -1,6 +1,7 @@
 // The work list: "a list of instruction numbers". Its cells are read and written here alone; the laws (proofs/Listed) tell of it as a list.
-// The lent buffer and the count of entries go side by side: one loop alone holds them, and each contract over a struct of both would have
-// to say besides that it still lends the same buffer, so that is no plainer.
+// The lent buffer and the count of entries go side by side, and one loop alone holds them. A struct of both was tried, and proved: each of its
+// methods, and the loop's invariant, then has to say besides that it still lends the same buffer, which makes both longer, for the same
+// machine code. So it is no plainer.
 #![tactic(auto)]
 
 ghost use Rattle.std.specs.Prelude.{◌≡◌, ℕ, ◌+◌, ◌-◌, ◌≤◌, ◌<◌, length, get_or, set};

@@ -1,6 +1,6 @@
 -- The successors of an instruction, at most two, visited one after the other.
 -- Assumes nothing.
-use mathlib.Core.Path.{◌≡◌, refl, sym, ap, ap₂, ◌∙◌}
+use mathlib.Core.Path.{◌≡◌, refl, sym, ap, ap₂, ◌∙◌, subst}
 use mathlib.Core.Bool.{Bool, true, false, cond}
 use mathlib.Core.List.Memᴰ.{head}
 use mathlib.Core.List.Memᴰ.{tail}
@@ -10,9 +10,9 @@ use Prim.Native.Nat.{ℕ, zero, suc, ◌+◌, ◌-◌, ◌≤◌, ◌<◌}
 use native.Mathlib.Omega.{arith}
 use lib.Dec.{ltb}
 use lib.IntN.{ℤ, pos, negsuc}
-use lib.ListN.{length, get_or, set, take, replicate, length-append, length-take}
-use lib.Seq.{take_all, take-append_seam}
-use Rattle.std.proofs.lemmas.List.{take_more}
+use lib.ListN.{length, get_or, take, replicate, length-append, get_or-append}
+use borrow.Author.Tests.{lt-ltb, le-ltb}
+use lib.Seq.{take-append_seam}
 use Rattle.model.specs.Sheet.{instruction, code_count}
 use Rattle.model.specs.Successors.{Branch, fall_through, jump, conditional, for_loop, leave, branch, contains, push, push_valid, push_fallthrough, jump_target, for_loop_target, branch_successors, successors, sheet_successors, as_record}
 use Rattle.model.specs.Fact.{Row}
@@ -26,7 +26,7 @@ use Rattle.sheet.specs.declared.Sizes.{Sizes}
 use Rattle.sheet.proofs.SizeNames.{counted}
 use Rattle.fixpoint_list.specs.Listed.{entered}
 use Rattle.fixpoint_step.specs.News.{rows_visited, rows_after, news_of}
-use Rattle.fixpoint_step.specs.Visits.{JoinRequires, JoinEnsures, SuccessorsRequires, SuccessorsEnsures}
+use Rattle.fixpoint_step.specs.Visits.{JoinEnsures, successor_at, NextRequires, NextEnsures, SuccessorsRequires, SuccessorsEnsures}
 use Rattle.fixpoint_step.proofs.VisitedTables.{rows_are}
 
 -- ---- at most two
@@ -73,6 +73,22 @@ pub member_at : (l : List ℕ) (k : ℕ) → k < length l → Member (get_or l k
 member_at [] k h = absurd (omega arith)
 member_at (q ∷ qs) zero h = head refl
 member_at (q ∷ qs) (suc k) h = tail (member_at qs k (omega arith))
+
+one_at : (next : InstructionSuccessors) (k : ℕ) → length (successor_at next k) ≤ 1
+unfolding successor_at
+one_at next k = go (ltb k next.len)
+  where
+    go : (b : Bool) → length (cond b (get_or next.pcs k 0 ∷ []) []) ≤ 1
+    go true = omega arith
+    go false = omega arith
+
+-- the first and the second are all
+both_are : (l : List ℕ) → length l ≤ 2 → successor_at (as_record l) 0 ++ successor_at (as_record l) 1 ≡ l
+unfolding successor_at as_record
+both_are [] h = refl
+both_are (q ∷ []) h = refl
+both_are (q ∷ (r ∷ [])) h = refl
+both_are (q ∷ (r ∷ (x ∷ xs))) h = absurd (omega arith)
 
 -- ---- visits without the list
 
@@ -141,16 +157,21 @@ module _ (same : ℕ → ℕ → ℕ → ℕ → Bool) (copy : Row) where
 
 -- ---- the loop over them
 
--- one more that had news, in the record
-pub with_one_more : (pcs : List ℕ) (len q : ℕ) → len < 2 → (targets : List ℕ)
+-- one more that had news, in the record: the first, and the second
+pub with_first : (pcs : List ℕ) (len q : ℕ) → len ≡ 0 → (targets : List ℕ)
     → ◌≡◌ {A = InstructionSuccessors} record { pcs = pcs; len = len } (as_record targets)
-    → ◌≡◌ {A = InstructionSuccessors} record { pcs = set pcs len q; len = len + 1 } (as_record (targets ++ (q ∷ [])))
+    → ◌≡◌ {A = InstructionSuccessors} record { pcs = q ∷ 0 ∷ []; len = 1 } (as_record (targets ++ (q ∷ [])))
 unfolding as_record
-with_one_more pcs len q h [] e =
-    rw (ap (λ (x : InstructionSuccessors). x.pcs) e, ap (λ (x : InstructionSuccessors). x.len) e) refl
-with_one_more pcs len q h (t ∷ []) e =
-    rw (ap (λ (x : InstructionSuccessors). x.pcs) e, ap (λ (x : InstructionSuccessors). x.len) e) refl
-with_one_more pcs len q h (t ∷ (u ∷ us)) e = absurd (omega (arith, ap (λ (x : InstructionSuccessors). x.len) e))
+with_first pcs len q h [] e = refl
+with_first pcs len q h (t ∷ ts) e = absurd (omega (arith, h, ap (λ (x : InstructionSuccessors). x.len) e))
+
+pub with_second : (pcs : List ℕ) (len q : ℕ) → 0 < len → len < 2 → (targets : List ℕ)
+    → ◌≡◌ {A = InstructionSuccessors} record { pcs = pcs; len = len } (as_record targets)
+    → ◌≡◌ {A = InstructionSuccessors} record { pcs = get_or pcs 0 0 ∷ q ∷ []; len = 2 } (as_record (targets ++ (q ∷ [])))
+unfolding as_record
+with_second pcs len q m h [] e = absurd (omega (arith, m, ap (λ (x : InstructionSuccessors). x.len) e))
+with_second pcs len q m h (t ∷ []) e = rw (ap (λ (x : InstructionSuccessors). x.pcs) e) refl
+with_second pcs len q m h (t ∷ (u ∷ us)) e = absurd (omega (arith, h, ap (λ (x : InstructionSuccessors). x.len) e))
 
 -- what the record becomes: with q where its visit had news
 abbrev Told : Bool → ℕ → InstructionSuccessors → InstructionSuccessors → Type 0
@@ -174,6 +195,27 @@ module _ (same : ℕ → ℕ → ℕ → ℕ → Bool) (t : TableSlices) (row : 
             ∙ ap as_record (sym (news_more same copy qs q rows)),
       )
 
+-- ---- one of at most two
+
+module _ (same : ℕ → ℕ → ℕ → ℕ → Bool) (t : TableSlices) (row : RowSlices) (next : InstructionSuccessors) (k : ℕ) (had : InstructionSuccessors) (n : NextRequires next k had t row) where
+  next_told : (fresh : Bool) (t' : TableSlices) (r : InstructionSuccessors) → k < next.len → JoinEnsures same (get_or next.pcs k 0) t row t' fresh
+      → Told fresh (get_or next.pcs k 0) had r → NextEnsures same next k had t row t' r
+  unfolding NextEnsures successor_at
+  next_told fresh t' r h j w targets t₀ s =
+      rw (lt-ltb k next.len h) (one_more same t₀ row targets (get_or next.pcs k 0) t t' had r fresh s j (n.below h) w)
+
+  pub next_news : (fresh : Bool) (t' : TableSlices) (r : InstructionSuccessors) → k < next.len → JoinEnsures same (get_or next.pcs k 0) t row t' fresh → fresh ≡ true
+      → ((targets : List ℕ) → had ≡ as_record targets → r ≡ as_record (targets ++ (get_or next.pcs k 0 ∷ []))) → NextEnsures same next k had t row t' r
+  next_news fresh t' r h j e w = next_told fresh t' r h j (rw e w)
+
+  pub next_known : (fresh : Bool) (t' : TableSlices) → k < next.len → JoinEnsures same (get_or next.pcs k 0) t row t' fresh → fresh ≡ false
+      → NextEnsures same next k had t row t' had
+  next_known fresh t' h j e = next_told fresh t' had h j (rw e (λ targets i. rw (append-nil targets) i))
+
+  pub next_none : next.len ≤ k → NextEnsures same next k had t row t had
+  unfolding NextEnsures successor_at
+  next_none h targets t₀ s = rw (le-ltb k next.len h, append-nil targets) s
+
 -- ---- all successors
 
 -- the successors as the code holds them
@@ -192,64 +234,45 @@ module _ {sheet : List ℕ} {sizes : Sizes} (m : Measured sheet sizes) {p : ℕ}
     e : next ≡ as_record (sheet_successors sheet p)
     e = next_is p inst next m reads finds
 
-    entries : take next.len next.pcs ≡ sheet_successors sheet p
-    entries = ap (λ (x : InstructionSuccessors). take x.len x.pcs) e ∙ entries_are (sheet_successors sheet p)
-
-    pub few_next : next.len ≤ 2
+    target_below : (k : ℕ) → k < next.len → get_or next.pcs k 0 < code_count sheet
     unfolding as_record
-    few_next = omega (arith, ap (λ (x : InstructionSuccessors). x.len) e, list_length sheet p)
+    target_below =
+        subst (λ (x : InstructionSuccessors). (k : ℕ) → k < x.len → get_or x.pcs k 0 < code_count sheet) (sym e)
+        (λ k h. rw (get_or-append (sheet_successors sheet p) (replicate (2 - length (sheet_successors sheet p)) 0) 0 k h) (successors_below sheet p _ (member_at (sheet_successors sheet p) k h)))
 
-    module _ {k : ℕ} (h : k < length (take next.len next.pcs)) where
-      place : get_or (take next.len next.pcs) k 0 ≡ get_or (sheet_successors sheet p) k 0
-      place = ap (λ (x : List ℕ). get_or x k 0) entries
+    pub first_asks : NextRequires next 0 record { pcs = 0 ∷ 0 ∷ []; len = 0 } t row
+    first_asks = record { among = omega arith; below = λ h. rw f.present_length (target_below 0 h); room = λ h. omega arith; visitable = f.visitable }
 
-      among : k < length (sheet_successors sheet p)
-      among = rw entries at h
+    module _ (same : ℕ → ℕ → ℕ → ℕ → Bool) (t' : TableSlices) (had : InstructionSuccessors) (j : NextEnsures same next 0 record { pcs = 0 ∷ 0 ∷ []; len = 0 } t row t' had) where
+      first_told : SuccessorsEnsures same (successor_at next 0) t row t' had
+      unfolding NextEnsures
+      first_told = j [] t (none_visited same t row)
 
-      target_below : get_or (take next.len next.pcs) k 0 < code_count sheet
-      target_below = rw place (successors_below sheet p _ (member_at (sheet_successors sheet p) k among))
+      first_length : had.len < 2
+      unfolding SuccessorsEnsures as_record
+      first_length =
+          let v = f.visitable in
+          omega (arith, ap (λ (x : InstructionSuccessors). x.len) (first_told v.rows v.copy v.rows_lie v.copy_lies).1, news_length same v.copy (successor_at next 0) v.rows, one_at next 0)
 
-      module _ (same : ℕ → ℕ → ℕ → ℕ → Bool) (t' : TableSlices) (told : InstructionSuccessors)
-          (s : SuccessorsEnsures same (take k (sheet_successors sheet p)) t row t' told)
-          (hp : length t'.present ≡ length t.present) (hk : length t'.kinds ≡ length t.kinds) (hv : length t'.values ≡ length t.values) where
-        pub visit_asks : JoinRequires (get_or (take next.len next.pcs) k 0) t' row
-        unfolding SuccessorsEnsures
-        visit_asks = let v = f.visitable in record {
-          below = rw (hp, f.present_length) target_below;
-          visitable = record {
-            row_values_length = v.row_values_length;
-            kinds_length = rw (hk, hp) v.kinds_length;
-            values_length = rw (hv, hp) v.values_length;
-            rows = rows_after same v.copy (take k (sheet_successors sheet p)) v.rows;
-            copy = v.copy;
-            rows_lie = (s v.rows v.copy v.rows_lie v.copy_lies).0;
-            copy_lies = v.copy_lies;
-          };
-        }
+      pub second_asks : length t'.present ≡ length t.present → length t'.kinds ≡ length t.kinds → length t'.values ≡ length t.values → NextRequires next 1 had t' row
+      unfolding SuccessorsEnsures
+      second_asks hp hk hv =
+          let v = f.visitable in record {
+            among = omega arith;
+            below = λ h. rw (hp, f.present_length) (target_below 1 h);
+            room = λ h. first_length;
+            visitable = record {
+              row_values_length = v.row_values_length;
+              kinds_length = rw (hk, hp) v.kinds_length;
+              values_length = rw (hv, hp) v.values_length;
+              rows = rows_after same v.copy (successor_at next 0) v.rows;
+              copy = v.copy;
+              rows_lie = (first_told v.rows v.copy v.rows_lie v.copy_lies).0;
+              copy_lies = v.copy_lies;
+            };
+          }
 
-        pub room_for_one : told.len < 2
-        unfolding SuccessorsEnsures as_record
-        room_for_one =
-            let v = f.visitable in
-            let n = ap (λ (x : InstructionSuccessors). x.len) (s v.rows v.copy v.rows_lie v.copy_lies).1 in
-            omega (arith, n, news_length same v.copy (take k (sheet_successors sheet p)) v.rows, length-take k (sheet_successors sheet p), among, list_length sheet p)
-
-        module _ (t'' : TableSlices) (fresh : Bool) (j : JoinEnsures same (get_or (take next.len next.pcs) k 0) t' row t'' fresh) where
-          more : (told' : InstructionSuccessors) → Told fresh (get_or (take next.len next.pcs) k 0) told told'
-              → SuccessorsEnsures same (take (k + 1) (sheet_successors sheet p)) t row t'' told'
-          more told' w =
-              rw (take_more (sheet_successors sheet p) k 0 among, ← place)
-              (one_more same t row (take k (sheet_successors sheet p)) (get_or (take next.len next.pcs) k 0) t' t'' told told' fresh s j visit_asks.below w)
-
-          pub had_news : fresh ≡ true → (told' : InstructionSuccessors)
-              → ((targets : List ℕ) → told ≡ as_record targets → told' ≡ as_record (targets ++ (get_or (take next.len next.pcs) k 0 ∷ [])))
-              → SuccessorsEnsures same (take (k + 1) (sheet_successors sheet p)) t row t'' told'
-          had_news e told' w = more told' (rw e w)
-
-          pub had_none : fresh ≡ false → (told' : InstructionSuccessors) → told' ≡ told
-              → SuccessorsEnsures same (take (k + 1) (sheet_successors sheet p)) t row t'' told'
-          had_none e told' z = more told' (rw e (λ targets i. rw (append-nil targets) (z ∙ i)))
-
-    pub all_visited : (same : ℕ → ℕ → ℕ → ℕ → Bool) (k : ℕ) (t' : TableSlices) (told : InstructionSuccessors)
-        → SuccessorsEnsures same (take k (sheet_successors sheet p)) t row t' told → length (take next.len next.pcs) ≤ k → SuccessorsEnsures same (sheet_successors sheet p) t row t' told
-    all_visited same k t' told s h = rw (take_all k (sheet_successors sheet p) (rw entries at h)) at s
+      pub both_visited : (t'' : TableSlices) (r : InstructionSuccessors) → NextEnsures same next 1 had t' row t'' r → SuccessorsEnsures same (sheet_successors sheet p) t row t'' r
+      unfolding NextEnsures
+      both_visited t'' r k =
+          rw (ap (λ (x : InstructionSuccessors). successor_at x 0 ++ successor_at x 1) e, both_are (sheet_successors sheet p) (list_length sheet p)) at (k (successor_at next 0) t first_told)

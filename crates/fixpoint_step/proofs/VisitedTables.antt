@@ -5,12 +5,11 @@ use mathlib.Core.Logic.{◌≢◌, ◌⊎◌, inl, inr}
 use mathlib.Core.Bool.{Bool, true}
 use mathlib.Core.List.{List, map}
 use mathlib.Core.Option.{Option, none, some}
-use Prim.Native.Nat.{ℕ, ◌+◌, ◌*◌, ◌-◌, ◌≤◌, ◌<◌}
-use native.Mathlib.Nat.{mul-le-mul_right}
+use Prim.Native.Nat.{ℕ, ◌+◌, ◌*◌, ◌-◌, ◌<◌}
 use native.Mathlib.Omega.{arith}
 use lib.ListN.{length, get_or, set}
 use lib.Seq.{set-get_or}
-use borrow.Rule.Slice.PartMut.{mid_of, put_mid, Post-is, mid_len}
+use borrow.Rule.Slice.PartMut.{mid_of, put_mid, Post-is}
 use Rattle.model.specs.Fact.{Fact, kind, value, Row, join_row}
 use Rattle.model.specs.Run.{row_at, merged, news}
 use Rattle.model.specs.Tables.{present_byte, present_bytes, row_cells, cells, TableSlices, table_slices, RowsLie, RowSlices, row_slices, RowLies, facts_in}
@@ -21,10 +20,6 @@ use Rattle.join.specs.Rows.{JoinedRow}
 use Rattle.fixpoint_step.specs.News.{rows_visited}
 use Rattle.fixpoint_step.specs.Visits.{JoinRequires, JoinEnsures}
 use Rattle.model.proofs.Facts.{read_back, lies_back, lies_kinds, row_below}
-
--- the row of q ends within the table
-pub row_end : {n q : ℕ} (s : ℕ) → q < n → q * s + s ≤ n * s
-row_end {n} {q} s h = omega (arith, mul-le-mul_right s h)
 
 -- as many rows as present bytes
 pub rows_are : {s : ℕ} {rows : List (Option Row)} {t : TableSlices} → RowsLie s rows t → length t.present ≡ length rows
@@ -141,19 +136,9 @@ module _ (same : ℕ → ℕ → ℕ → ℕ → Bool) where
 -- ---- what a visit asks, put to use
 
 module _ {q : ℕ} {t : TableSlices} {row : RowSlices} (v : JoinRequires q t row) where
-  -- the row of q lies within both tables
-  pub visiting_end : (q * length row.kinds + length row.kinds ≤ length t.kinds) × (q * length row.kinds + length row.kinds ≤ length t.values)
-  visiting_end = let h = row_end (length row.kinds) v.below in (omega (arith, h, v.visitable.kinds_length), omega (arith, h, v.visitable.values_length))
-
   -- a row that stands there is a row of facts
   pub visiting_row : get_or t.present q 0 ≢ 0 → RowLies (facts_in (row_part (length row.kinds) q t)) (row_part (length row.kinds) q t)
   visiting_row e =
       let l = v.visitable.rows_lie in
       let found : (o : Row) × (row_at v.visitable.rows q ≡ some o) = there (row_at v.visitable.rows q) (λ z. e (rw l.present_are (present_at v.visitable.rows q ∙ z))) in
       lies_back (part_lies (length row.kinds) q l found.1)
-
-  -- and as long as the row to join
-  pub visiting_lengths : let old = row_part (length row.kinds) q t in (length row.kinds ≡ length old.kinds) × (length row.values ≡ length old.kinds)
-  visiting_lengths =
-      let k = mid_len (q * length row.kinds) (q * length row.kinds + length row.kinds) t.kinds visiting_end.0 in
-      (omega (arith, k), omega (arith, k, v.visitable.row_values_length))

@@ -1,21 +1,16 @@
--- What one step asks, and what it makes of the rows that lie in the lent slices.
+-- What one step asks.
 -- Assumes nothing.
 use Rattle.std.specs.Prelude.{◌≡◌, true, List, ℕ, ◌*◌, ◌≤◌, ◌<◌, length}
 use Rattle.std.proofs.Math.Option.{Option, some}
-use Rattle.model.specs.Fact.{Fact, Row, equal_known}
+use Rattle.model.specs.Fact.{Row}
 use Rattle.model.specs.Sheet.{code_count, first_range}
-use Rattle.model.specs.Successors.{sheet_successors, as_record}
 use Rattle.model.specs.Run.{row_at}
-use Rattle.model.specs.Tables.{TableSlices, RowsLie, RowSlices, RowLies}
-use Rattle.model.specs.Transfer.{transfer_row}
+use Rattle.model.specs.Tables.{TableSlices, RowsLie, RowSlices}
 use Rattle.model.specs.Lookup.{ascends}
-use Rattle.model.specs.declared.AnalysisKind.{AnalysisKind}
-use Rattle.model.specs.declared.InstructionSuccessors.{InstructionSuccessors}
 use Rattle.memory.specs.Front.{Holds}
 use Rattle.sheet.specs.Measured.{Accepted}
 use Rattle.sheet.specs.declared.Sizes.{Sizes}
 use Rattle.sheet_layouts.specs.Classes.{Classes}
-use Rattle.fixpoint_step.specs.News.{rows_after, news_of}
 
 -- What is found once a call: the first range of each instruction, the class of each layout, and room for the length facts.
 pub record SheetIndex (sheet : List ℕ) (sizes : Sizes) (firsts classes length_kinds length_values : List ℕ) : Type 0 where
@@ -45,16 +40,3 @@ pub record StepRequires (n s p : ℕ) (t : TableSlices) (row : RowSlices) : Type
   pub values_length : length t.values ≡ n * s
   pub row_kinds_length : length row.kinds ≡ s
   pub row_values_length : length row.values ≡ s
-
--- What a step of p makes of whatever rows lie there, and which successors had news.
-unfoldable pub StepEnsures : AnalysisKind → List ℕ → List ℕ → (ℕ → Fact) → ℕ → TableSlices → TableSlices → InstructionSuccessors → Type 0
-StepEnsures which sheet slots length_fact p old new r =
-    (rows : List (Option Row)) (row : Row) → RowsLie (length slots) rows old → row_at rows p ≡ some row
-    → RowsLie (length slots) (rows_after (equal_known which sheet) (transfer_row which sheet slots length_fact p row) (sheet_successors sheet p) rows) new
-    × (r ≡ as_record (news_of (equal_known which sheet) (transfer_row which sheet slots length_fact p row) (sheet_successors sheet p) rows))
-
--- The row scratch behind it: the copy of p's row, whatever row stands there, behind the transfer.
-unfoldable pub CopyEnsures : AnalysisKind → List ℕ → List ℕ → (ℕ → Fact) → ℕ → TableSlices → RowSlices → Type 0
-CopyEnsures which sheet slots length_fact p t copy =
-    (rows : List (Option Row)) (row : Row) → RowsLie (length slots) rows t → row_at rows p ≡ some row
-    → (length (transfer_row which sheet slots length_fact p row) ≡ length slots) × RowLies (transfer_row which sheet slots length_fact p row) copy

@@ -1,6 +1,6 @@
 -- What a visit asks, and what it makes of the rows that lie in the lent slices.
 -- Assumes nothing.
-use Rattle.std.specs.Prelude.{◌≡◌, Bool, List, ℕ, ◌*◌, ◌≤◌, ◌<◌, length}
+use Rattle.std.specs.Prelude.{◌≡◌, Bool, List, [], ◌∷◌, ◌++◌, ℕ, ◌*◌, ◌≤◌, ◌<◌, cond, ltb, length, get_or}
 use Rattle.std.proofs.Math.Option.{Option}
 use Rattle.model.specs.Fact.{Row}
 use Rattle.model.specs.Run.{row_at, news}
@@ -43,3 +43,19 @@ unfoldable pub SuccessorsEnsures : (ℕ → ℕ → ℕ → ℕ → Bool) → Li
 SuccessorsEnsures same targets old row new r =
     (rows : List (Option Row)) (copy : Row) → RowsLie (length row.kinds) rows old → RowLies copy row
     → RowsLie (length row.kinds) (rows_after same copy targets rows) new × (r ≡ as_record (news_of same copy targets rows))
+
+-- the k-th of at most two successors, if there is one
+unfoldable pub successor_at : InstructionSuccessors → ℕ → List ℕ
+successor_at next k = cond (ltb k next.len) (get_or next.pcs k 0 ∷ []) []
+
+-- the visit of the k-th: if there is one, it is an instruction, and the record of those that had news has room for it
+pub record NextRequires (next : InstructionSuccessors) (k : ℕ) (had : InstructionSuccessors) (t : TableSlices) (row : RowSlices) : Type 0 where
+  pub among : k < 2
+  pub below : k < next.len → get_or next.pcs k 0 < length t.present
+  pub room : k < next.len → had.len < 2
+  pub visitable : Visitable t row
+
+-- What is told of the visits before it is told with it.
+unfoldable pub NextEnsures : (ℕ → ℕ → ℕ → ℕ → Bool) → InstructionSuccessors → ℕ → InstructionSuccessors → TableSlices → RowSlices → TableSlices → InstructionSuccessors → Type 0
+NextEnsures same next k had old row new r =
+    (targets : List ℕ) (t : TableSlices) → SuccessorsEnsures same targets t row old had → SuccessorsEnsures same (targets ++ successor_at next k) t row new r

@@ -5,6 +5,7 @@ ghost use Rattle.sheet_layouts.specs.Classes.{equal_by};
 ghost use Rattle.fixpoint_step.specs.Visits.{JoinRequires, JoinEnsures};
 
 use join::join_row;
+use memory::copy;
 use model::AnalysisKind;
 
 // "without a row, it gets the copy; with one, the copy is joined into it": whether "the row is new or a kind or value changed".
@@ -27,8 +28,8 @@ pub fn join_into(
     let at = q * s;
     let end = at + s;
     if present[q] == 0 {
-        kinds[at..end].copy_from_slice(row_kinds);
-        values[at..end].copy_from_slice(row_values);
+        copy(row_kinds, &mut kinds[at..end]);
+        copy(row_values, &mut values[at..end]);
         present[q] = 1;
         true
     } else {

@@ -8,7 +8,7 @@ join_row-requires-clause-row_lies c = visiting_row c.requires c.if-present-q-eq0
 
 pub returns-then-present-q-eq0 : goal.returns-then-present-q-eq0
 returns-then-present-q-eq0 c =
-    visit_absent _ _ _ _ _ c.if-present-q-eq0.true c.copy_from_slice.ensures.after c.copy_from_slice-then-present-q-eq0.ensures.after
+    visit_absent _ _ _ _ _ c.if-present-q-eq0.true c.copy.ensures c.copy-then-present-q-eq0.ensures
 
 pub returns-else-present-q-eq0 : goal.returns-else-present-q-eq0
 returns-else-present-q-eq0 c = visit_present _ _ _ _ _ _ c.if-present-q-eq0.false c.join_row.ensures
