@@ -7,7 +7,7 @@ use mathlib.Core.Option.{some}
 use Prim.Native.Nat.{ℕ, ◌≤◌}
 use native.Mathlib.Omega.{arith}
 use lib.ListN.{length}
-use Rattle.model.specs.Sheet.{code_count, local_slots, first_range}
+use Rattle.model.specs.Sheet.{code_count, local_slots}
 use Rattle.model.specs.Charges.{Spent, continue}
 use Rattle.model.specs.Fact.{Fact}
 use Rattle.model.specs.Analyses.{Analysed, stage}
@@ -15,16 +15,15 @@ use Rattle.model.specs.Call.{Table, Scratch, room_for, zeros, zero_table}
 use Rattle.model.specs.declared.AnalysisKind.{AnalysisKind}
 use Rattle.model.specs.declared.Counts.{Counts}
 use Rattle.finality.proofs.Lengths.{zeros_length, SameLengths, zeros_same}
-use Rattle.memory.specs.Front.{Holds}
 use Rattle.sheet.specs.declared.Sizes.{Sizes}
 use Rattle.sheet.specs.Measured.{Accepted}
 use Rattle.sheet.proofs.AcceptedSheet.{measured}
 use Rattle.sheet.proofs.SizeNames.{counted}
 use Rattle.sheet.proofs.SizeLimits.{limited}
-use Rattle.sheet_layouts.specs.Classes.{Classes}
-use Rattle.fixpoint_step.specs.Stepped.{SheetIndex}
 use Rattle.budget.specs.Outcome.{Outcome, as_spent, leaves, leaves_of}
+use Rattle.stage_memory.specs.Lent.{table_in, SameTable}
 use Rattle.stage_memory.specs.Stage.{zero_scratch}
+use Rattle.stage_memory.specs.declared.lent.LentTable.{LentTable}
 use Rattle.stage_memory.specs.Staged.{ScratchZero, no_counts, StageLeft, staged, staged_by}
 use Rattle.call_order.proofs.PartAfterPart.{left_same}
 
@@ -40,6 +39,10 @@ zero_same t u h =
       zeros_same t.kinds u.kinds h.kinds,
       zeros_same t.values u.values h.values,
     )
+
+-- a lent output that is as long as before
+pub same_long : {old new : LentTable} → SameTable old new → SameLengths (table_in new) (table_in old)
+same_long s = record { slots = s.slots.same_length; present = s.present.same_length; kinds = s.kinds.same_length; values = s.values.same_length }
 
 -- ---- the scratch
 
@@ -89,13 +92,6 @@ module _ {sheet : List ℕ} {sizes : Sizes} (accepted : Accepted sheet sizes) wh
   pub few_code : sizes.code_count ≤ 4096
   few_code = (limited (measured accepted)).code_count_is
 
-  -- with tables for the length facts
-  pub index_found : {firsts classes length_kinds length_values : List ℕ} → Holds (first_range sheet) (code_count sheet) firsts → Classes sheet classes → length length_kinds ≡ 4096 → length length_values ≡ 4096
-      → SheetIndex sheet sizes firsts classes length_kinds length_values
-  index_found f c k v = record {
-    accepted = accepted;
-    firsts_are = f;
-    classes_are = c;
-    length_kinds_length = omega (arith, few_code, (counted accepted.are).code_count_is);
-    length_values_length = omega (arith, few_code, (counted accepted.are).code_count_is);
-  }
+  -- tables of 4,096 have room for the length facts
+  pub lengths_fit : {kinds_room values_room : ℕ} → kinds_room ≡ 4096 → values_room ≡ 4096 → (code_count sheet ≤ kinds_room) × (code_count sheet ≤ values_room)
+  lengths_fit k v = (omega (arith, few_code, (counted accepted.are).code_count_is), omega (arith, few_code, (counted accepted.are).code_count_is))

@@ -13,7 +13,7 @@ use Rattle.model.specs.Run.{row_at}
 use Rattle.model.specs.Lookup.{place}
 use Rattle.model.specs.Tables.{present_byte, row_cells, cells, cell_of, table_slices}
 use Rattle.model.specs.Analyses.{row_fact}
-use Rattle.finality.proofs.Cells.{length_present, present_at, length_cells, cells_part}
+use Rattle.finality.proofs.Cells.{length_present, present_at, cells_part}
 use Rattle.fact_row.proofs.Facts.{fact_cell}
 use Rattle.fact_row.proofs.Places.{fact_placed, fact_untracked, place_inside}
 use Rattle.call_order.specs.Lengths.{EndedRows}
@@ -23,20 +23,17 @@ pub unknown_is : fact_cell 0 0 ≡ cell_of unknown
 unfolding cell_of kind value
 unknown_is = refl
 
+-- a place of a row lies in a table with s numbers to a row
+pub table_inside : (slots table : List ℕ) {n : ℕ} → length table ≡ n * length slots → (pc slot : ℕ) {j : ℕ} → pc < n → place slots slot ≡ some j
+    → pc * length slots + j < length table
+table_inside slots table {n} long pc slot {j} h p =
+    let l : suc pc * length slots ≤ n * length slots = mul-le-mul_right (length slots) h in
+    let k : j < length slots = place_inside slots slot p in
+    omega (arith, long)
+
 module _ {slots : List ℕ} {rows : List (Option Row)} {present kinds values : List ℕ} (e : EndedRows slots rows (table_slices present kinds values)) where
   pub rows_long : length rows ≡ length present
   rows_long = sym (length_present rows) ∙ ap length (sym e.lie.present_are)
-
-  table_long : (f : Fact → ℕ) → length (cells f (length slots) rows) ≡ length present * length slots
-  table_long f = length_cells f (length slots) rows e.lie.sized ∙ ap (λ (n : ℕ). n * length slots) rows_long
-
-  -- a place of a row lies in both tables
-  pub table_inside : (pc slot : ℕ) {j : ℕ} → pc < length present → place slots slot ≡ some j
-      → (pc * length slots + j < length kinds) × (pc * length slots + j < length values)
-  table_inside pc slot {j} h p =
-      let l : suc pc * length slots ≤ length present * length slots = mul-le-mul_right (length slots) h in
-      let k : j < length slots = place_inside slots slot p in
-      (omega (arith, ap length e.lie.kinds_are, table_long kind), omega (arith, ap length e.lie.values_are, table_long value))
 
   -- the cell at place j of a present row
   cell_at : (f : Fact → ℕ) → f unknown ≡ 0 → (pc j : ℕ) (r : Row) → pc < length present → j < length slots → row_at rows pc ≡ some r

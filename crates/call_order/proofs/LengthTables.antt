@@ -1,12 +1,10 @@
 -- The table of length facts: the loop that fills it, and what it reads as.
 -- Assumes nothing.
 use mathlib.Core.Path.{◌≡◌, refl, sym, ap, ◌∙◌}
-use mathlib.Core.Bool.{Bool, true, false}
 use mathlib.Core.List.{List}
 use mathlib.Core.Option.{Option}
 use Prim.Native.Nat.{ℕ, ◌+◌, ◌≤◌, ◌<◌}
 use native.Mathlib.Omega.{arith}
-use lib.Dec.{eqb}
 use lib.ListN.{length, set, length-set}
 use borrow.Author.Tests.{eq-eqb, ne_eqb}
 use Rattle.model.specs.Fact.{Fact, unknown, kind, value, Row}
@@ -20,7 +18,7 @@ use Rattle.memory.proofs.Front.{get_d_front}
 use Rattle.memory.proofs.StoreLoops.{Turned, turned_none, turn}
 use Rattle.call_order.specs.Lengths.{EndedRows, length_fact_if, length_fact, length_kinds, length_values}
 use Rattle.fact_row.proofs.Facts.{kind_of, value_of}
-use Rattle.fact_row.proofs.CheckedLengths.{checked_twice, checked_small}
+use Rattle.fact_row.proofs.CheckedLengths.{checked_twice}
 use Rattle.model.proofs.Facts.{fact_back}
 
 -- ---- one fact
@@ -38,14 +36,6 @@ module _ (sheet slots : List ℕ) (rows : List (Option Row)) (pc : ℕ) where
   pub other_fact : ((instruction sheet pc).op ≡ 121 → ⊥) → unknown ≡ length_fact sheet slots rows pc
   unfolding length_fact length_fact_if
   other_fact e = rw (ne_eqb (instruction sheet pc).op 121 e)
-
-  pub small_fact : value (length_fact sheet slots rows pc) ≤ 65535
-  unfolding length_fact length_fact_if value
-  small_fact = go (eqb (instruction sheet pc).op 121)
-    where
-      go : (b : Bool) → value (length_fact_if b sheet slots rows pc) ≤ 65535
-      go true = checked_small (row_fact slots (row_at rows pc) (instruction sheet pc).b)
-      go false = omega arith
 
 -- ---- the loop
 

@@ -5,3 +5,5 @@ pub mod Stored
 -- The first two analyses, and the answer of all three
 pub mod Values
 pub mod Answer
+-- The constant run's tables, as a struct
+pub mod Ended

@@ -1,31 +1,29 @@
 // What the index analysis reads of the constants.
 ghost use Rattle.std.specs.Prelude.{◌≡◌, true, false, ◌≤◌, is_err, length};
-ghost use Rattle.model.specs.Call.{table};
 ghost use Rattle.model.specs.Analyses.{Analysed};
+ghost use Rattle.stage_memory.specs.Lent.{table_in};
 ghost use Rattle.call_order.specs.Stored.{Stored, Lengthened};
 
-use crate::facts::length_facts;
+use crate::facts::EndedTables;
 use budget::Outcome;
 use model::Counts;
 use sheet_fields::Sheet;
+use stage_memory::LentTable;
 
 // The constants' facts at each IndexCheck, from the output of the constant analysis; nothing where the outcome so far is a refusal.
 pub fn store_lengths(
     sheet: &Sheet,
     constant: Counts,
-    slots: &[u16],
-    present: &[u8],
-    kinds: &[u8],
-    values: &[u64],
+    output: &LentTable,
     before: Outcome,
     length_kinds: &mut [u8],
     length_values: &mut [u16],
 )
     requires room { (sheet.now.sizes.code_count ≤ length length_kinds.old) × (sheet.now.sizes.code_count ≤ length length_values.old) }
     requires constants_stored { is_err before ≡ false
-        → (a : Analysed) × Stored sheet.now.bytes.now a constant (table slots.now present.now kinds.now values.now) }
+        → (a : Analysed) × Stored sheet.now.bytes.now a constant (table_in output.now) }
     ensures stored { is_err before ≡ false
-        → (a : Analysed) → Stored sheet.now.bytes.now a constant (table slots.now present.now kinds.now values.now)
+        → (a : Analysed) → Stored sheet.now.bytes.now a constant (table_in output.now)
         → Lengthened sheet.now.bytes.now a length_kinds.old length_values.old length_kinds.new length_values.new }
     ensures kept { is_err before ≡ true
         → (length_kinds.new ≡ length_kinds.old) × (length_values.new ≡ length_values.old) }
@@ -36,13 +34,11 @@ pub fn store_lengths(
     let n = sheet.sizes.code_count;
     let s = constant.tracked as usize;
     let cells = n * s;
-    length_facts(
-        sheet,
-        &slots[..s],
-        &present[..n],
-        &kinds[..cells],
-        &values[..cells],
-        length_kinds,
-        length_values,
-    );
+    let constants = EndedTables {
+        slots: &output.slots[..s],
+        present: &output.present[..n],
+        kinds: &output.kinds[..cells],
+        values: &output.values[..cells],
+    };
+    constants.length_facts(sheet, length_kinds, length_values);
 }

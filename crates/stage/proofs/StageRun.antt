@@ -8,7 +8,7 @@ use mathlib.Core.Option.{some}
 use Prim.Native.Nat.{ℕ, zero, suc, ◌+◌, ◌*◌, ◌-◌, ◌^◌, ◌≤◌, ◌<◌}
 use native.Mathlib.Omega.{arith}
 use lib.Dec.{eqb}
-use lib.ListN.{length, replicate, take, drop, length-append, length-drop, length-map, length-replicate, replicate-append-replicate}
+use lib.ListN.{length, replicate, take, drop, length-append, length-map, length-replicate, replicate-append-replicate}
 use lib.Seq.{take_at, length-take-le, drop-append_seam}
 use borrow.Author.Tests.{eqb-false, leb-true}
 use Rattle.model.specs.Sheet.{code_count, local_slots}
@@ -50,10 +50,6 @@ use Rattle.stage.proofs.StageBegun.{Answered, stage_after, stage_after_lem, Read
 use Rattle.stage.proofs.NothingToRun.{stage_path, filled_zeros}
 
 -- ---- parts of what is lent
-
--- the first places may change, but not their number
-pub whole_length : (k : ℕ) (old : List ℕ) → k ≤ length old → (part : List ℕ) → length part ≡ length (take k old) → length (part ++ drop k old) ≡ length old
-whole_length k old h part e = omega (arith, length-append part (drop k old), length-drop k old, length-take-le k old h)
 
 -- the first places of what was filled
 front : (new old : List ℕ) (k : ℕ) → length new ≡ k → take k (filled new old) ≡ new

@@ -1,16 +1,15 @@
 // One analysis after an outcome: prepared, run, concluded. One function for the three.
 #![tactic(auto)]
 
-ghost use Rattle.std.specs.Prelude.{◌≡◌};
+ghost use Rattle.std.specs.Prelude.{◌≡◌, ◌≤◌, length};
 ghost use Rattle.std.proofs.Math.Option.{some};
 ghost use Rattle.model.specs.Analyses.{stage};
-ghost use Rattle.model.specs.Call.{scratch, room_for, zero_table};
+ghost use Rattle.model.specs.Call.{room_for, zero_table};
 ghost use Rattle.model.specs.Charges.{continue};
-ghost use Rattle.model.specs.Promise.{lent_table, lent_scratch};
 ghost use Rattle.model.specs.Sheet.{code_count};
 ghost use Rattle.model.specs.Tables.{length_table};
 ghost use Rattle.budget.specs.Outcome.{as_spent, leaves, leaves_of};
-ghost use Rattle.fixpoint_step.specs.Stepped.{SheetIndex};
+ghost use Rattle.stage_memory.specs.Lent.{table_in, scratch_in, SameTable, SameScratch};
 ghost use Rattle.stage_memory.specs.Stage.{zero_scratch};
 ghost use Rattle.stage_memory.specs.Staged.{ScratchZero, no_counts, staged, staged_by};
 
@@ -19,9 +18,11 @@ mod conclusion;
 use crate::conclusion::conclude_run;
 use budget::Outcome;
 use fixpoint::run_to_fixpoint;
+use fixpoint_step::{LengthFacts, TrackedAnalysis};
+use memory::clear_rows;
 use model::{AnalysisKind, Counts};
-use sheet_fields::Sheet;
-use stage_memory::clear_rows;
+use sheet_index::IndexedSheet;
+use stage_memory::{LentScratch, LentTable};
 use stage_prepare::{Room, prepare};
 
 // The counts of an analysis, none after a refusal, and the outcome with its charges. It is no Result of the counts: the next analysis takes the outcome
@@ -35,41 +36,40 @@ pub struct Staged {
 // The next analysis, in a scratch that is zero; its output is cleared, and stays so where the outcome so far is a refusal.
 pub fn analyze_stage(
     which: AnalysisKind,
-    sheet: &Sheet,
-    firsts: &[u16],
-    classes: &[u16],
-    length_kinds: &[u8],
-    length_values: &[u16],
+    indexed: &IndexedSheet,
+    lengths: &LengthFacts,
     before: Outcome,
-    slots: &mut [u16],
-    present: &mut [u8],
-    kinds: &mut [u8],
-    values: &mut [u64],
-    marks: &mut [u8],
-    stack: &mut [u16],
-    row_kinds: &mut [u8],
-    row_values: &mut [u64],
-    work_list: &mut [u16],
+    output: &mut LentTable,
+    scratch: &mut LentScratch,
 ) -> Staged
-    requires { let w = scratch marks.old stack.old row_kinds.old row_values.old work_list.old in
-        SheetIndex sheet.now.bytes.now sheet.now.sizes firsts.now classes.now length_kinds.now length_values.now × ScratchZero sheet.now.bytes.now w }
-    ensures { let t = lent_table slots present kinds values in
-        let w = lent_scratch marks stack row_kinds row_values work_list in
-        let room = room_for (code_count sheet.now.bytes.now) t.entry w.entry.row_kinds w.entry.row_values w.entry.work_list in
-        let lengths = length_table length_kinds.now length_values.now in
-        some (leaves result.outcome (staged result.counts t.exit w.exit))
-        ≡ leaves_of (staged_by t.entry w.entry) (staged no_counts (zero_table t.entry) (zero_scratch w.entry))
-        (continue (λ _. stage which sheet.now.bytes.now room lengths) (as_spent before)) }
+    requires lengths { (code_count indexed.now.sheet.now.bytes.now ≤ length lengths.now.kinds.now) × (code_count indexed.now.sheet.now.bytes.now ≤ length lengths.now.values.now) }
+    requires scratch_zero { ScratchZero indexed.now.sheet.now.bytes.now (scratch_in scratch.old) }
+    ensures left { let t = table_in output.old in
+        let w = scratch_in scratch.old in
+        let room = room_for (code_count indexed.now.sheet.now.bytes.now) t w.row_kinds w.row_values w.work_list in
+        let read = length_table lengths.now.kinds.now lengths.now.values.now in
+        some (leaves result.outcome (staged result.counts (table_in output.new) (scratch_in scratch.new)))
+        ≡ leaves_of (staged_by t w) (staged no_counts (zero_table t) (zero_scratch w))
+        (continue (λ _. stage which indexed.now.sheet.now.bytes.now room read) (as_spent before)) }
+    ensures same { SameTable output.old output.new × SameScratch scratch.old scratch.new }
 {
-    clear_rows(present, kinds, values);
+    clear_rows(output.present, output.kinds, output.values);
     let room = Room {
-        present: present.len(),
-        kinds: kinds.len(),
-        values: values.len(),
-        work_list: work_list.len(),
+        present: output.present.len(),
+        kinds: output.kinds.len(),
+        values: output.values.len(),
+        work_list: scratch.work_list.len(),
     };
     let prepared = match prepare(
-        which, sheet, room, before, slots, marks, stack, row_kinds, row_values,
+        which,
+        indexed.sheet,
+        room,
+        before,
+        output.slots,
+        scratch.marks,
+        scratch.stack,
+        scratch.row_kinds,
+        scratch.row_values,
     ) {
         Ok(prepared) => prepared,
         Err(refused) => {
@@ -93,16 +93,24 @@ pub fn analyze_stage(
             outcome: Ok(left),
         };
     }
-    let n = sheet.sizes.code_count;
+    let n = indexed.sheet.sizes.code_count;
     let cells = n * s;
-    let ran = run_to_fixpoint(
+    // Parts of several slices are lent at once. That is proved of slices with names of their own, not of fields behind a reference (tried).
+    let slots = &mut *output.slots;
+    let present = &mut *output.present;
+    let kinds = &mut *output.kinds;
+    let values = &mut *output.values;
+    let row_kinds = &mut *scratch.row_kinds;
+    let row_values = &mut *scratch.row_values;
+    let work_list = &mut *scratch.work_list;
+    let analysis = TrackedAnalysis {
         which,
-        sheet,
-        firsts,
-        classes,
-        length_kinds,
-        length_values,
-        &slots[..s],
+        indexed: &*indexed,
+        lengths: *lengths,
+        slots: &slots[..s],
+    };
+    let ran = run_to_fixpoint(
+        &analysis,
         left,
         &mut present[..n],
         &mut kinds[..cells],

@@ -35,6 +35,7 @@ pub fn param_start(sheet: &Sheet) -> Option<u16>
     if sheet.sizes.param_count == 0 {
         return None;
     }
+    // no `?`: nothing here gives an Option, and `u16::try_from(..).ok()?` would narrow sums that are then added and compared as usize
     let transfer = transfer_slots(sheet);
     if 65535 < transfer {
         return None;

@@ -1,35 +1,25 @@
 // The first row of a run.
-ghost use Rattle.std.specs.Prelude.{◌≡◌, false, ◌<◌, length};
-ghost use Rattle.std.proofs.Math.Option.{some};
-ghost use Rattle.model.specs.Tables.{row_slices};
+ghost use Rattle.std.specs.Prelude.{false, ◌<◌, length};
 ghost use Rattle.model.specs.Analyses.{container_row, first_row};
-ghost use Rattle.budget.specs.Outcome.{leaves, leaves_of};
-ghost use Rattle.stage_entry.specs.First.{RowZero, row_laid, zero_row};
+ghost use Rattle.fact_row.specs.Changed.{RowZero};
+ghost use Rattle.stage_entry.specs.First.{RowLeft};
 
 use crate::layouts::charge_instruction_facts;
 use crate::seeds::param_row;
 use budget::Outcome;
-use memory::clear;
+use fact_row::FactRow;
 use model::{AnalysisKind, VerifierResources};
 use sheet_fields::Sheet;
 
 // "for containers with the Parameters facts in it": the parameters' charges, then those of the notes' facts.
-fn container_row(
-    sheet: &Sheet,
-    slots: &[u16],
-    resources: VerifierResources,
-    row_kinds: &mut [u8],
-    row_values: &mut [u64],
-) -> Outcome
-    requires { RowZero slots.now row_kinds.old row_values.old }
-    ensures { some (leaves result (row_slices row_kinds.new row_values.new))
-        ≡ leaves_of row_laid (zero_row (length slots.now)) (container_row false sheet.now.bytes.now slots.now resources) }
+fn container_row(sheet: &Sheet, resources: VerifierResources, row: &mut FactRow) -> Outcome
+    requires { RowZero row.old }
+    ensures { RowLeft (container_row false sheet.now.bytes.now row.old.slots.now resources) result row.old row.new }
 {
-    let left = param_row(sheet, slots, resources, row_kinds, row_values)?;
+    let left = param_row(sheet, resources, row)?;
     let charged = charge_instruction_facts(sheet, left);
     if charged.is_err() {
-        clear(row_kinds);
-        clear(row_values);
+        row.clear();
     }
     charged
 }
@@ -38,18 +28,15 @@ fn container_row(
 pub fn first_row(
     which: AnalysisKind,
     sheet: &Sheet,
-    slots: &[u16],
     resources: VerifierResources,
-    row_kinds: &mut [u8],
-    row_values: &mut [u64],
+    row: &mut FactRow,
 ) -> Outcome
-    requires { RowZero slots.now row_kinds.old row_values.old × (0 < sheet.now.sizes.code_count) × (0 < length slots.now) }
-    ensures { some (leaves result (row_slices row_kinds.new row_values.new))
-        ≡ leaves_of row_laid (zero_row (length slots.now)) (first_row which sheet.now.bytes.now slots.now resources) }
+    requires { RowZero row.old × (0 < sheet.now.sizes.code_count) × (0 < length row.old.slots.now) }
+    ensures { RowLeft (first_row which sheet.now.bytes.now row.old.slots.now resources) result row.old row.new }
 {
     match which {
         AnalysisKind::Constant => Ok(resources),
         AnalysisKind::IndexCheck => Ok(resources),
-        AnalysisKind::Container => { container_row(sheet, slots, resources, row_kinds, row_values) }
+        AnalysisKind::Container => container_row(sheet, resources, row),
     }
 }

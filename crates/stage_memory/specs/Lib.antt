@@ -4,3 +4,5 @@ pub mod Room
 pub mod Stage
 -- What an analysis asks, and what it leaves
 pub mod Staged
+-- The lent memory, as structs
+pub mod Lent

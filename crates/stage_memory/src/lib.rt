@@ -1,10 +1,10 @@
-// Question 8, and what is cleared of the lent memory, before an analysis and behind it.
+// Question 8, and the lent memory: what is cleared of it, before an analysis and behind it.
 #![tactic(auto)]
 
-mod clearing;
 mod conclusion;
+mod lent;
 mod room;
 
-pub use clearing::{clear_rows, clear_scratch, clear_table_if};
 pub use conclusion::conclude;
+pub use lent::{LentScratch, LentTable};
 pub use room::room_for;

@@ -24,7 +24,7 @@ use Rattle.model.proofs.Tests.{both}
 use Rattle.budget.specs.Outcome.{Outcome, refused_by, Leaves, leaves, leaves_of}
 use Rattle.budget.proofs.Outcomes.{Left, covered, stopped, left_by, covered_leaves, stopped_leaves}
 use Rattle.stage_memory.specs.Room.{room_by}
-use Rattle.stage_entry.specs.First.{RowZero, row_laid, zero_row}
+use Rattle.stage_entry.specs.First.{row_laid, zero_row}
 use Rattle.stage_entry.proofs.RowsMade.{lies_of}
 use Rattle.stage_prepare.specs.Begin.{entering, enter_if, enough, row_filled, cleared_row}
 use Rattle.stage_prepare.specs.declared.Room.{Room}
@@ -110,15 +110,12 @@ module _ (which : AnalysisKind) (sheet : List ℕ) (n s : ℕ) (all : n ≡ code
 
     -- what the entry row asks
     pub entry_asks : s ≤ 65535 → (s ≤ length slots → ascends (take s slots) ≡ true) → (n ≡ 0 → ⊥) → (s ≡ 0 → ⊥)
-        → RowZero (take s slots) (take s row_kinds) (take s row_values) × (0 < n) × (0 < length (take s slots)) × (length (take s slots) ≤ 65535)
+        → (ascends (take s slots) ≡ true) × (row_slices (take s row_kinds) (take s row_values) ≡ zero_row (length (take s slots))) × (0 < n) × (0 < length (take s slots)) × (length (take s slots) ≤ 65535)
     entry_asks few up some_n some_s =
         let long : length (take s slots) ≡ s = length-take-le s slots slots_fit in
         let fit = room_parts n s _ _ _ _ _ _ _ e in (
-          record {
-            ascending = up slots_fit;
-            kinds_zero = rw long (take_zero s row_kinds fit.1 zk);
-            values_zero = rw long (take_zero s row_values fit.2 zv);
-          },
+          up slots_fit,
+          rw (long, take_zero s row_kinds fit.1 zk, take_zero s row_values fit.2 zv),
           above n some_n,
           rw long (above s some_s),
           rw long few,

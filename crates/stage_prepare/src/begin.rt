@@ -28,7 +28,8 @@ fn is_something(n: usize, s: usize) -> bool
     s != 0
 }
 
-// Question 8 for s tracked slots, then the matrix charge and the entry row, in a row scratch that is zero.
+// Question 8 for s tracked slots, then the matrix charge and the entry row, in a row scratch that is zero. The scratch comes as two slices, as the
+// C interface lends them, each of any length: it is a FactRow only once question 8 has found room for s facts.
 fn enter_tracked(
     which: AnalysisKind,
     sheet: &Sheet,

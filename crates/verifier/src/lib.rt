@@ -4,7 +4,7 @@
 ghost use Rattle.std.specs.Prelude.{◌≡◌};
 ghost use Rattle.std.proofs.Math.Option.{some};
 ghost use Rattle.model.specs.Call.{analyzed, call_result};
-ghost use Rattle.model.specs.Promise.{lent_table, lent_scratch, lent_call};
+ghost use Rattle.stage_memory.specs.Lent.{lent_in, SameTable, SameScratch};
 ghost use Rattle.model.specs.CallDemand.{LentDemand};
 ghost use Rattle.model.specs.declared.Answer.TheVariants.{Analyzed};
 ghost use Rattle.model.specs.declared.Counts.{Counts};
@@ -12,8 +12,9 @@ ghost use Rattle.model.specs.declared.VerifierResources.{VerifierResources};
 
 use call_indexed::analyze_indexed;
 use model::{Answer, VerifierResources};
-use sheet_index::index_sheet;
+use sheet_index::{IndexedSheet, index_sheet};
 use sheet_questions::admit;
+use stage_memory::{LentScratch, LentTable};
 
 // "Questions, in order", the charges and the three analyses. What it answers and what every lent buffer holds afterwards is the call that the
 // definitions give (`analyzed`); and of an answer with facts, each analysis took at most n × (1 + 2 × s) entries from its work list, and with
@@ -21,39 +22,21 @@ use sheet_questions::admit;
 pub fn analyze(
     sheet: &[u8],
     resources: VerifierResources,
-    constant_slots: &mut [u16],
-    constant_present: &mut [u8],
-    constant_kinds: &mut [u8],
-    constant_values: &mut [u64],
-    index_slots: &mut [u16],
-    index_present: &mut [u8],
-    index_kinds: &mut [u8],
-    index_values: &mut [u64],
-    container_slots: &mut [u16],
-    container_present: &mut [u8],
-    container_kinds: &mut [u8],
-    container_values: &mut [u64],
-    marks: &mut [u8],
-    stack: &mut [u16],
-    row_kinds: &mut [u8],
-    row_values: &mut [u64],
-    work_list: &mut [u16],
+    constants: &mut LentTable,
+    index: &mut LentTable,
+    containers: &mut LentTable,
+    scratch: &mut LentScratch,
 ) -> Answer
-    ensures call { let l = lent_call
-        (lent_table constant_slots constant_present constant_kinds constant_values)
-        (lent_table index_slots index_present index_kinds index_values)
-        (lent_table container_slots container_present container_kinds container_values)
-        (lent_scratch marks stack row_kinds row_values work_list) in
-        some (call_result result l.exit) ≡ analyzed sheet.now resources l.entry }
-    ensures demand { let l = lent_call
-        (lent_table constant_slots constant_present constant_kinds constant_values)
-        (lent_table index_slots index_present index_kinds index_values)
-        (lent_table container_slots container_present container_kinds container_values)
-        (lent_scratch marks stack row_kinds row_values work_list) in
+    ensures call { let before = lent_in constants.old index.old containers.old scratch.old in
+        let after = lent_in constants.new index.new containers.new scratch.new in
+        some (call_result result after) ≡ analyzed sheet.now resources before }
+    ensures demand { let before = lent_in constants.old index.old containers.old scratch.old in
+        let after = lent_in constants.new index.new containers.new scratch.new in
         (constant index container : Counts) (left : VerifierResources) → result ≡ Analyzed constant index container left
-        → LentDemand sheet.now resources l.entry constant index container left l.exit }
+        → LentDemand sheet.now resources before constant index container left after }
+    ensures same { SameTable constants.old constants.new × SameTable index.old index.new × SameTable containers.old containers.new × SameScratch scratch.old scratch.new }
 {
-    let sheet = match admit(sheet, marks.len(), stack.len()) {
+    let sheet = match admit(sheet, scratch.marks.len(), scratch.stack.len()) {
         Ok(sheet) => sheet,
         Err(question) => {
             return Answer::Invalid {
@@ -65,27 +48,10 @@ pub fn analyze(
     let mut firsts = [0u16; 4096];
     let mut classes = [0u16; 1025];
     index_sheet(&sheet, &mut firsts, &mut classes);
-    analyze_indexed(
-        &sheet,
-        &firsts,
-        &classes,
-        resources,
-        constant_slots,
-        constant_present,
-        constant_kinds,
-        constant_values,
-        index_slots,
-        index_present,
-        index_kinds,
-        index_values,
-        container_slots,
-        container_present,
-        container_kinds,
-        container_values,
-        marks,
-        stack,
-        row_kinds,
-        row_values,
-        work_list,
-    )
+    let indexed = IndexedSheet {
+        sheet: &sheet,
+        firsts: &firsts,
+        classes: &classes,
+    };
+    analyze_indexed(&indexed, resources, constants, index, containers, scratch)
 }
