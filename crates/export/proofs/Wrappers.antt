@@ -21,9 +21,10 @@ module _ (sheet : List ℕ) (budget : VerifierResources) (lent : Lent) (old : Li
 
   -- at least 12
   pub all_handed : 12 ≤ length old → (a : Answer) (after : Lent) → some (call_result a after) ≡ analyzed sheet budget lent → {r : ℕ} {new : List ℕ}
-      → (new ≡ twelve (answer_numbered a) ++ drop 12 old) × (r ≡ (answer_numbered a).number) → some (exported r after new) ≡ exported_of (leb 12 (length old)) sheet budget lent old
+      → (new ≡ twelve (answer_numbered a) ++ drop 12 old) × (r ≡ (answer_numbered a).number) → {back : Lent} → back ≡ after
+      → some (exported r back new) ≡ exported_of (leb 12 (length old)) sheet budget lent old
   unfolding exported_of handed call_result
-  all_handed h a after call (numbers, number) = rw (le-leb 12 (length old) h, ← call, numbers, number)
+  all_handed h a after call (numbers, number) same = rw (same, le-leb 12 (length old) h, ← call, numbers, number)
 
 -- a lookup's numbers, from what the lookup promises
 pub told : (old : List ℕ) {r : ℕ} {new : List ℕ} {fact defined : SlotFact} → looked r new ≡ looked_up (leb 2 (length old)) fact old → fact_with_numbers fact ≡ fact_with_numbers defined

@@ -14,6 +14,7 @@ ghost use Rattle.model.specs.Interface.{exported, exported_of, looked, looked_up
 use export_numbers::{put_answer, put_slot_fact, reached};
 use lookup::{Tables, is_reachable};
 use model::{AnalysisKind, VerifierResources};
+use stage_memory::{LentScratch, LentTable};
 use verifier::analyze;
 
 // The functions that C calls keep their names, their parameters one by one, and their answers as numbers: C has no struct of slices, no enum with values
@@ -59,26 +60,38 @@ pub extern "C" fn vo_facts_analyze(
     if answer.len() < 12 {
         return TOO_SHORT;
     }
-    let ended = analyze(
-        sheet,
-        VerifierResources { bytes, work },
-        constant_slots,
-        constant_present,
-        constant_kinds,
-        constant_values,
-        index_slots,
-        index_present,
-        index_kinds,
-        index_values,
-        container_slots,
-        container_present,
-        container_kinds,
-        container_values,
+    let mut constants = LentTable {
+        slots: constant_slots,
+        present: constant_present,
+        kinds: constant_kinds,
+        values: constant_values,
+    };
+    let mut index = LentTable {
+        slots: index_slots,
+        present: index_present,
+        kinds: index_kinds,
+        values: index_values,
+    };
+    let mut containers = LentTable {
+        slots: container_slots,
+        present: container_present,
+        kinds: container_kinds,
+        values: container_values,
+    };
+    let mut scratch = LentScratch {
         marks,
         stack,
         row_kinds,
         row_values,
         work_list,
+    };
+    let ended = analyze(
+        sheet,
+        VerifierResources { bytes, work },
+        &mut constants,
+        &mut index,
+        &mut containers,
+        &mut scratch,
     );
     put_answer(ended, answer)
 }

@@ -56,13 +56,11 @@ counted_slots which sheet budget old {outcome} {s} {slots} e m bytes work =
     go (covered found rest c o k) = let same : found ≡ closure_slots which sheet = cc in ap (λ (x : Closed). x.s) k ∙ ap length same
     go (stopped refusal rest c o k) = let z : ◌≡◌ {A = ℕ} 0 1 = cc in absurd (omega arith)
 
--- marks or a stack that are as they were: zero, and as long
-module _ {old new : List ℕ} (e : new ≡ old) where
-  pub still_zero : old ≡ zeros old → new ≡ zeros new
-  still_zero h = e ∙ h ∙ ap zeros (sym e)
-
-  pub still_long : {l : ℕ} → l ≤ length old → l ≤ length new
-  still_long h = rw e h
+-- marks and a stack that are as they were: as long, and zero
+pub still_ready : {l : ℕ} {marks stack marks' stack' : List ℕ} → marks' ≡ marks → stack' ≡ stack
+    → (l ≤ length marks) × (l ≤ length stack) × (marks ≡ zeros marks) × (stack ≡ zeros stack)
+    → (l ≤ length marks') × (l ≤ length stack') × (marks' ≡ zeros marks') × (stack' ≡ zeros stack')
+still_ready e f h = rw (e, f) h
 
 -- marks or a stack that were cleared
 module _ (old : List ℕ) {new : List ℕ} (e : new ≡ zeros old) where

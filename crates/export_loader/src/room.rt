@@ -18,7 +18,9 @@ const TOO_SHORT: u8 = 255;
 fn count_tracked(which: AnalysisKind, sheet: &Sheet, marks: &mut [u8], stack: &mut [u16]) -> u64
     requires { (sheet.now.sizes.local_slots ≤ length marks.old) × (sheet.now.sizes.local_slots ≤ length stack.old)
         × (marks.old ≡ zeros marks.old) × (stack.old ≡ zeros stack.old) }
-    ensures { (result ≡ length (closure_slots which sheet.now.bytes.now)) × (marks.new ≡ marks.old) × (stack.new ≡ stack.old) }
+    ensures counts { result ≡ length (closure_slots which sheet.now.bytes.now) }
+    ensures marks { marks.new ≡ marks.old }
+    ensures stack { stack.new ≡ stack.old }
 {
     let plenty = VerifierResources {
         bytes: u64::MAX,
@@ -43,10 +45,12 @@ fn put_four(n: u64, constant: u64, index: u64, container: u64, out: &mut [u64])
 
 // n and the s of each analysis, by marks and stack that are zero, before and after.
 fn put_counts(sheet: &Sheet, marks: &mut [u8], stack: &mut [u16], out: &mut [u64])
-    requires { (sheet.now.sizes.local_slots ≤ length marks.old) × (sheet.now.sizes.local_slots ≤ length stack.old)
-        × (marks.old ≡ zeros marks.old) × (stack.old ≡ zeros stack.old) × (4 ≤ length out.old) }
-    ensures { (marks.new ≡ marks.old) × (stack.new ≡ stack.old)
-        × (out.new ≡ in_front (room_numbers sheet.now.bytes.now) out.old) }
+    requires ready { (sheet.now.sizes.local_slots ≤ length marks.old) × (sheet.now.sizes.local_slots ≤ length stack.old)
+        × (marks.old ≡ zeros marks.old) × (stack.old ≡ zeros stack.old) }
+    requires four { 4 ≤ length out.old }
+    ensures marks { marks.new ≡ marks.old }
+    ensures stack { stack.new ≡ stack.old }
+    ensures numbers { out.new ≡ in_front (room_numbers sheet.now.bytes.now) out.old }
 {
     let constant = count_tracked(AnalysisKind::Constant, sheet, marks, stack);
     let index = count_tracked(AnalysisKind::IndexCheck, sheet, marks, stack);

@@ -1,7 +1,7 @@
 -- One instruction's present byte and its cell of a slot: what the tests show of the definitions, and that the cell lies in the table.
 -- Assumes nothing.
 use mathlib.Core.Path.{◌≡◌, refl, sym, ap, ◌∙◌}
-use mathlib.Core.Bool.{Bool, true, false, ◌&&◌, ◌||◌, and-false, and-true}
+use mathlib.Core.Bool.{true, false, ◌&&◌, ◌||◌, and-false, and-true}
 use mathlib.Core.List.{List}
 use mathlib.Core.Option.{Option, none, some}
 use Prim.Native.Nat.{ℕ, zero, suc, ◌+◌, ◌*◌, ◌≤◌, ◌<◌}
@@ -10,29 +10,17 @@ use native.Mathlib.Nat.{mul-le-mul_right, not-suc-le-zero, eq-or-lt_of_le}
 use native.Mathlib.Numerals.{add-one}
 use native.Mathlib.Omega.{arith}
 use Rattle.std.specs.Prelude.{Ok, Err}
-use lib.Dec.{leb, ltb, eqb}
-use lib.ListN.{length, get_or, get_or-eq_default}
-use borrow.Author.Tests.{lt-leb, eq-eqb, ne_eqb, ltb-true, ltb-false}
+use lib.Dec.{leb, eqb}
+use lib.ListN.{length, get_or}
+use borrow.Author.Tests.{lt-leb, eq-eqb, ne_eqb}
 use Rattle.model.specs.Call.{Table}
 use Rattle.model.specs.Count.{every}
 use Rattle.model.specs.Lookup.{last_kind, cell_at, cell_found, none_found, kind_named, row_named, cell, damaged, is_reachable, reached_by}
-use Rattle.lookup.specs.Inside.{HasColumn, rows_named}
-
--- a byte that is not 0 stands below n
-pub present_below : (present : List ℕ) (pc : ℕ) → 0 < get_or present pc 0 → pc < length present
-present_below present pc h = go (ltb pc (length present)) refl
-  where
-    go : (b : Bool) → ltb pc (length present) ≡ b → pc < length present
-    go true e = ltb-true pc (length present) e
-    go false e = absurd (omega (arith, get_or-eq_default present 0 (ltb-false pc (length present) e)))
+use Rattle.lookup.specs.Inside.{rows_named}
 
 -- place j of a row below n lies in the table
 pub in_table : (pc n s j cells : ℕ) → pc < n → j < s → cells ≡ n * s → pc * s + j < cells
 in_table pc n s j cells h k e = omega (arith, mul-le-mul_right s h)
-
--- and so does the cell of a tracked slot in a present row
-pub cell_inside : (t : Table) (pc j byte : ℕ) → HasColumn t j → byte ≡ get_or t.present pc 0 → 0 < byte → pc * length t.slots + j < length t.kinds
-cell_inside t pc j byte h b l = in_table pc (length t.present) (length t.slots) j (length t.kinds) (present_below t.present pc (omega arith)) h.below h.kinds_length
 
 -- ---- question 9 of a row, and its cell
 

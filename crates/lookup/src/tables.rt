@@ -6,7 +6,6 @@ mod cells;
 mod question;
 mod shown;
 
-use fact_row::find;
 use model::{AnalysisKind, Damaged, Reachability, SlotFact};
 use std::marker::Model;
 
@@ -55,10 +54,7 @@ impl Tables<'_> {
         ensures { let t = self.now in
             fact_with_numbers result ≡ fact_with_numbers (fact_for_slot which t.slots t.present t.kinds t.values pc slot) }
     {
-        if !self.agree() {
-            return Err(Damaged);
-        }
-        let at = find(self.slots, usize::from(slot));
+        let at = self.place(slot)?;
         if self.names(last_kind(which), at, pc) {
             Ok(self.cell(at, pc))
         } else {
@@ -70,10 +66,7 @@ impl Tables<'_> {
     pub fn fixed_fact(&self, slot: u16) -> SlotFact
         ensures { let t = self.now in fact_with_numbers result ≡ fact_with_numbers (fixed t.slots t.present t.kinds t.values slot) }
     {
-        if !self.agree() {
-            return Err(Damaged);
-        }
-        let at = find(self.slots, usize::from(slot));
+        let at = self.place(slot)?;
         if self.names_all(at) {
             Ok(self.fixed_at(at))
         } else {

@@ -27,6 +27,7 @@ fn put_constant(cell: FactCell, page: &mut Page<'_>)
     if cell.kind < 3 {
         page.put_decimal(value);
     } else if value == 0 {
+        // written out: 2^64, which stands behind the minus sign, is one more than a u64 can be, and `put_decimal` takes a u64
         page.put(b"-18446744073709551616");
     } else {
         page.put(b"-");

@@ -2,11 +2,11 @@
 -- Assumes nothing.
 use mathlib.Core.Path.{◌≡◌, sym, ap, ◌∙◌}
 use mathlib.Core.List.{List, [], ◌∷◌, ◌++◌, append_assoc, append-nil}
-use Prim.Native.Nat.{ℕ, ◌+◌, ◌*◌, ◌≤◌, ◌<◌}
+use Prim.Native.Nat.{ℕ, ◌+◌, ◌*◌, ◌<◌}
 use native.Mathlib.Numerals.{add-one}
 use native.Mathlib.Omega.{arith}
 use lib.ListN.{length, get_or, take}
-use lib.Seq.{take-suc, take_all}
+use lib.Seq.{take-suc}
 use Rattle.model.specs.Listing.{decimal, space}
 use Rattle.text_lines.specs.Text.{spaced_all}
 use Rattle.text_lines.specs.Page.{Written}
@@ -30,8 +30,3 @@ module _ (xs : List ℕ) where
   more {i} h w v =
       let e : spaced_all (take i xs) ++ (space ++ decimal (get_or xs i 0)) ≡ spaced_all (take (i + 1) xs) = rw (add-one, take-suc xs i 0 h) (sym (spaced_last (take i xs) (get_or xs i 0))) in
       reword (omega arith) e (then w v)
-
-  -- all of them
-  pub all : {old new : Page} {i : ℕ} → i ≤ length xs → length xs ≤ i → Written (21 * i) (spaced_all (take i xs)) old new
-      → Written (21 * length xs) (spaced_all xs) old new
-  all {i} h k w = reword (omega arith) (ap spaced_all (take_all i xs k)) w

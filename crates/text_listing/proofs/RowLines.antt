@@ -2,7 +2,7 @@
 -- Assumes nothing.
 use mathlib.Core.Path.{◌≡◌, refl, ap₂}
 use mathlib.Core.List.{List, ◌++◌}
-use Prim.Native.Nat.{ℕ, ◌+◌, ◌*◌, ◌-◌, ◌≤◌, ◌<◌}
+use Prim.Native.Nat.{ℕ, ◌+◌, ◌*◌, ◌-◌, ◌≤◌}
 use native.Mathlib.Nat.{mul-le-mul_right, suc-mul}
 use native.Mathlib.Numerals.{add-one}
 use native.Mathlib.Omega.{arith}
@@ -18,10 +18,6 @@ use Rattle.text_lines.specs.declared.page.Page.{Page}
 use Rattle.text_lines.proofs.TextWritten.{then, reword, no_text}
 use Rattle.text_listing.specs.Rows.{table_row_of, row_of, row_in, printed_analysis}
 use Rattle.model.specs.Call.{Table}
-
--- a row of m behind pc of them lies within n
-pub row_fits : (n pc m : ℕ) → pc < n → pc * m + m ≤ n * m
-row_fits n pc m h = omega (arith, mul-le-mul_right m h, suc-mul pc m)
 
 module _ (text : Fact → List ℕ) (s : ℕ) (t : Table) where
   -- the lines of the row of pc
