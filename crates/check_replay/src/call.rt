@@ -5,6 +5,7 @@ ghost use Rattle.check_replay.specs.Calls.{called_in};
 
 use check_replay_lent::{Checksum, budget_of, front};
 use model::Answer;
+use stage_memory::{LentScratch, LentTable};
 use verifier::analyze;
 
 // Room for the recorded sheets, whose buffers are lent longer by up to 17: s up to 53, n up to 343, n × s up to 5,220, L up to 65,535, and up to 10,556
@@ -64,44 +65,44 @@ pub fn call(head: &[u8; 88], sheet: &[u8], call: usize, checksum: Checksum) -> C
     let row_values = front(&mut row_values_room, SLOTS, head, call, 15);
     let mut work_list_room = [0u16; ENTRIES];
     let work_list = front(&mut work_list_room, ENTRIES, head, call, 16);
-    let answer = analyze(
-        sheet,
-        budget_of(head),
-        constant_slots,
-        constant_present,
-        constant_kinds,
-        constant_values,
-        index_slots,
-        index_present,
-        index_kinds,
-        index_values,
-        container_slots,
-        container_present,
-        container_kinds,
-        container_values,
+    let mut constants = LentTable {
+        slots: constant_slots,
+        present: constant_present,
+        kinds: constant_kinds,
+        values: constant_values,
+    };
+    let mut index = LentTable {
+        slots: index_slots,
+        present: index_present,
+        kinds: index_kinds,
+        values: index_values,
+    };
+    let mut containers = LentTable {
+        slots: container_slots,
+        present: container_present,
+        kinds: container_kinds,
+        values: container_values,
+    };
+    let mut scratch = LentScratch {
         marks,
         stack,
         row_kinds,
         row_values,
         work_list,
+    };
+    let answer = analyze(
+        sheet,
+        budget_of(head),
+        &mut constants,
+        &mut index,
+        &mut containers,
+        &mut scratch,
     );
-    let a = checksum.with_answer(answer);
-    let b = a.with_table(
-        constant_slots,
-        constant_present,
-        constant_kinds,
-        constant_values,
-    );
-    let c = b.with_table(index_slots, index_present, index_kinds, index_values);
-    let d = c.with_table(
-        container_slots,
-        container_present,
-        container_kinds,
-        container_values,
-    );
-    let e = d.with_scratch(marks, stack, row_kinds, row_values, work_list);
-    Called {
-        answer,
-        checksum: e,
-    }
+    let checksum = checksum
+        .with_answer(answer)
+        .with_table(&constants)
+        .with_table(&index)
+        .with_table(&containers)
+        .with_scratch(&scratch);
+    Called { answer, checksum }
 }

@@ -1,14 +1,14 @@
 // What the calls of a recorded sheet are lent, and the checksum of what they answer and leave. oracle/README.md describes both.
 #![tactic(auto)]
 
-mod budget;
 mod element;
 mod lengths;
+mod resources;
 mod rooms;
 mod sums;
 
-pub use budget::budget_of;
 pub use element::Element;
+pub use resources::budget_of;
 pub use rooms::front;
 
 // Two polynomials over all numbers so far, modulo two primes.

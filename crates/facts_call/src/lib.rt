@@ -1,33 +1,40 @@
 // The call, and the text of what it answered and left.
 #![tactic(auto)]
 
-ghost use Rattle.std.specs.Prelude.{◌≤◌, length};
+ghost use Rattle.std.specs.Prelude.{◌≡◌, ◌≤◌, length};
 ghost use Rattle.model.specs.Charges.{fresh};
 ghost use Rattle.model.specs.Call.{call};
 ghost use Rattle.model.specs.Listing.{call_lines, listing_lent};
-ghost use Rattle.model.specs.Sheet.{code_count, first_range};
-ghost use Rattle.memory.specs.Front.{Holds};
-ghost use Rattle.sheet.specs.Measured.{Accepted};
-ghost use Rattle.sheet_layouts.specs.Classes.{Classes};
+ghost use Rattle.stage_memory.specs.Lent.{table_in};
 ghost use Rattle.text_lines.specs.Text.{ShowsText};
 
 use call_indexed::analyze_indexed;
 use lookup::Tables;
 use model::VerifierResources;
-use sheet_fields::Sheet;
+use sheet_index::IndexedSheet;
+use stage_memory::{LentScratch, LentTable};
 use text_lines::Page;
 use text_listing::call_lines;
 
+// The output of an analysis, to be read.
+fn tables<'a>(output: &'a LentTable) -> Tables<'a>
+    ensures { result ≡ table_in output.now }
+{
+    Tables {
+        slots: output.slots,
+        present: output.present,
+        kinds: output.kinds,
+        values: output.values,
+    }
+}
+
 // "for s over 32 in question 8's [place]": what is lent has room for 32 tracked slots. The sheet is accepted and its index found, and n and L are in
 // their limits: nothing is asked or found again. A length is answered, and not the text: no contract can say what stays behind a slice that is handed back.
-pub fn list_facts(sheet: &Sheet, firsts: &[u16], classes: &[u16], out: &mut [u8]) -> usize
-    requires { Accepted sheet.now.bytes.now sheet.now.sizes
-        × Holds (first_range sheet.now.bytes.now) (code_count sheet.now.bytes.now) firsts.now
-        × Classes sheet.now.bytes.now classes.now
-        × (sheet.now.sizes.code_count ≤ 256)
-        × (sheet.now.sizes.local_slots ≤ 4096)
+pub fn list_facts(indexed: &IndexedSheet, out: &mut [u8]) -> usize
+    requires { (indexed.now.sheet.now.sizes.code_count ≤ 256)
+        × (indexed.now.sheet.now.sizes.local_slots ≤ 4096)
         × (2187530 ≤ length out.old) }
-    ensures { ShowsText (call_lines sheet.now.bytes.now (call sheet.now.bytes.now fresh listing_lent)) out.old result out.new }
+    ensures { ShowsText (call_lines indexed.now.sheet.now.bytes.now (call indexed.now.sheet.now.bytes.now fresh listing_lent)) out.old result out.new }
 {
     let mut constant_slots = [0u16; 32];
     let mut constant_present = [0u8; 256];
@@ -46,55 +53,47 @@ pub fn list_facts(sheet: &Sheet, firsts: &[u16], classes: &[u16], out: &mut [u8]
     let mut row_kinds = [0u8; 32];
     let mut row_values = [0u64; 32];
     let mut work_list = [0u16; 16640];
+    let mut constants = LentTable {
+        slots: &mut constant_slots,
+        present: &mut constant_present,
+        kinds: &mut constant_kinds,
+        values: &mut constant_values,
+    };
+    let mut index = LentTable {
+        slots: &mut index_slots,
+        present: &mut index_present,
+        kinds: &mut index_kinds,
+        values: &mut index_values,
+    };
+    let mut containers = LentTable {
+        slots: &mut container_slots,
+        present: &mut container_present,
+        kinds: &mut container_kinds,
+        values: &mut container_values,
+    };
+    let mut scratch = LentScratch {
+        marks: &mut marks,
+        stack: &mut stack,
+        row_kinds: &mut row_kinds,
+        row_values: &mut row_values,
+        work_list: &mut work_list,
+    };
     let answer = analyze_indexed(
-        sheet,
-        firsts,
-        classes,
+        indexed,
         VerifierResources::new(),
-        &mut constant_slots,
-        &mut constant_present,
-        &mut constant_kinds,
-        &mut constant_values,
-        &mut index_slots,
-        &mut index_present,
-        &mut index_kinds,
-        &mut index_values,
-        &mut container_slots,
-        &mut container_present,
-        &mut container_kinds,
-        &mut container_values,
-        &mut marks,
-        &mut stack,
-        &mut row_kinds,
-        &mut row_values,
-        &mut work_list,
+        &mut constants,
+        &mut index,
+        &mut containers,
+        &mut scratch,
     );
-    let constants = Tables {
-        slots: &constant_slots,
-        present: &constant_present,
-        kinds: &constant_kinds,
-        values: &constant_values,
-    };
-    let index = Tables {
-        slots: &index_slots,
-        present: &index_present,
-        kinds: &index_kinds,
-        values: &index_values,
-    };
-    let containers = Tables {
-        slots: &container_slots,
-        present: &container_present,
-        kinds: &container_kinds,
-        values: &container_values,
-    };
     let mut page = Page::new(out);
     call_lines(
         answer,
-        classes,
-        sheet.sizes.code_count,
-        &constants,
-        &index,
-        &containers,
+        indexed.classes,
+        indexed.sheet.sizes.code_count,
+        &tables(&constants),
+        &tables(&index),
+        &tables(&containers),
         &mut page,
     );
     page.finished()

@@ -11,7 +11,7 @@ ghost use Rattle.text_lines.specs.Text.{ShowsText};
 use facts_call::list_facts;
 use model::Question;
 use sheet_fields::Sheet;
-use sheet_index::index_sheet;
+use sheet_index::{IndexedSheet, index_sheet};
 use sheet_questions::check_sheet;
 use text_lines::Page;
 
@@ -75,5 +75,10 @@ fn list_accepted(sheet: &Sheet, out: &mut [u8]) -> usize
     let mut firsts = [0u16; 256];
     let mut classes = [0u16; 1025];
     index_sheet(sheet, &mut firsts, &mut classes);
-    list_facts(sheet, &firsts, &classes, out)
+    let indexed = IndexedSheet {
+        sheet,
+        firsts: &firsts,
+        classes: &classes,
+    };
+    list_facts(&indexed, out)
 }

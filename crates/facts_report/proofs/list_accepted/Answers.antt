@@ -23,11 +23,19 @@ returns-then-sheet-gt-MOST_LOCALS c =
 pub index_sheet-requires : goal.index_sheet-requires
 index_sheet-requires c = let p = c.requires.0 in (p, (let came : c.args.sheet.now.sizes.code_count ≤ 256 = c.if-sheet-gt-MOST_INSTRUCTIONS.false in came), few_layouts p)
 
+pub invariant_of-indexed : goal.invariant_of-indexed
+invariant_of-indexed c =
+    let p = c.requires.0 in
+    let e = c.index_sheet.ensures in
+    record {
+      accepted = p;
+      held = firsts_found p _ (let came : c.args.sheet.now.sizes.code_count ≤ 256 = c.if-sheet-gt-MOST_INSTRUCTIONS.false in came) e.0;
+      classed = classes_found p _ (few_layouts p) e.1;
+    }
+
 pub list_facts-requires : goal.list_facts-requires
 list_facts-requires c =
-    let p = c.requires in
-    let e = c.index_sheet.ensures in
-    (p.0, firsts_found p.0 _ (let came : c.args.sheet.now.sizes.code_count ≤ 256 = c.if-sheet-gt-MOST_INSTRUCTIONS.false in came) e.0, classes_found p.0 _ (few_layouts p.0) e.1, (let came : c.args.sheet.now.sizes.code_count ≤ 256 = c.if-sheet-gt-MOST_INSTRUCTIONS.false in came), (let came : c.args.sheet.now.sizes.local_slots ≤ 4096 = c.if-sheet-gt-MOST_LOCALS.false in came), p.1)
+    ((let came : c.args.sheet.now.sizes.code_count ≤ 256 = c.if-sheet-gt-MOST_INSTRUCTIONS.false in came), (let came : c.args.sheet.now.sizes.local_slots ≤ 4096 = c.if-sheet-gt-MOST_LOCALS.false in came), c.requires.1)
 
 pub returns : goal.returns
 returns c =
