@@ -1,3 +1,5 @@
+-- The ways of `cover`
+pub mod Covers
 -- Equal charges in a row
 pub mod EqualCharges
 -- Parts that spend, one after the other

@@ -1,8 +1,8 @@
 // "Charges": one charge, and equal charges in a row, made from a budget by value; what a part of the call that spends comes to.
 #![tactic(auto)]
 
-ghost use Rattle.std.specs.Prelude.{◌≡◌};
-ghost use Rattle.model.specs.Charges.{units, charge_bytes, charge_work, in_stage, spend_bytes, for_each};
+ghost use Rattle.std.specs.Prelude.{cond, ◌≡◌, ◌-◌, leb, Ok, Err};
+ghost use Rattle.model.specs.Charges.{units, short, charge_bytes, charge_work, in_stage, spend_bytes, for_each};
 ghost use Rattle.model.specs.Closure.{stage_number};
 ghost use Rattle.budget.specs.Outcome.{as_spent, left_after, left_of};
 
@@ -26,7 +26,7 @@ pub enum Refused {
 // What a part of the call that spends comes to: what is left, or what ends it.
 pub type Outcome = Result<VerifierResources, Refused>;
 
-// "stage (1 to 5 in charge order)", of an analysis
+// "stage (1 to 5 in charge order)", of an analysis. A number, as document 01 has it and C is told: nothing asks which stage it is.
 pub fn stage_number(which: AnalysisKind) -> u8
     ensures { result ≡ stage_number which }
 {
@@ -64,43 +64,43 @@ pub fn left_of(outcome: Outcome) -> VerifierResources
     }
 }
 
-// "7. Does what is left cover the charge?" "A refused charge takes nothing."
+// "7. Does what is left cover the charge?": what is left of what there was, or what was asked and what there was.
+fn cover(have: u64, amount: u64) -> Result<u64, Shortage>
+    ensures { result ≡ cond (leb amount have) (Ok (have - amount)) (Err (short amount have)) }
+{
+    if amount <= have {
+        Ok(have - amount)
+    } else {
+        Err(Shortage {
+            requested: amount,
+            remaining: have,
+        })
+    }
+}
+
+// A charge of bytes. "A refused charge takes nothing."
 pub fn charge_bytes(
     resources: VerifierResources,
     amount: u64,
 ) -> Result<VerifierResources, Shortage>
     ensures { result ≡ charge_bytes amount resources }
 {
-    let bytes = resources.bytes;
-    if amount <= bytes {
-        Ok(VerifierResources {
-            bytes: bytes - amount,
-            work: resources.work,
-        })
-    } else {
-        Err(Shortage {
-            requested: amount,
-            remaining: bytes,
-        })
-    }
+    let bytes = cover(resources.bytes, amount)?;
+    Ok(VerifierResources {
+        bytes,
+        work: resources.work,
+    })
 }
 
 // The same for work.
 pub fn charge_work(resources: VerifierResources, amount: u64) -> Result<VerifierResources, Shortage>
     ensures { result ≡ charge_work amount resources }
 {
-    let work = resources.work;
-    if amount <= work {
-        Ok(VerifierResources {
-            bytes: resources.bytes,
-            work: work - amount,
-        })
-    } else {
-        Err(Shortage {
-            requested: amount,
-            remaining: work,
-        })
-    }
+    let work = cover(resources.work, amount)?;
+    Ok(VerifierResources {
+        bytes: resources.bytes,
+        work,
+    })
 }
 
 // A charge made from the resources, as a part of a stage: they are what is left where it was refused.

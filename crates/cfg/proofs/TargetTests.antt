@@ -2,7 +2,7 @@
 -- Assumes nothing.
 use mathlib.Core.Path.{◌≡◌, refl, sym, ap, ◌∙◌}
 use mathlib.Core.Logic.{◌≢◌}
-use mathlib.Core.List.{List, [], ◌∷◌}
+use mathlib.Core.List.{List, [], ◌∷◌, ◌++◌}
 use Prim.Native.Nat.{ℕ, ◌≤◌, ◌<◌}
 use native.Mathlib.Omega.{arith}
 use borrow.Author.Tests.{eq-eqb, ne_eqb, lt-ltb, le-ltb}
@@ -13,33 +13,23 @@ use Rattle.std.specs.Int.{FitsUnsignedBits}
 use Rattle.model.specs.Successors.{contains, push, push_valid, as_record}
 use Rattle.model.specs.declared.InstructionSuccessors.{InstructionSuccessors}
 
-abbrev two : ℕ → ℕ → ℕ → InstructionSuccessors
-two p q len = record { pcs = p ∷ q ∷ []; len = len }
-
 module _ (s : InstructionSuccessors) (pc : ℕ) where
-  -- the first one
-  pub push_first : s.len ≡ 0 → (targets : List ℕ) → s ≡ as_record targets → two pc 0 1 ≡ as_record (push targets pc)
+  -- an equal second one
+  pub push_equal : s.len ≡ 1 → pc ≡ get_or s.pcs 0 0 → (targets : List ℕ) → s ≡ as_record targets → push targets pc ≡ targets
   unfolding push contains as_record
-  push_first h [] e = refl
-  push_first h (t ∷ ts) e = absurd (omega (arith, ap (λ (x : InstructionSuccessors). x.len) e))
+  push_equal one h [] e = absurd (omega (arith, one, ap (λ (x : InstructionSuccessors). x.len) e))
+  push_equal one h (t ∷ ts) e =
+      let q : pc ≡ t = h ∙ ap (λ (x : InstructionSuccessors). get_or x.pcs 0 0) e in
+      rw (eq-eqb pc t q)
 
-  module _ (room : s.len < 2) (some : s.len ≢ 0) where
-    -- an equal second one
-    pub push_equal : pc ≡ get_or s.pcs 0 0 → (targets : List ℕ) → s ≡ as_record targets → s ≡ as_record (push targets pc)
-    unfolding push contains as_record
-    push_equal h [] e = absurd (some (ap (λ (x : InstructionSuccessors). x.len) e))
-    push_equal h (t ∷ ts) e =
-        let q : pc ≡ t = h ∙ ap (λ (x : InstructionSuccessors). get_or x.pcs 0 0) e in
-        rw (eq-eqb pc t q) e
-
-    -- another second one
-    pub push_second : pc ≢ get_or s.pcs 0 0 → (targets : List ℕ) → s ≡ as_record targets → two (get_or s.pcs 0 0) pc 2 ≡ as_record (push targets pc)
-    unfolding push contains as_record
-    push_second h [] e = absurd (some (ap (λ (x : InstructionSuccessors). x.len) e))
-    push_second h (t ∷ []) e =
-        let q : get_or s.pcs 0 0 ≡ t = ap (λ (x : InstructionSuccessors). get_or x.pcs 0 0) e in
-        rw (q, ne_eqb pc t (λ p. h (p ∙ sym q)))
-    push_second h (t ∷ (u ∷ us)) e = absurd (omega (arith, ap (λ (x : InstructionSuccessors). x.len) e))
+  -- the first one, and another second one
+  pub push_new : s.len < 2 → (s.len ≡ 1 → pc ≢ get_or s.pcs 0 0) → (targets : List ℕ) → s ≡ as_record targets → push targets pc ≡ targets ++ (pc ∷ [])
+  unfolding push contains as_record
+  push_new room h [] e = refl
+  push_new room h (t ∷ []) e =
+      let q : get_or s.pcs 0 0 ≡ t = ap (λ (x : InstructionSuccessors). get_or x.pcs 0 0) e in
+      rw (ne_eqb pc t (λ p. h (ap (λ (x : InstructionSuccessors). x.len) e) (p ∙ sym q)))
+  push_new room h (t ∷ (u ∷ us)) e = absurd (omega (arith, room, ap (λ (x : InstructionSuccessors). x.len) e))
 
 -- ---- "Targets outside 0..n−1 are dropped"
 

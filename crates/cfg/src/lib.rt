@@ -24,24 +24,15 @@ const PANIC: u8 = 111;
 const FOR_LOOP: u8 = 124;
 
 // One more successor, unless it is one already: "an equal second one too" is dropped.
+// Room for it is asked by three private functions. A type for a record that has room would be a second one beside document 01's, and no plainer.
 fn push(successors: InstructionSuccessors, pc: usize) -> InstructionSuccessors
     requires { successors.len < 2 }
     ensures { (targets : List ℕ) → successors ≡ as_record targets → result ≡ as_record (push targets pc) }
 {
-    let first = successors.pcs[0];
-    if successors.len == 0 {
-        InstructionSuccessors {
-            pcs: [pc, 0],
-            len: 1,
-        }
-    } else if pc == first {
-        successors
-    } else {
-        InstructionSuccessors {
-            pcs: [first, pc],
-            len: 2,
-        }
+    if successors.len == 1 && pc == successors.pcs[0] {
+        return successors;
     }
+    successors.with(pc)
 }
 
 // "Targets outside 0..n−1 are dropped"
@@ -78,14 +69,12 @@ fn push_fallthrough_successor(
 
 // "Jump", "JumpIf and JumpIfNot", "ForLoop"; "Return and Panic have none"; "others only fall through".
 // The successors in order, for an instruction of a code of n.
+// The limit of n is asked, so that no place wraps: callers have n from a Sheet, and a type for one bounded number would be no plainer.
 pub fn instruction_successors(n: usize, pc: usize, inst: Instruction) -> InstructionSuccessors
     requires { (n ≤ 4096) × (pc < n) }
     ensures { result ≡ as_record (successors n pc inst) }
 {
-    let none = InstructionSuccessors {
-        pcs: [0, 0],
-        len: 0,
-    };
+    let none = InstructionSuccessors::NONE;
     let next = push_fallthrough_successor(n, pc, none);
     match inst.op {
         JUMP => push_valid_successor(n, none, target_i64(pc, imm32(inst))),

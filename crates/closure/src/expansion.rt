@@ -13,6 +13,7 @@ use model::{AnalysisKind, VerifierResources};
 use sheet_fields::Sheet;
 
 // The slot on top is taken from the stack, and its edges are followed: how many there are.
+// That the chains are of this sheet is asked, here and below: the sheet is needed without chains too, so as a field of theirs it would only go twice.
 fn take_slot(
     which: AnalysisKind,
     sheet: &Sheet,

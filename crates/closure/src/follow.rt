@@ -31,7 +31,8 @@ fn dependency_bit(which: AnalysisKind) -> u8
     }
 }
 
-// The sources below l, in order: the first, and with fold the second.
+// The sources below l, in order: the first, and with fold the second. The flag stands beside its source, as in `Dependence`: an Option would be made
+// for this one call, and taken apart in it.
 fn sources_below(l: usize, first: usize, fold: bool, second: usize) -> Candidates
     ensures { slots_in result ≡ only_if (nat_lt first l) first ++ only_if (fold && nat_lt second l) second }
 {
@@ -44,6 +45,7 @@ fn sources_below(l: usize, first: usize, fold: bool, second: usize) -> Candidate
 }
 
 // The edges of one instruction to slot d. A CopyN has one where a ≤ d < a + c and the source is below L, in whole numbers.
+// The limit of l is asked, here and below: it is a Sheet's, read once before the loop, and a type for one bounded number would be no plainer.
 fn edges_to(inst: Instruction, l: usize, d: usize) -> SlotEdges
     requires { (d < l) × (l ≤ 65535) }
     ensures { edges_in d result ≡ edges_into d (instruction_edges l inst) }
@@ -125,6 +127,7 @@ pub fn follow_edges(
     };
     let mut count = follow_code(bit, sheet, chains.first, d, marked);
     let mut number = chains.newest(d);
+    // a chain ends where a link names none: there is no count that a `for` could run to
     while 0 < number {
         let link = chains.link(number);
         let inst = sheet.instruction(link.pc as usize);

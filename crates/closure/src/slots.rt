@@ -14,6 +14,7 @@ use model::{AnalysisKind, VerifierResources};
 use sheet_fields::Sheet;
 
 // "mark 1, work slot 2": two charges, for each of L.
+// The limit of l is asked: the caller has l from a Sheet, and a type for one bounded number would be no plainer.
 fn charge_scratch(stage: u8, l: usize, resources: VerifierResources) -> Outcome
     requires { l ≤ 65535 }
     ensures { as_spent result ≡ scratch_charges stage l resources }
@@ -24,6 +25,8 @@ fn charge_scratch(stage: u8, l: usize, resources: VerifierResources) -> Outcome
 }
 
 // The same with exactly L marks: the charges, the loop, and the slots, where they fit.
+// Marks and stack go as two slices, here and in what calls this, and are a SlotMarks in the loop alone: as a struct each contract would say besides that it
+// still lends the same two, as those of a LentScratch do, and be no plainer.
 fn track(
     which: AnalysisKind,
     sheet: &Sheet,

@@ -7,6 +7,7 @@ use crate::edges::dependence_of;
 use model::Instruction;
 
 // The bucket of a slot: its own below 1,024, where scripts have most of theirs, else one that it shares with 63 others.
+// A slot is a usize with its bound asked, and no u16: its callers compute with it, and would cast it for this call.
 #[tactic(auto, unfolding(crate::specs::Links::bucket, crate::specs::Links::bucket_if))]
 pub fn bucket_of(slot: usize) -> usize
     requires { slot < 65536 }
@@ -19,6 +20,7 @@ pub fn bucket_of(slot: usize) -> usize
 }
 
 // The buckets that an instruction's edges may lead to.
+// The limit of l is asked: the caller has l from a Sheet, and a type for one bounded number would be no plainer.
 pub fn buckets_of(inst: Instruction, l: usize) -> Buckets
     requires { l ≤ 65535 }
     ensures { (result ≡ buckets_of l inst) × (result.first + result.count ≤ 2048) }

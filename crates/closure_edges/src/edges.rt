@@ -17,7 +17,7 @@ const SHL: u8 = 53;
 
 const MAP_ITER_INIT: u8 = 94;
 
-// "A dependency mask has bit 0 constant, bit 1 index, bit 2 container."
+// "A dependency mask has bit 0 constant, bit 1 index, bit 2 container.": bits and no enum, since several analyses may follow an edge.
 pub const CONSTANT: u8 = 1 << 0;
 
 pub const INDEX_CHECK: u8 = 1 << 1;

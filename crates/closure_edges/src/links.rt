@@ -51,7 +51,7 @@ impl<'a> Chains<'a> {
         self.first = pc;
     }
 
-    // The number of the newest link of a slot's bucket, or 0.
+    // The number of the newest link of a slot's bucket, or 0, as the `next` of a link has it.
     pub fn newest(&self, slot: usize) -> usize
         requires { slot < 65536 }
         ensures { result ≡ get_or self.now.heads.now (bucket slot) 0 }

@@ -10,7 +10,7 @@ pub use mark::SlotMarks;
 pub use seeds::seed_slots;
 pub use slots::list_slots;
 
-// At most two slots, in order.
+// At most two slots, in order. An Option has one, and in an array with a length beside it the places behind the length would say nothing.
 #[derive(Clone, Copy)]
 pub enum Candidates {
     None,
@@ -18,7 +18,8 @@ pub enum Candidates {
     Two(usize, usize),
 }
 
-// The fields of an instruction that are seeds, in the order of the Rust.
+// The fields of an instruction that are seeds, in the order of the Rust. An Option of the other five would put Some around each arm that makes or
+// reads one.
 #[derive(Clone, Copy)]
 enum Fields {
     None,

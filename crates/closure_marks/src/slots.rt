@@ -23,6 +23,7 @@ fn count_marks(marks: &[u8]) -> usize
 }
 
 // A slot whose mark is set goes to the next place.
+// Both places are numbers: the loop reads the marks and writes the slots each at its own, and a slice cut anew each turn would be no plainer.
 #[tactic(auto, unfolding(model::specs::Closure::list_unless, crate::specs::Slots::stored_unless))]
 fn write_slot(mark: u8, slot: usize, slots: &mut [u16], at: usize) -> usize
     requires { (slot < 65536) × (at ≤ length slots.old) × (eqb mark 0 ≡ false → at < length slots.old) }

@@ -16,6 +16,8 @@ fn half_of(slot: usize, t: usize, base: usize, half: usize) -> usize
 }
 
 // How many of the slots lie below the given one.
+// That they ascend is asked of the slice, here and of `find`: the structs of a row carry it as a ghost field, and `Tables`, lent with any slots, asks it
+// by itself before. A struct around the slice would be made for each call, and be no plainer.
 pub fn lower_bound(slots: &[u16], slot: usize) -> usize
     requires { ascends slots.now ≡ true }
     ensures { Bound slots.now slot result }

@@ -9,6 +9,7 @@ use model::FactCell;
 use sheet_layouts::class_of;
 
 // Whether two containers are equal: by kind, and A and B by class ("value A × 65,536 + B"). Equal cells are answered at once.
+// No `PartialEq` says this, since that has no classes to ask.
 pub fn equal_containers(classes: &[u16], old: FactCell, new: FactCell) -> bool
     ensures { result ≡ equal_containers_by classes.now old.kind old.value new.kind new.value }
 {

@@ -2,6 +2,7 @@
 pub mod Equality
 pub mod Tests
 pub mod Facts
+pub mod SuccessorRecords
 pub mod Metered
 pub mod Loops
 -- Document 01's proved cases, and the readings that the definitions shut out

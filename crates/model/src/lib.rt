@@ -1,9 +1,10 @@
 // The types that functions take and answer. What each means is said in specs/, from document 01.
 #![tactic(auto)]
 
-ghost use Rattle.std.specs.Prelude.{◌≡◌};
+ghost use Rattle.std.specs.Prelude.{◌≡◌, ◌<◌, List, [], ◌∷◌, ◌++◌, ℕ};
 ghost use Rattle.model.specs.Charges.{fresh};
 ghost use Rattle.model.specs.Sheet.{question_number};
+ghost use Rattle.model.specs.Successors.{as_record};
 
 // What is left to spend: derived bytes and work units.
 #[derive(Clone, Copy, PartialEq, Eq)]
@@ -45,7 +46,7 @@ pub enum AnalysisKind {
     Container,
 }
 
-// A fact as it lies in a table: a kind byte and a 64-bit value.
+// A fact as it lies in a table: a kind byte and a 64-bit value. The kind is no enum: C lends the kinds as bytes, and any may come.
 #[derive(Clone, Copy, PartialEq, Eq)]
 pub struct FactCell {
     pub kind: u8,
@@ -70,7 +71,8 @@ pub struct Counts {
     pub pops: u64,
 }
 
-// What a call answers: 0 with the counts of the analyses; 1 to 6; 7; 8; each with the budget left.
+// What a call answers: 0 with the counts of the analyses; 1 to 6; 7; 8; each with the budget left. It is no Result: all four tell what is left,
+// and who is answered passes no refusal on, but prints it or tells its number.
 #[derive(Clone, Copy)]
 pub enum Answer {
     Analyzed {
@@ -116,6 +118,40 @@ impl VerifierResources {
     }
 }
 
+impl InstructionSuccessors {
+    // no successor
+    pub const NONE: InstructionSuccessors = InstructionSuccessors {
+        pcs: [0, 0],
+        len: 0,
+    };
+
+    // One more, behind those before it. An `if` with constant places and no `pcs[len]`: an array indexed by a number would lie in memory.
+    pub fn with(self, pc: usize) -> Self
+        requires { self.len < 2 }
+        ensures { (targets : List ℕ) → self ≡ as_record targets → result ≡ as_record (targets ++ (pc ∷ [])) }
+    {
+        if self.len == 0 {
+            Self {
+                pcs: [pc, 0],
+                len: 1,
+            }
+        } else {
+            Self {
+                pcs: [self.pcs[0], pc],
+                len: 2,
+            }
+        }
+    }
+}
+
+impl Counts {
+    // An analysis that tracks no slot and did not run, or none that is told of.
+    pub const NONE: Counts = Counts {
+        tracked: 0,
+        pops: 0,
+    };
+}
+
 impl FactCell {
     // "Kind 0 Unknown .., value 0"
     pub const UNKNOWN: FactCell = FactCell { kind: 0, value: 0 };
@@ -125,7 +161,7 @@ impl FactCell {
 }
 
 impl Question {
-    // "1" to "6", as a refusal names it
+    // "1" to "6", as a refusal names it. A method: `u8::from(question)` would be no plainer.
     pub fn number(self) -> u8
         ensures { result ≡ question_number self }
     {

@@ -1,4 +1,5 @@
 // Little-endian numbers in a slice of bytes. Each read compiles to one load.
+// The place is a number, as in the definitions (`u16 bytes at`): a slice from it on would be cut anew for each read, and be no plainer.
 ghost use Rattle.std.specs.Prelude.{◌≡◌, ◌+◌, ◌*◌, ◌<◌, ◌≤◌, List, ℕ, length};
 ghost use Rattle.model.specs.Bytes.{byte, u16, u32, u64};
 

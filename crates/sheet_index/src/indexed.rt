@@ -7,6 +7,8 @@ ghost use Rattle.sheet_layouts.specs.Classes.{Classes};
 use sheet_fields::Sheet;
 
 // A sheet that none of the questions 1 to 5 refuses, the number of each instruction's first range, and the class of each layout: what `index_sheet` finds.
+// `Accepted` is asked besides by what finds these parts and by three callers, which have it from `check_sheet`: a third struct of a sheet for those
+// few would be no plainer.
 #[derive(Clone, Copy)]
 pub struct IndexedSheet<'a> {
     pub sheet: &'a Sheet<'a>,

@@ -12,9 +12,10 @@ mod offsets;
 pub use indexed::IndexedSheet;
 pub use offsets::{first_ranges, layout_starts};
 use sheet_fields::Sheet;
-use sheet_layouts::layout_classes;
+use sheet_layouts::Layouts;
 
 // The number of the first range of each instruction, and the class of each layout.
+// The starts are an array of the most that there can be, since there is no heap.
 pub fn index_sheet(sheet: &Sheet, firsts: &mut [u16], classes: &mut [u16])
     requires { Accepted sheet.now.bytes.now sheet.now.sizes × (sheet.now.sizes.code_count ≤ length firsts.old)
         × (sheet.now.sizes.layout_count < length classes.old) }
@@ -24,5 +25,9 @@ pub fn index_sheet(sheet: &Sheet, firsts: &mut [u16], classes: &mut [u16])
     first_ranges(sheet, firsts);
     let mut starts = [0u16; 1024];
     layout_starts(sheet, &mut starts);
-    layout_classes(sheet, &starts, classes);
+    let layouts = Layouts {
+        sheet: &*sheet,
+        starts: &starts,
+    };
+    layouts.layout_classes(classes);
 }

@@ -9,50 +9,58 @@ ghost use Rattle.sheet_layouts.specs.Readable.{Readable};
 
 use sheet_fields::Sheet;
 
-// The slot kinds of layout i; none from y up. starts is what layout_starts has filled.
-fn content<'a>(sheet: &'a Sheet, starts: &[u16], i: usize) -> &'a [u8]
-    requires { Readable sheet.now.bytes.now sheet.now.sizes starts.now }
-    ensures { result.now ≡ layout sheet.now.bytes.now i }
-{
-    if sheet.sizes.layout_count <= i {
-        return &sheet.bytes[..0];
-    }
-    let count = sheet.layout_length(i) as usize;
-    sheet.slot_kinds(starts[i] as usize, count)
+// A sheet that none of the questions 1 to 5 refuses, and where the slot kinds of each layout begin: what `layout_starts` has filled.
+#[derive(Clone, Copy)]
+pub struct Layouts<'a> {
+    pub sheet: &'a Sheet<'a>,
+    pub starts: &'a [u16],
+    pub ghost readable: { Readable sheet.now.bytes.now sheet.now.sizes starts.now },
 }
 
-// The lowest layout with the content of layout i, for any number. From y up a layout is empty. Slices have `==`; that a slot kind which differs
-// goes on with the next layout by label is the form which document 01 names for this place.
-pub fn lowest(sheet: &Sheet, starts: &[u16], i: u64) -> u64
-    requires { Readable sheet.now.bytes.now sheet.now.sizes starts.now }
-    ensures { result ≡ lowest sheet.now.bytes.now i }
-{
-    let n = (i as usize).min(sheet.sizes.layout_count);
-    let own = content(sheet, starts, n);
-    'outer: for j in 0..n {
-        let other = content(sheet, starts, j);
-        if other.len() != own.len() {
-            continue 'outer;
+impl<'a> Layouts<'a> {
+    // The slot kinds of layout i; none from y up.
+    fn content(&self, i: usize) -> &'a [u8]
+        ensures { result.now ≡ layout self.now.sheet.now.bytes.now i }
+    {
+        if self.sheet.sizes.layout_count <= i {
+            return &self.sheet.bytes[..0];
         }
-        for k in 0..own.len() {
-            if other[k] != own[k] {
+        let count = self.sheet.layout_length(i) as usize;
+        self.sheet.slot_kinds(self.starts[i] as usize, count)
+    }
+
+    // The lowest layout with the content of layout i, for any number. From y up a layout is empty. Slices have `==`; that a slot kind which
+    // differs goes on with the next layout by label is the form which document 01 names for this place.
+    pub fn lowest(&self, i: u64) -> u64
+        ensures { result ≡ lowest self.now.sheet.now.bytes.now i }
+    {
+        let n = (i as usize).min(self.sheet.sizes.layout_count);
+        let own = self.content(n);
+        'outer: for j in 0..n {
+            let other = self.content(j);
+            if other.len() != own.len() {
                 continue 'outer;
             }
+            for k in 0..own.len() {
+                if other[k] != own[k] {
+                    continue 'outer;
+                }
+            }
+            return j as u64;
         }
-        return j as u64;
+        n as u64
     }
-    n as u64
-}
 
-// The class of every layout: the lowest number of equal content. From y up a layout is empty, and its class is that of y.
-pub fn layout_classes(sheet: &Sheet, starts: &[u16], classes: &mut [u16])
-    requires { Readable sheet.now.bytes.now sheet.now.sizes starts.now × (sheet.now.sizes.layout_count < length classes.old) }
-    ensures { classes.new ≡ layout_classes sheet.now.bytes.now classes.old }
-{
-    let y = sheet.sizes.layout_count;
-    classes.fill(lowest(sheet, starts, y as u64) as u16);
-    for i in 0..y {
-        classes[i] = lowest(sheet, starts, i as u64) as u16;
+    // The class of every layout: the lowest number of equal content. From y up a layout is empty, and its class is that of y.
+    pub fn layout_classes(&self, classes: &mut [u16])
+        requires { self.now.sheet.now.sizes.layout_count < length classes.old }
+        ensures { classes.new ≡ layout_classes self.now.sheet.now.bytes.now classes.old }
+    {
+        let y = self.sheet.sizes.layout_count;
+        classes.fill(self.lowest(y as u64) as u16);
+        for i in 0..y {
+            classes[i] = self.lowest(i as u64) as u16;
+        }
     }
 }
 

@@ -8,6 +8,7 @@ use sheet::{Places, Sizes, size_at};
 const LIMITS: [usize; 10] = [4096, 16384, 4096, 256, 1024, 16384, 65535, 65535, 65535, 1];
 
 // "Is every size within its limit?"
+// The head's length is asked, here and below, by what reads it before there is a Sheet, which is made of what they answer.
 pub fn within_limits(bytes: &[u8]) -> bool
     requires { 40 ≤ length bytes.now }
     ensures { result ≡ within_limits bytes.now 0 limits }
@@ -20,7 +21,8 @@ pub fn within_limits(bytes: &[u8]) -> bool
     true
 }
 
-// Where the arrays begin. Sizes are below 2^32 here, so that no sum wraps whatever they are.
+// Where the arrays begin. Sizes are below 2^32 here, so that no sum wraps whatever they are. Here and below no From: that takes any
+// bytes, and these must be 40 at least, as question 1 asks.
 fn places_of(bytes: &[u8]) -> Places
     requires { 40 ≤ length bytes.now }
     ensures { result ≡ places_of bytes.now }

@@ -15,6 +15,7 @@ fn layouts_used(count: usize, kind: u8, a: u16, b: u16) -> bool
     ((kind == 0) | ((a as usize) < count)) & ((kind != 1) | ((b as usize) < count))
 }
 
+// Four functions, since each reads other fields and promises the definition of its own.
 // Question 5 of the note at pc.
 fn note_named(sheet: &Sheet, pc: usize) -> bool
     requires { pc < sheet.now.sizes.code_count }

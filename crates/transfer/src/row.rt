@@ -13,7 +13,7 @@ use fact_row::{FactRow, TrackedRow, checked_cell};
 use memory::copy;
 use model::{AnalysisKind, FactCell, Instruction};
 use transfer_facts::effect_of;
-use transfer_written::RangedSheet;
+use transfer_written::{InstructionAt, RangedSheet};
 
 // "Opcodes (decimal)": a number, since an instruction may hold any byte.
 const INDEX_CHECK: u8 = 121;
@@ -70,8 +70,13 @@ pub fn transfer_row(
         kinds,
         values,
     };
-    let effect = effect_of(which, sheet.sheet, &row, pc, inst);
-    let written = sheet.slots_written(which, &row, pc, inst);
+    let at = InstructionAt {
+        ranged: sheet,
+        pc,
+        inst,
+    };
+    let effect = effect_of(which, &at, &row);
+    let written = at.slots_written(which, &row);
     copy(kinds, out_kinds);
     copy(values, out_values);
     let mut out = FactRow {

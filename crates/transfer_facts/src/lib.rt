@@ -1,4 +1,6 @@
 // "Transfers": what the slots that an instruction writes become, in each analysis. A fact's kind is a number, as it lies in the lent tables.
+// `effect_of` has told CopyN apart: that an instruction is none is asked of what it calls, and a type for such an instruction would be made for one call, and
+// be no plainer.
 #![tactic(auto)]
 
 mod constants;

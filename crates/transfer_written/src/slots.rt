@@ -8,7 +8,7 @@ ghost use Rattle.transfer_written.specs.Spans.{elements_fact, elements_in};
 
 use crate::elements::{elem_slots, has_elements};
 use crate::ranges::{holds, span};
-use crate::{RangedSheet, Written};
+use crate::{InstructionAt, Written};
 use fact_row::TrackedRow;
 use model::{AnalysisKind, FactCell, Instruction};
 
@@ -31,9 +31,8 @@ fn elements_fact(which: AnalysisKind, row: &TrackedRow, inst: Instruction) -> Fa
     }
 }
 
-impl RangedSheet<'_> {
-    ghost use Rattle.std.specs.Prelude.{◌≡◌, ◌<◌};
-    ghost use Rattle.model.specs.Sheet.{instruction};
+impl InstructionAt<'_> {
+    ghost use Rattle.std.specs.Prelude.{◌≡◌};
     ghost use Rattle.model.specs.Tables.{fact_in};
     ghost use Rattle.model.specs.Written.{written, index_written};
     ghost use Rattle.fact_row.specs.Tracked.{facts_read};
@@ -43,10 +42,10 @@ impl RangedSheet<'_> {
     // SlotSetN does so with a SlotLayout note whose layout is not empty, and else writes nothing." `before` is b's cell, Unknown but in the
     // index analysis.
     #[tactic(auto, unfolding(model::specs::Tables::fact_in, model::specs::Tables::fact_of, model::specs::Written::writes, model::specs::Opcode::select, crate::specs::Spans::element_spans, crate::specs::Spans::spans_by, crate::specs::Spans::spans, crate::specs::Spans::index_spans_by, crate::specs::Spans::index_spans))]
-    fn instruction_writes(&self, pc: usize, inst: Instruction, before: FactCell) -> Written
-        requires { (pc < self.now.sheet.now.sizes.code_count) × (inst ≡ instruction self.now.sheet.now.bytes.now pc) }
-        ensures { result ≡ index_spans self.now.sheet.now.bytes.now pc (fact_in before) }
+    fn instruction_writes(&self, before: FactCell) -> Written
+        ensures { result ≡ index_spans self.now.ranged.now.sheet.now.bytes.now self.now.pc (fact_in before) }
     {
+        let inst = self.inst;
         let is_checked = 1 < before.kind;
         match inst.op {
             SLOT_SET if is_checked => Written::Span {
@@ -59,52 +58,37 @@ impl RangedSheet<'_> {
             },
             SLOT_SET_N if is_checked => Written::Span {
                 start: inst.a,
-                count: span(before.value, elem_slots(self.sheet, pc, inst)),
+                count: span(before.value, elem_slots(self)),
             },
-            SLOT_SET_N if has_elements(self.sheet, pc) => Written::Span {
+            SLOT_SET_N if has_elements(self.ranged.sheet, self.pc) => Written::Span {
                 start: inst.a,
                 count: 65536,
             },
             SLOT_SET_N => Written::Span { start: 0, count: 0 },
-            _ => self.ranges_written(pc),
+            _ => self.ranged.ranges_written(self.pc),
         }
     }
 
     // `index_check_instruction_writes_slot`: whether a slot is among those that the run finds.
-    pub fn index_check_instruction_writes_slot(
-        &self,
-        pc: usize,
-        inst: Instruction,
-        before: FactCell,
-        slot: u16,
-    ) -> bool
-        requires { (pc < self.now.sheet.now.sizes.code_count) × (inst ≡ instruction self.now.sheet.now.bytes.now pc) }
-        ensures { result ≡ index_written self.now.sheet.now.bytes.now pc (fact_in before) slot }
+    pub fn index_check_instruction_writes_slot(&self, before: FactCell, slot: u16) -> bool
+        ensures { result ≡ index_written self.now.ranged.now.sheet.now.bytes.now self.now.pc (fact_in before) slot }
     {
-        let found = self.instruction_writes(pc, inst, before);
-        holds(self.sheet, found, slot)
+        let found = self.instruction_writes(before);
+        holds(self.ranged.sheet, found, slot)
     }
 
     // `instruction_writes_slot`: the same in the constant and container analyses, which know no Checked b.
-    pub fn instruction_writes_slot(&self, pc: usize, inst: Instruction, slot: u16) -> bool
-        requires { (pc < self.now.sheet.now.sizes.code_count) × (inst ≡ instruction self.now.sheet.now.bytes.now pc) }
-        ensures { result ≡ written self.now.sheet.now.bytes.now pc slot }
+    pub fn instruction_writes_slot(&self, slot: u16) -> bool
+        ensures { result ≡ written self.now.ranged.now.sheet.now.bytes.now self.now.pc slot }
     {
-        self.index_check_instruction_writes_slot(pc, inst, FactCell::UNKNOWN, slot)
+        self.index_check_instruction_writes_slot(FactCell::UNKNOWN, slot)
     }
 
-    // The slots that the instruction at pc writes, in one of the analyses.
-    pub fn slots_written(
-        &self,
-        which: AnalysisKind,
-        row: &TrackedRow,
-        pc: usize,
-        inst: Instruction,
-    ) -> Written
-        requires { (pc < self.now.sheet.now.sizes.code_count) × (inst ≡ instruction self.now.sheet.now.bytes.now pc) }
-        ensures { result ≡ slots_written which self.now.sheet.now.bytes.now pc row.now.slots.now (facts_read row.now) }
+    // The slots that the instruction writes, in one of the analyses.
+    pub fn slots_written(&self, which: AnalysisKind, row: &TrackedRow) -> Written
+        ensures { result ≡ slots_written which self.now.ranged.now.sheet.now.bytes.now self.now.pc row.now.slots.now (facts_read row.now) }
     {
-        let before = elements_fact(which, row, inst);
-        self.instruction_writes(pc, inst, before)
+        let before = elements_fact(which, row, self.inst);
+        self.instruction_writes(before)
     }
 }

@@ -1,14 +1,17 @@
--- `budget::charge_work` meets its contract: each way out is one case of the definition's test.
+-- `budget::charge_work` meets its contract: what `cover` answers tells the case of the definition.
 -- Assumes nothing.
-use native.Mathlib.Omega.{arith}
-use borrow.Author.Tests.{le-leb, lt-leb}
+use Rattle.std.proofs.lemmas.Result.{err_from_is_err_and}
 use Rattle.model.specs.Charges.{charge_work, work_charged}
+use Rattle.budget.proofs.Covers.{is_covered, is_short}
 use Rattle.budget.proofs.charge_work.Goals as goal
 
-pub returns-then-amount-work : goal.returns-then-amount-work
+pub returns-in_err-work : goal.returns-in_err-work
 unfolding charge_work work_charged
-returns-then-amount-work c = simp (le-leb c.args.amount c.args.resources.work (omega arith))
+returns-in_err-work c =
+    let p = err_from_is_err_and c.from_residual.result c.from_residual.ensures.1 in
+    let s = is_short _ _ _ c.in_err-work.ensures in
+    rw (p.1, p.2, s.0, s.1)
 
-pub returns-else-amount-work : goal.returns-else-amount-work
+pub returns : goal.returns
 unfolding charge_work work_charged
-returns-else-amount-work c = simp (lt-leb c.args.amount c.args.resources.work (omega arith))
+returns c = let s = is_covered _ _ _ c.in_ok-work.ensures in rw (s.0, s.1)

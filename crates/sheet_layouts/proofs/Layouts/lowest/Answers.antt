@@ -1,4 +1,4 @@
--- `sheet_layouts::lowest` meets its contract. Assumes nothing.
+-- `sheet_layouts::Layouts::lowest` meets its contract. Assumes nothing.
 use mathlib.Core.Path.{ap, ◌∙◌}
 use mathlib.Core.List.{List}
 use Prim.Native.Nat.{ℕ}
@@ -6,7 +6,7 @@ use lib.ListN.{length, get_or}
 use borrow.Author.Count.{below_more}
 use native.Mathlib.Omega.{arith}
 use Rattle.sheet_layouts.proofs.LowestSearch.{found, absent, unlike, same, capped}
-use Rattle.sheet_layouts.proofs.lowest.Goals as goal
+use Rattle.sheet_layouts.proofs.Layouts.lowest.Goals as goal
 
 -- a length differs
 pub outer-preserved-then-other-own : goal.outer-preserved-then-other-own
@@ -23,7 +23,7 @@ outer-preserved c =
 pub returns-in-outer : goal.returns-in-outer
 returns-in-outer c =
     let alike = same _ _ _ c.content-other.ensures c.content-own.ensures (omega arith) (λ m h. c.loop-k.invariant.1 m (omega arith)) in
-    found _ _ _ c.outer-test.true c.outer.invariant alike ∙ capped c.requires.accepted c.args.i c.min-n.ensures
+    found _ _ _ c.outer-test.true c.outer.invariant alike ∙ capped c.args.self.now.readable.accepted c.args.i c.min-n.ensures
 
 pub returns : goal.returns
-returns c = absent _ _ (λ k h. c.outer.invariant k (omega arith)) ∙ capped c.requires.accepted c.args.i c.min-n.ensures
+returns c = absent _ _ (λ k h. c.outer.invariant k (omega arith)) ∙ capped c.args.self.now.readable.accepted c.args.i c.min-n.ensures
