@@ -9,7 +9,7 @@ ghost use Rattle.stage_memory.specs.Lent.{lent_in, SameTable, SameScratch};
 
 use call_order::answer_of;
 use call_values::analyze_values;
-use fixpoint_step::LengthFacts;
+use fixpoint_step::LengthFact;
 use model::{AnalysisKind, Answer, VerifierResources};
 use sheet_index::IndexedSheet;
 use stage::analyze_stage;
@@ -33,10 +33,7 @@ pub fn analyze_indexed(
 {
     let values = analyze_values(indexed, resources, constants, index, scratch);
     // "for index, the ended constant run": to the containers no length is known.
-    let unknown = LengthFacts {
-        kinds: &[0u8; 4096],
-        values: &[0u16; 4096],
-    };
+    let unknown = [LengthFact { kind: 0, value: 0 }; 4096];
     let third = analyze_stage(
         AnalysisKind::Container,
         indexed,

@@ -9,7 +9,8 @@ use Prim.Native.Nat.{ℕ, ◌≤◌}
 use Rattle.model.specs.Sheet.{code_count, local_slots}
 use Rattle.model.specs.Charges.{Spent, give, continue, ◌>>=◌, ◌>>◌, Refusal, over_budget, no_room, stop}
 use Rattle.model.specs.Fact.{unknown}
-use Rattle.model.specs.Tables.{length_table}
+use Rattle.fixpoint_step.specs.Lengths.{lengths_in}
+use Rattle.fixpoint_step.specs.declared.lengths.LengthFact.{LengthFact}
 use Rattle.model.specs.Analyses.{Analysed, length_facts, stage, Facts, analyses}
 use Rattle.model.specs.Call.{Table, Scratch, counts, tables, zero_table, filled_table, Lent, lent, table_of, table_room, closure_room, call_end, after_six, after_five, call, answer, scratch_zero, lent_after, call_result, result_of, analyzed}
 use Rattle.model.specs.declared.VerifierResources.{VerifierResources}
@@ -40,11 +41,11 @@ use Rattle.budget.proofs.Outcomes.{Left, covered, stopped, left_by}
 -- ---- constants and index
 
 -- what `analyze_values` promises, from what the functions that it calls promise
-module _ (sheet : List ℕ) {sizes : Sizes} (accepted : Accepted sheet sizes) (budget : VerifierResources) (C I : Table) (W : Scratch) (lk lv lk' lv' : List ℕ)
+module _ (sheet : List ℕ) {sizes : Sizes} (accepted : Accepted sheet sizes) (budget : VerifierResources) (C I : Table) (W : Scratch) (lk lk' : List LengthFact)
     (begun : Outcome) {o₁ o₂ : Outcome} {n₁ n₂ : Counts} {w w₁ w₂ : Scratch} {c₁ i₁ : Table} (wz : w ≡ zero_scratch W) (graph : as_spent begun ≡ charge_graph sheet budget)
-    (e₁ : StageEnds Constant sheet (length_table lk lv) begun C w o₁ (staged n₁ c₁ w₁))
-    (lengths : is_err o₁ ≡ false → (x : Analysed) → Stored sheet x n₁ c₁ → Lengthened sheet x lk lv lk' lv')
-    (e₂ : StageEnds IndexCheck sheet (length_table lk' lv') o₁ I w₁ o₂ (staged n₂ i₁ w₂))
+    (e₁ : StageEnds Constant sheet (lengths_in lk) begun C w o₁ (staged n₁ c₁ w₁))
+    (lengths : is_err o₁ ≡ false → (x : Analysed) → Stored sheet x n₁ c₁ → Lengthened sheet x lk lk')
+    (e₂ : StageEnds IndexCheck sheet (lengths_in lk') o₁ I w₁ o₂ (staged n₂ i₁ w₂))
     (same : SameLengths c₁ C) where
   c_zero : w₁ ≡ zero_scratch W
   c_zero = still_clear C W wz _ e₁
@@ -53,12 +54,12 @@ module _ (sheet : List ℕ) {sizes : Sizes} (accepted : Accepted sheet sizes) (b
   i_zero = still_clear I W c_zero _ e₂
 
   -- the charges and the constants
-  constants_first : continue (λ _. stage Constant sheet (room_in sheet C w) (length_table lk lv)) (as_spent begun)
+  constants_first : continue (λ _. stage Constant sheet (room_in sheet C w) (lengths_in lk)) (as_spent begun)
       ≡ continue (λ _. stage Constant sheet (room_in sheet C W) (λ pc. unknown)) (charge_graph sheet budget)
-  constants_first = rw (graph, constants_same sheet (room_cleared (code_count sheet) C W wz) (length_table lk lv) (λ pc. unknown))
+  constants_first = rw (graph, constants_same sheet (room_cleared (code_count sheet) C W wz) (lengths_in lk) (λ pc. unknown))
 
   values_twice : continue (λ x left. continue (λ y. give (value_facts x y)) (stage IndexCheck sheet (room_in sheet I W) (length_facts sheet x) left))
-      (continue (λ _. stage Constant sheet (room_in sheet C w) (length_table lk lv)) (as_spent begun)) ≡ values sheet (room_in sheet C W) (room_in sheet I W) budget
+      (continue (λ _. stage Constant sheet (room_in sheet C w) (lengths_in lk)) (as_spent begun)) ≡ values sheet (room_in sheet C W) (room_in sheet I W) budget
   unfolding values ◌>>=◌ ◌>>◌
   values_twice = rw constants_first (continue_twice _ _ (charge_graph sheet budget))
 
@@ -77,8 +78,8 @@ module _ (sheet : List ℕ) {sizes : Sizes} (accepted : Accepted sheet sizes) (b
   values_promise p q r =
       rw (q, r, p, ← values_twice) (then_left value_facts (staged_by C w) _ (staged_by I w₁) _ (valued_by C I W) (no_values C I W) _
       (λ x. stage IndexCheck sheet (room_in sheet I W) (length_facts sheet x)) _ e₁ e₂
-      (λ x left h o m. ap (λ (s : _). s left) (index_same sheet (room_cleared (code_count sheet) I W c_zero) (length_table lk' lv') (length_facts sheet x)
-      (lengths (ap (λ (r : Outcome). is_err r) o) x (output_stored sheet accepted C w (length_table lk lv) begun x left h m)).read)) both_ended one_refused)
+      (λ x left h o m. ap (λ (s : _). s left) (index_same sheet (room_cleared (code_count sheet) I W c_zero) (lengths_in lk') (length_facts sheet x)
+      (lengths (ap (λ (r : Outcome). is_err r) o) x (output_stored sheet accepted C w (lengths_in lk) begun x left h m)).read)) both_ended one_refused)
 
 -- ---- what the first two left
 
@@ -152,9 +153,9 @@ module _ (sheet : List ℕ) {sizes : Sizes} (accepted : Accepted sheet sizes) (b
   unfolding analyses values charge_graph table_room table_of ◌>>=◌ ◌>>◌ continue give
   values_first = simp continue_twice
 
-  module _ (uk uv : List ℕ) {o₂ o₃ : Outcome} {n₁ n₂ n₃ : Counts} {c₂ i₂ k₁ : Table} {w₂ w₃ : Scratch}
+  module _ (uk : List LengthFact) {o₂ o₃ : Outcome} {n₁ n₂ n₃ : Counts} {c₂ i₂ k₁ : Table} {w₂ w₃ : Scratch}
       (e₂ : some (leaves o₂ (valued n₁ n₂ c₂ i₂ w₂)) ≡ leaves_of (valued_by C I W) (no_values C I W) (values sheet (room_in sheet C W) (room_in sheet I W) budget))
-      (e₃ : StageEnds Container sheet (length_table uk uv) o₂ K w₂ o₃ (staged n₃ k₁ w₃))
+      (e₃ : StageEnds Container sheet (lengths_in uk) o₂ K w₂ o₃ (staged n₃ k₁ w₃))
       (same : SameLengths c₂ C) (same' : SameLengths i₂ I) where
     w₂_zero : w₂ ≡ zero_scratch W
     w₂_zero = values_clear C I W _ e₂
@@ -178,7 +179,7 @@ module _ (sheet : List ℕ) {sizes : Sizes} (accepted : Accepted sheet sizes) (b
     call_promise p q r a =
         rw (a, q, r, p, analyzed_is, ← values_first) (answered _ (then_left all_facts (valued_by C I W) _ (staged_by K w₂) _ filled_by _ _
         (λ v. stage Container sheet (room_in sheet K W) (λ pc. unknown)) _ e₂ e₃
-        (λ v left h o m. ap (λ (s : _). s left) (containers_same sheet (room_cleared (code_count sheet) K W w₂_zero) (length_table uk uv) (λ pc. unknown))) all_ended any_refused))
+        (λ v left h o m. ap (λ (s : _). s left) (containers_same sheet (room_cleared (code_count sheet) K W w₂_zero) (lengths_in uk) (λ pc. unknown))) all_ended any_refused))
 
 -- demand 3 of an answer with facts
 pub demanded : (sheet : List ℕ) (budget : VerifierResources) (before : Lent) (given : Answer) (after : Lent) → some (call_result given after) ≡ analyzed sheet budget before

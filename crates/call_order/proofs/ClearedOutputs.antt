@@ -92,6 +92,6 @@ module _ {sheet : List ℕ} {sizes : Sizes} (accepted : Accepted sheet sizes) wh
   pub few_code : sizes.code_count ≤ 4096
   few_code = (limited (measured accepted)).code_count_is
 
-  -- tables of 4,096 have room for the length facts
-  pub lengths_fit : {kinds_room values_room : ℕ} → kinds_room ≡ 4096 → values_room ≡ 4096 → (code_count sheet ≤ kinds_room) × (code_count sheet ≤ values_room)
-  lengths_fit k v = (omega (arith, few_code, (counted accepted.are).code_count_is), omega (arith, few_code, (counted accepted.are).code_count_is))
+  -- a table of 4,096 has room for the length facts
+  pub lengths_fit : {room : ℕ} → room ≡ 4096 → code_count sheet ≤ room
+  lengths_fit r = omega (arith, few_code, (counted accepted.are).code_count_is)

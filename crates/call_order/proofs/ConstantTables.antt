@@ -18,8 +18,10 @@ use Rattle.model.specs.Lookup.{ascends}
 use Rattle.model.specs.Analyses.{Analysed, length_facts}
 use Rattle.model.specs.Transfer.{checked_from}
 use Rattle.model.specs.declared.Counts.{Counts}
-use Rattle.call_order.specs.Lengths.{EndedRows, length_kinds, length_values}
-use Rattle.model.specs.Tables.{length_table, table_slices}
+use Rattle.fixpoint_step.specs.Lengths.{lengths_in}
+use Rattle.fixpoint_step.specs.declared.lengths.LengthFact.{LengthFact}
+use Rattle.call_order.specs.Lengths.{EndedRows, lengths_stored}
+use Rattle.model.specs.Tables.{table_slices}
 use Rattle.call_order.specs.Stored.{Stored, Lengthened}
 
 -- the first places of the output of an ended analysis: n × s does not wrap, they are there, and they are a table
@@ -67,15 +69,14 @@ module _ {sheet : List ℕ} {a : Analysed} {given : Counts} {slots present kinds
       }
 
   -- what was stored, by the analysis
-  pub lengthened : {lk lv lk' lv' : List ℕ}
+  pub lengthened : {lengths lengths' : List LengthFact}
       → ((rows : List (Option Row)) → EndedRows (take s slots) rows (table_slices (take n present) (take (n * s) kinds) (take (n * s) values))
-      → (lk' ≡ length_kinds sheet (take s slots) rows lk) × (lv' ≡ length_values sheet (take s slots) rows lv))
+      → lengths' ≡ lengths_stored sheet (take s slots) rows lengths)
       → ((constants : Analysed) → constants.slots ≡ take s slots → EndedRows (take s slots) constants.rows (table_slices (take n present) (take (n * s) kinds) (take (n * s) values))
-      → (pc : ℕ) → pc < code_count sheet → (instruction sheet pc).op ≡ 121 → checked_from (length_table lk' lv' pc) ≡ checked_from (length_facts sheet constants pc))
-      → Lengthened sheet a lk lv lk' lv'
-  lengthened {lk} {lv} stores reads = record {
-    kinds_are = (stores a.rows stored_ended).0 ∙ ap (λ (xs : List ℕ). length_kinds sheet xs a.rows lk) slots_are;
-    values_are = (stores a.rows stored_ended).1 ∙ ap (λ (xs : List ℕ). length_values sheet xs a.rows lv) slots_are;
+      → (pc : ℕ) → pc < code_count sheet → (instruction sheet pc).op ≡ 121 → checked_from (lengths_in lengths' pc) ≡ checked_from (length_facts sheet constants pc))
+      → Lengthened sheet a lengths lengths'
+  lengthened {lengths} stores reads = record {
+    lengths_are = stores a.rows stored_ended ∙ ap (λ (xs : List ℕ). lengths_stored sheet xs a.rows lengths) slots_are;
     read = λ pc below op. reads a (sym slots_are) stored_ended pc below op;
   }
 

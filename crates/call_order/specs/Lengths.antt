@@ -11,6 +11,7 @@ use Rattle.model.specs.Analyses.{row_fact}
 use Rattle.model.specs.Transfer.{checked_from}
 use Rattle.model.specs.Lookup.{ascends}
 use Rattle.memory.specs.Front.{front}
+use Rattle.fixpoint_step.specs.declared.lengths.LengthFact.{LengthFact}
 
 -- The rows of an ended run as they lie in memory: s facts to a row, and zeros for an absent one.
 pub record EndedRows (slots : List ℕ) (rows : List (Option Row)) (t : TableSlices) : Type 0 where
@@ -26,10 +27,10 @@ length_fact_if false sheet slots rows pc = unknown
 unfoldable pub length_fact : List ℕ → List ℕ → List (Option Row) → ℕ → Fact
 length_fact sheet slots rows pc = length_fact_if (eqb (instruction sheet pc).op O.IndexCheck) sheet slots rows pc
 
--- their kinds, in the first n places
-unfoldable pub length_kinds : List ℕ → List ℕ → List (Option Row) → List ℕ → List ℕ
-length_kinds sheet slots rows old = front (λ pc. kind (length_fact sheet slots rows pc)) (code_count sheet) old
+-- a fact as it is stored
+abbrev pub stored_fact : Fact → LengthFact
+stored_fact f = record { kind = kind f; value = value f }
 
--- and their values
-unfoldable pub length_values : List ℕ → List ℕ → List (Option Row) → List ℕ → List ℕ
-length_values sheet slots rows old = front (λ pc. value (length_fact sheet slots rows pc)) (code_count sheet) old
+-- they, in the first n places
+unfoldable pub lengths_stored : List ℕ → List ℕ → List (Option Row) → List LengthFact → List LengthFact
+lengths_stored sheet slots rows old = front (λ pc. stored_fact (length_fact sheet slots rows pc)) (code_count sheet) old

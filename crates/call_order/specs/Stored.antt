@@ -7,8 +7,9 @@ use Rattle.model.specs.Tables.{RowsLie, table_slices}
 use Rattle.model.specs.Analyses.{Analysed, length_facts}
 use Rattle.model.specs.Lookup.{ascends}
 use Rattle.model.specs.declared.Counts.{Counts}
-use Rattle.call_order.specs.Lengths.{length_kinds, length_values}
-use Rattle.model.specs.Tables.{length_table}
+use Rattle.fixpoint_step.specs.Lengths.{lengths_in}
+use Rattle.fixpoint_step.specs.declared.lengths.LengthFact.{LengthFact}
+use Rattle.call_order.specs.Lengths.{lengths_stored}
 use Rattle.model.specs.Transfer.{checked_from}
 
 -- the tables of an ended analysis in the first places of an output
@@ -26,7 +27,6 @@ pub record Stored (sheet : List ℕ) (a : Analysed) (given : Counts) (t : Table)
       (table_slices (take (code_count sheet) t.present) (take (code_count sheet * length a.slots) t.kinds) (take (code_count sheet * length a.slots) t.values))
 
 -- the length facts of its rows in the first n places, at each IndexCheck what it makes of the ended run's fact of b
-pub record Lengthened (sheet : List ℕ) (a : Analysed) (kinds values kinds' values' : List ℕ) : Type 0 where
-  pub kinds_are : kinds' ≡ length_kinds sheet a.slots a.rows kinds
-  pub values_are : values' ≡ length_values sheet a.slots a.rows values
-  pub read : (pc : ℕ) → pc < code_count sheet → (instruction sheet pc).op ≡ 121 → checked_from (length_table kinds' values' pc) ≡ checked_from (length_facts sheet a pc)
+pub record Lengthened (sheet : List ℕ) (a : Analysed) (lengths lengths' : List LengthFact) : Type 0 where
+  pub lengths_are : lengths' ≡ lengths_stored sheet a.slots a.rows lengths
+  pub read : (pc : ℕ) → pc < code_count sheet → (instruction sheet pc).op ≡ 121 → checked_from (lengths_in lengths' pc) ≡ checked_from (length_facts sheet a pc)

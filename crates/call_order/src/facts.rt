@@ -5,17 +5,20 @@ ghost use Rattle.model.specs.Fact.{Row};
 ghost use Rattle.model.specs.Sheet.{code_count, instruction};
 ghost use Rattle.model.specs.Run.{row_at};
 ghost use Rattle.model.specs.Lookup.{ascends};
-ghost use Rattle.model.specs.Tables.{cell_of, length_table};
+ghost use Rattle.model.specs.Tables.{cell_of};
 ghost use Rattle.model.specs.Transfer.{checked_from};
 ghost use Rattle.model.specs.Analyses.{Analysed, row_fact, length_facts};
-ghost use Rattle.call_order.specs.Lengths.{length_fact, length_kinds, length_values};
+ghost use Rattle.fixpoint_step.specs.Lengths.{lengths_in};
+ghost use Rattle.call_order.specs.Lengths.{length_fact, lengths_stored};
 
 use crate::INDEX_CHECK;
 use fact_row::{checked_cell, find};
+use fixpoint_step::LengthFact;
 use model::FactCell;
 use sheet_fields::Sheet;
 
-// The slots and the tables of the ended constant run.
+// The slots and the tables of the ended constant run. They are no `Tables` of crate lookup, which may hold anything, so that question 9 is asked of
+// them: these are known to agree.
 #[derive(Drop)]
 pub struct EndedTables<'a> {
     pub slots: &'a [u16],
@@ -63,22 +66,22 @@ impl EndedTables<'_> {
         }
     }
 
-    // For each instruction the fact that `length_fact` names, in the first n places of two tables: at each IndexCheck what it makes of the
+    // For each instruction the fact that `length_fact` names, in the first n places of a table: at each IndexCheck what it makes of the
     // ended constant run's fact of b, which is all that the index analysis reads. So a value is a length of 16 bits.
-    pub fn length_facts(&self, sheet: &Sheet, out_kinds: &mut [u8], out_values: &mut [u16])
-        requires { (length self.now.present.now ≡ sheet.now.sizes.code_count) × (sheet.now.sizes.code_count ≤ length out_kinds.old) × (sheet.now.sizes.code_count ≤ length out_values.old) }
-        ensures stored { (rows : List (Option Row)) → Holds self.now rows
-            → (out_kinds.new ≡ length_kinds sheet.now.bytes.now self.now.slots.now rows out_kinds.old)
-            × (out_values.new ≡ length_values sheet.now.bytes.now self.now.slots.now rows out_values.old) }
+    pub fn length_facts(&self, sheet: &Sheet, lengths: &mut [LengthFact])
+        requires { (length self.now.present.now ≡ sheet.now.sizes.code_count) × (sheet.now.sizes.code_count ≤ length lengths.old) }
+        ensures stored { (rows : List (Option Row)) → Holds self.now rows → lengths.new ≡ lengths_stored sheet.now.bytes.now self.now.slots.now rows lengths.old }
         ensures read { (constants : Analysed) → constants.slots ≡ self.now.slots.now → Holds self.now constants.rows
             → (pc : ℕ) → pc < code_count sheet.now.bytes.now → (instruction sheet.now.bytes.now pc).op ≡ 121
-            → checked_from (length_table out_kinds.new out_values.new pc) ≡ checked_from (length_facts sheet.now.bytes.now constants pc) }
+            → checked_from (lengths_in lengths.new pc) ≡ checked_from (length_facts sheet.now.bytes.now constants pc) }
     {
         let n = sheet.sizes.code_count;
         for pc in 0..n {
             let cell = self.length_fact(sheet, pc);
-            out_kinds[pc] = cell.kind;
-            out_values[pc] = cell.value as u16;
+            lengths[pc] = LengthFact {
+                kind: cell.kind,
+                value: cell.value as u16,
+            };
         }
     }
 }

@@ -9,5 +9,5 @@ mod tables;
 pub use order::{answer_of, counts_unless};
 pub use tables::store_lengths;
 
-// "Opcodes (decimal)"
+// "Opcodes (decimal)": a number, since an instruction may hold any byte.
 const INDEX_CHECK: u8 = 121;

@@ -10,10 +10,7 @@ pub fn counts_unless(refused: bool, counts: Counts) -> Counts
     ensures { result ≡ counts_unless refused counts }
 {
     if refused {
-        return Counts {
-            tracked: 0,
-            pops: 0,
-        };
+        return Counts::NONE;
     }
     counts
 }

@@ -6,6 +6,7 @@ ghost use Rattle.call_order.specs.Stored.{Stored, Lengthened};
 
 use crate::facts::EndedTables;
 use budget::Outcome;
+use fixpoint_step::LengthFact;
 use model::Counts;
 use sheet_fields::Sheet;
 use stage_memory::LentTable;
@@ -16,17 +17,15 @@ pub fn store_lengths(
     constant: Counts,
     output: &LentTable,
     before: Outcome,
-    length_kinds: &mut [u8],
-    length_values: &mut [u16],
+    lengths: &mut [LengthFact],
 )
-    requires room { (sheet.now.sizes.code_count ≤ length length_kinds.old) × (sheet.now.sizes.code_count ≤ length length_values.old) }
+    requires room { sheet.now.sizes.code_count ≤ length lengths.old }
     requires constants_stored { is_err before ≡ false
         → (a : Analysed) × Stored sheet.now.bytes.now a constant (table_in output.now) }
     ensures stored { is_err before ≡ false
         → (a : Analysed) → Stored sheet.now.bytes.now a constant (table_in output.now)
-        → Lengthened sheet.now.bytes.now a length_kinds.old length_values.old length_kinds.new length_values.new }
-    ensures kept { is_err before ≡ true
-        → (length_kinds.new ≡ length_kinds.old) × (length_values.new ≡ length_values.old) }
+        → Lengthened sheet.now.bytes.now a lengths.old lengths.new }
+    ensures kept { is_err before ≡ true → lengths.new ≡ lengths.old }
 {
     if before.is_err() {
         return;
@@ -40,5 +39,5 @@ pub fn store_lengths(
         kinds: &output.kinds[..cells],
         values: &output.values[..cells],
     };
-    constants.length_facts(sheet, length_kinds, length_values);
+    constants.length_facts(sheet, lengths);
 }

@@ -12,7 +12,7 @@ ghost use Rattle.call_order.specs.Values.{values, valued, valued_by, no_values};
 use budget::Outcome;
 use call_order::{counts_unless, store_lengths};
 use closure_edges::charge_graph;
-use fixpoint_step::LengthFacts;
+use fixpoint_step::LengthFact;
 use model::{AnalysisKind, Counts, VerifierResources};
 use sheet_index::IndexedSheet;
 use stage::analyze_stage;
@@ -28,6 +28,7 @@ pub struct Values {
 }
 
 // The charges of the graph, then the constant and the index analysis, which reads the constants; both outputs are zero after a refusal.
+// The lengths' facts are arrays of the most instructions that a sheet can have, since there is no heap.
 pub fn analyze_values(
     indexed: &IndexedSheet,
     resources: VerifierResources,
@@ -47,17 +48,12 @@ pub fn analyze_values(
     ensures same { SameTable constants.old constants.new × SameTable index.old index.new × SameScratch scratch.old scratch.new }
 {
     scratch.clear();
-    let mut length_kinds = [0u8; 4096];
-    let mut length_values = [0u16; 4096];
+    let mut lengths = [LengthFact { kind: 0, value: 0 }; 4096];
     let begun = charge_graph(indexed.sheet, resources);
-    let unknown = LengthFacts {
-        kinds: &length_kinds,
-        values: &length_values,
-    };
     let first = analyze_stage(
         AnalysisKind::Constant,
         indexed,
-        &unknown,
+        &lengths,
         begun,
         constants,
         scratch,
@@ -67,17 +63,12 @@ pub fn analyze_values(
         first.counts,
         constants,
         first.outcome,
-        &mut length_kinds,
-        &mut length_values,
+        &mut lengths,
     );
-    let known = LengthFacts {
-        kinds: &length_kinds,
-        values: &length_values,
-    };
     let second = analyze_stage(
         AnalysisKind::IndexCheck,
         indexed,
-        &known,
+        &lengths,
         first.outcome,
         index,
         scratch,

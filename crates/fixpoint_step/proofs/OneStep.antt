@@ -3,7 +3,7 @@
 use mathlib.Core.Path.{◌≡◌, refl, sym, ap, ◌∙◌, subst}
 use mathlib.Core.List.{List}
 use Prim.Native.Nat.{ℕ, ◌≤◌, ◌<◌}
-use lib.ListN.{length, get_or}
+use lib.ListN.{length, get_or, get_or-map}
 use Rattle.model.specs.Sheet.{code_count}
 use Rattle.model.specs.Successors.{sheet_successors}
 use Rattle.model.specs.Fact.{Fact, Row}
@@ -22,6 +22,8 @@ use Rattle.sheet_layouts.specs.Classes.{equal_by}
 use Rattle.sheet_layouts.proofs.Classes.{equal_by_lem}
 use Rattle.fixpoint_step.specs.Visits.{SuccessorsRequires, SuccessorsEnsures}
 use Rattle.fixpoint_step.specs.Stepped.{SheetIndex, StepRequires}
+use Rattle.fixpoint_step.specs.Lengths.{lengths_in}
+use Rattle.fixpoint_step.specs.declared.lengths.LengthFact.{LengthFact}
 use Rattle.fixpoint_step.specs.OneStep.{sheet_of, lengths_of, StepEnsures, CopyEnsures}
 use Rattle.fixpoint_step.specs.declared.tracked.TrackedAnalysis.{TrackedAnalysis}
 use Rattle.fixpoint_step.proofs.VisitedTables.{row_part, part_lies}
@@ -35,15 +37,13 @@ one_fact IndexCheck sheet slots length_fact p e x = unfold transfer_row index_tr
 one_fact Container sheet slots length_fact p e x = unfold transfer_row in refl
 
 -- what is found once a call: the sheet's own, with room for the length facts
-pub found : (indexed : IndexedSheet) {length_kinds length_values : List ℕ}
-    → (code_count indexed.sheet.now.bytes.now ≤ length length_kinds) × (code_count indexed.sheet.now.bytes.now ≤ length length_values)
-    → SheetIndex indexed.sheet.now.bytes.now indexed.sheet.now.sizes indexed.firsts.now indexed.classes.now length_kinds length_values
+pub found : (indexed : IndexedSheet) {lengths : List LengthFact} → code_count indexed.sheet.now.bytes.now ≤ length lengths
+    → SheetIndex indexed.sheet.now.bytes.now indexed.sheet.now.sizes indexed.firsts.now indexed.classes.now lengths
 found indexed room = record {
   accepted = indexed.accepted;
   firsts_are = indexed.held;
   classes_are = indexed.classed;
-  length_kinds_length = room.0;
-  length_values_length = room.1;
+  lengths_room = room;
 }
 
 -- all that a step asks
@@ -63,11 +63,11 @@ module _ (a : TrackedAnalysis) {p : ℕ} {t : TableSlices} {row : RowSlices} (q 
         ),
       )
 
-  module _ {cell : FactCell} (own : (cell.kind ≡ get_or a.lengths.kinds.now p 0) × (cell.value ≡ get_or a.lengths.values.now p 0)) (copy : RowSlices)
+  module _ {cell : FactCell} (own : (cell.kind ≡ (get_or a.lengths.now p (record { kind = 0; value = 0 })).kind) × (cell.value ≡ (get_or a.lengths.now p (record { kind = 0; value = 0 })).value)) (copy : RowSlices)
       (e : RowLies (transfer_row a.which (sheet_of a) a.slots.now (λ q. fact_in cell) p (facts_in (row_part (length a.slots.now) p t))) copy) where
     own_fact : fact_in cell ≡ lengths_of a p
-    unfolding fact_in length_table
-    own_fact = rw (own.0, own.1)
+    unfolding fact_in length_table lengths_in
+    own_fact = rw (own.0, own.1, ← get_or-map (λ (f : LengthFact). f.kind) a.lengths.now p (record { kind = 0; value = 0 }), ← get_or-map (λ (f : LengthFact). f.value) a.lengths.now p (record { kind = 0; value = 0 })) refl
 
     -- the copy behind the transfer, of whatever rows lie there
     pub step_copies : CopyEnsures a p t copy

@@ -157,22 +157,6 @@ module _ (same : ℕ → ℕ → ℕ → ℕ → Bool) (copy : Row) where
 
 -- ---- the loop over them
 
--- one more that had news, in the record: the first, and the second
-pub with_first : (pcs : List ℕ) (len q : ℕ) → len ≡ 0 → (targets : List ℕ)
-    → ◌≡◌ {A = InstructionSuccessors} record { pcs = pcs; len = len } (as_record targets)
-    → ◌≡◌ {A = InstructionSuccessors} record { pcs = q ∷ 0 ∷ []; len = 1 } (as_record (targets ++ (q ∷ [])))
-unfolding as_record
-with_first pcs len q h [] e = refl
-with_first pcs len q h (t ∷ ts) e = absurd (omega (arith, h, ap (λ (x : InstructionSuccessors). x.len) e))
-
-pub with_second : (pcs : List ℕ) (len q : ℕ) → 0 < len → len < 2 → (targets : List ℕ)
-    → ◌≡◌ {A = InstructionSuccessors} record { pcs = pcs; len = len } (as_record targets)
-    → ◌≡◌ {A = InstructionSuccessors} record { pcs = get_or pcs 0 0 ∷ q ∷ []; len = 2 } (as_record (targets ++ (q ∷ [])))
-unfolding as_record
-with_second pcs len q m h [] e = absurd (omega (arith, m, ap (λ (x : InstructionSuccessors). x.len) e))
-with_second pcs len q m h (t ∷ []) e = rw (ap (λ (x : InstructionSuccessors). x.pcs) e) refl
-with_second pcs len q m h (t ∷ (u ∷ us)) e = absurd (omega (arith, h, ap (λ (x : InstructionSuccessors). x.len) e))
-
 -- what the record becomes: with q where its visit had news
 abbrev Told : Bool → ℕ → InstructionSuccessors → InstructionSuccessors → Type 0
 Told fresh q told told' = (targets : List ℕ) → told ≡ as_record targets → told' ≡ as_record (targets ++ cond fresh (q ∷ []) [])

@@ -5,10 +5,11 @@ use Rattle.std.proofs.Math.Option.{Option, some}
 use Rattle.model.specs.Fact.{Fact, Row, equal_known}
 use Rattle.model.specs.Successors.{sheet_successors, as_record}
 use Rattle.model.specs.Run.{row_at}
-use Rattle.model.specs.Tables.{TableSlices, RowsLie, RowSlices, RowLies, length_table}
+use Rattle.model.specs.Tables.{TableSlices, RowsLie, RowSlices, RowLies}
 use Rattle.model.specs.Transfer.{transfer_row}
 use Rattle.model.specs.declared.InstructionSuccessors.{InstructionSuccessors}
 use Rattle.fixpoint_step.specs.declared.tracked.TrackedAnalysis.{TrackedAnalysis}
+use Rattle.fixpoint_step.specs.Lengths.{lengths_in}
 use Rattle.fixpoint_step.specs.News.{rows_after, news_of}
 
 -- the sheet of an analysis, and its facts of lengths
@@ -16,7 +17,7 @@ abbrev pub sheet_of : TrackedAnalysis → List ℕ
 sheet_of a = a.indexed.now.sheet.now.bytes.now
 
 abbrev pub lengths_of : TrackedAnalysis → ℕ → Fact
-lengths_of a = length_table a.lengths.kinds.now a.lengths.values.now
+lengths_of a = lengths_in a.lengths.now
 
 -- What a step of p makes of whatever rows lie there, and which successors had news.
 unfoldable pub StepEnsures : TrackedAnalysis → ℕ → TableSlices → TableSlices → InstructionSuccessors → Type 0

@@ -11,14 +11,14 @@ use Rattle.memory.specs.Front.{Holds}
 use Rattle.sheet.specs.Measured.{Accepted}
 use Rattle.sheet.specs.declared.Sizes.{Sizes}
 use Rattle.sheet_layouts.specs.Classes.{Classes}
+use Rattle.fixpoint_step.specs.declared.lengths.LengthFact.{LengthFact}
 
 -- What is found once a call: the first range of each instruction, the class of each layout, and room for the length facts.
-pub record SheetIndex (sheet : List ℕ) (sizes : Sizes) (firsts classes length_kinds length_values : List ℕ) : Type 0 where
+pub record SheetIndex (sheet : List ℕ) (sizes : Sizes) (firsts classes : List ℕ) (lengths : List LengthFact) : Type 0 where
   pub accepted : Accepted sheet sizes
   pub firsts_are : Holds (first_range sheet) (code_count sheet) firsts
   pub classes_are : Classes sheet classes
-  pub length_kinds_length : code_count sheet ≤ length length_kinds
-  pub length_values_length : code_count sheet ≤ length length_values
+  pub lengths_room : code_count sheet ≤ length lengths
 
 -- The tracked slots, of which there are some, in a code that is not empty.
 pub record TrackedSlots (sheet slots : List ℕ) : Type 0 where

@@ -1,24 +1,23 @@
 // The length's fact of each instruction, which an IndexCheck reads.
-ghost use Rattle.std.specs.Prelude.{◌≡◌, ◌<◌, length, get_or};
+ghost use Rattle.std.specs.Prelude.{◌≡◌};
 
 use model::FactCell;
 
-// Kinds and values, those of instruction p in place p.
+// A fact of a length, whose value has 16 bits: 4 bytes, where a `FactCell` takes 16. That of instruction p lies in place p.
 #[derive(Clone, Copy)]
-pub struct LengthFacts<'a> {
-    pub kinds: &'a [u8],
-    pub values: &'a [u16],
+pub struct LengthFact {
+    pub kind: u8,
+    pub value: u16,
 }
 
-impl LengthFacts<'_> {
-    // The fact of instruction p.
-    pub fn at(&self, p: usize) -> FactCell
-        requires { (p < length self.now.kinds.now) × (p < length self.now.values.now) }
-        ensures { (result.kind ≡ get_or self.now.kinds.now p 0) × (result.value ≡ get_or self.now.values.now p 0) }
+impl LengthFact {
+    // As a cell of a row.
+    pub fn cell(self) -> FactCell
+        ensures { (result.kind ≡ self.kind) × (result.value ≡ self.value) }
     {
         FactCell {
-            kind: self.kinds[p],
-            value: u64::from(self.values[p]),
+            kind: self.kind,
+            value: u64::from(self.value),
         }
     }
 }

@@ -44,7 +44,7 @@ pub fn step(
         &ranged,
         slots,
         p,
-        analysis.lengths.at(p),
+        analysis.lengths[p].cell(),
         &kinds[at..end],
         &values[at..end],
         row_kinds,

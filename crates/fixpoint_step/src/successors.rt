@@ -1,7 +1,6 @@
 // The successors of an instruction, at most two.
-ghost use Rattle.std.specs.Prelude.{◌≡◌, ◌<◌, List, [], ◌∷◌, ◌++◌, ℕ};
 ghost use Rattle.model.specs.Promise.{lent_rows};
-ghost use Rattle.model.specs.Successors.{as_record, sheet_successors};
+ghost use Rattle.model.specs.Successors.{sheet_successors};
 ghost use Rattle.model.specs.Tables.{row_slices, table_slices};
 ghost use Rattle.sheet_layouts.specs.Classes.{equal_by};
 ghost use Rattle.fixpoint_step.specs.Visits.{NextRequires, NextEnsures, SuccessorsRequires, SuccessorsEnsures};
@@ -10,24 +9,6 @@ use crate::visits::join_into;
 use cfg::instruction_successors;
 use model::{AnalysisKind, InstructionSuccessors};
 use sheet_fields::Sheet;
-
-// One more that had news.
-fn with(news: InstructionSuccessors, q: usize) -> InstructionSuccessors
-    requires { news.len < 2 }
-    ensures { (targets : List ℕ) → news ≡ as_record targets → result ≡ as_record (targets ++ (q ∷ [])) }
-{
-    if news.len == 0 {
-        InstructionSuccessors {
-            pcs: [q, 0],
-            len: 1,
-        }
-    } else {
-        InstructionSuccessors {
-            pcs: [news.pcs[0], q],
-            len: 2,
-        }
-    }
-}
 
 // The k-th successor, if there is one: its row gets the copy or is joined with it. Those that had news, with this one.
 fn visit_next(
@@ -52,7 +33,7 @@ fn visit_next(
         if join_into(
             which, classes, q, present, kinds, values, row_kinds, row_values,
         ) {
-            return with(news, q);
+            return news.with(q);
         }
     }
     news
@@ -76,10 +57,7 @@ pub fn visit_successors(
         SuccessorsEnsures (equal_by which classes.now) (sheet_successors sheet.now.bytes.now p) t.entry row t.exit result }
 {
     let next = instruction_successors(sheet.sizes.code_count, p, sheet.instruction(p));
-    let none = InstructionSuccessors {
-        pcs: [0, 0],
-        len: 0,
-    };
+    let none = InstructionSuccessors::NONE;
     // Two calls and no loop: an array whose places are constants is kept in registers, and a step takes a third less time.
     let first = visit_next(
         which, classes, next, 0, none, present, kinds, values, row_kinds, row_values,

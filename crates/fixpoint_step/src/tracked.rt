@@ -3,7 +3,7 @@ ghost use Rattle.std.specs.Prelude.{◌≤◌, length};
 ghost use Rattle.model.specs.Sheet.{code_count};
 ghost use Rattle.fixpoint_step.specs.Stepped.{TrackedSlots};
 
-use crate::lengths::LengthFacts;
+use crate::lengths::LengthFact;
 use model::AnalysisKind;
 use sheet_index::IndexedSheet;
 
@@ -12,9 +12,8 @@ use sheet_index::IndexedSheet;
 pub struct TrackedAnalysis<'a> {
     pub which: AnalysisKind,
     pub indexed: &'a IndexedSheet<'a>,
-    pub lengths: LengthFacts<'a>,
+    pub lengths: &'a [LengthFact],
     pub slots: &'a [u16],
-    pub ghost kinds_room: { code_count indexed.now.sheet.now.bytes.now ≤ length lengths.kinds.now },
-    pub ghost values_room: { code_count indexed.now.sheet.now.bytes.now ≤ length lengths.values.now },
+    pub ghost lengths_room: { code_count indexed.now.sheet.now.bytes.now ≤ length lengths.now },
     pub ghost tracked: { TrackedSlots indexed.now.sheet.now.bytes.now slots.now },
 }

@@ -15,7 +15,7 @@ use Rattle.model.specs.Sheet.{code_count, local_slots}
 use Rattle.model.specs.Charges.{Refusal, over_budget, no_room, Spent, ok, continue}
 use Rattle.model.specs.Fact.{Fact, kind, value, Row}
 use Rattle.model.specs.Run.{RunEnd, finished, overdrawn, fuel_spent, run}
-use Rattle.model.specs.Tables.{length_table, facts_of}
+use Rattle.model.specs.Tables.{facts_of}
 use Rattle.model.specs.Analyses.{Analysed, analysis, ran_to, propagate}
 use Rattle.model.specs.Call.{Table, Scratch, table, scratch, counts, tables, zeros, filled, zero_table, filled_table}
 use Rattle.model.specs.declared.VerifierResources.{VerifierResources}
@@ -29,6 +29,8 @@ use Rattle.sheet.specs.declared.Sizes.{Sizes}
 use Rattle.sheet.proofs.AcceptedSheet.{measured}
 use Rattle.sheet.proofs.SizeNames.{counted}
 use Rattle.sheet.proofs.SizeLimits.{limited}
+use Rattle.fixpoint_step.specs.Lengths.{lengths_in}
+use Rattle.fixpoint_step.specs.declared.lengths.LengthFact.{LengthFact}
 use Rattle.fixpoint_step.specs.Stepped.{SheetIndex, TrackedSlots}
 use Rattle.fixpoint.specs.Memory.{RunMemory, run_memory, zero_run}
 use Rattle.fixpoint.specs.Turn.{RunRequires}
@@ -140,8 +142,8 @@ pub record RunLent (sheet : List ℕ) (n s : ℕ) (slots : List ℕ) (m : RunMem
   pub tracked : TrackedSlots sheet (take s slots)
   pub run : RunRequires (code_count sheet) (length (take s slots)) (run_memory (take n m.present) (take (n * s) m.kinds) (take (n * s) m.values) (take s m.row_kinds) (take s m.row_values) m.work_list)
 
-module _ (before : Outcome) (which : AnalysisKind) (sheet : List ℕ) {sizes : Sizes} {firsts classes length_kinds length_values : List ℕ}
-    (i : SheetIndex sheet sizes firsts classes length_kinds length_values) (t : Table) (w : Scratch) (z : ScratchZero sheet w)
+module _ (before : Outcome) (which : AnalysisKind) (sheet : List ℕ) {sizes : Sizes} {firsts classes : List ℕ} {lengths : List LengthFact}
+    (i : SheetIndex sheet sizes firsts classes lengths) (t : Table) (w : Scratch) (z : ScratchZero sheet w)
     {n : ℕ} (all : n ≡ code_count sheet) {r : Answered} {slots' rk rv : List ℕ} (y : Ready before which sheet t w r slots' rk rv) (runs : r.runs ≡ true) where
   above : (0 < code_count sheet) × (0 < length y.b.slots)
   above = some_both (code_count sheet) (length y.b.slots) (sym y.runs_is ∙ runs)
@@ -248,7 +250,7 @@ module _ (before : Outcome) (which : AnalysisKind) (sheet : List ℕ) {sizes : S
         {counts' : Counts} {slots'' : List ℕ} (counts-are : counts' ≡ counts_if (is_err end.outcome) r.s end.pops) (slots-left : slots'' ≡ cond (is_err end.outcome) (zeros slots') slots') where
       -- the run's part of the definitions
       abbrev spent : Spent Analysed
-      spent = propagate which sheet y.b.slots (length_table length_kinds length_values) y.b.entry y.rest
+      spent = propagate which sheet y.b.slots (lengths_in lengths) y.b.entry y.rest
 
       started : resources ≡ y.rest
       unfolding left_of
@@ -273,7 +275,7 @@ module _ (before : Outcome) (which : AnalysisKind) (sheet : List ℕ) {sizes : S
       unfolding leaves_of ran_tables zero_run staged_by counts tables filled_table zero_table
       by_end (covered a left came o e) =
           let f = tables_fit in
-          let fed = fed_slots which sheet y.b.slots (length_table length_kinds length_values) y.b.entry y.rest came in
+          let fed = fed_slots which sheet y.b.slots (lengths_in lengths) y.b.entry y.rest came in
           rw came (stage_path o
           (counts-are ∙ kept_counts o ∙ ap₂ (λ (k q : ℕ). record { tracked = k; pops = q }) (y.s_is ∙ ap length (sym fed)) (ap (λ (x : RunLeft). x.pops) e))
           (table_path (slots-left ∙ kept_slots o ∙ y.slots_are ∙ ap (λ (x : List ℕ). filled x t.slots) (sym fed))
@@ -304,17 +306,17 @@ module _ (before : Outcome) (which : AnalysisKind) (sheet : List ℕ) {sizes : S
           lost_slots = (rw (refused_by_lem refusal left o) (zeros_same slots' t.slots slots_long))
 
       pub concluded : {outcome' : Outcome} → outcome' ≡ end.outcome → some (leaves end.outcome (ran end.pops m))
-          ≡ leaves_of (ran_tables (zero_run lent)) (ran 0 (zero_run lent)) (propagate which sheet (take r.s slots') (length_table length_kinds length_values) (facts_of (take r.s rk) (take r.s rv)) resources)
+          ≡ leaves_of (ran_tables (zero_run lent)) (ran 0 (zero_run lent)) (propagate which sheet (take r.s slots') (lengths_in lengths) (facts_of (take r.s rk) (take r.s rv)) resources)
           → some (leaves outcome' (staged counts' output behind))
-          ≡ leaves_of (staged_by t w) (staged no_counts (zero_table t) (zero_scratch w)) (stage_after before which sheet t w (length_table length_kinds length_values))
+          ≡ leaves_of (staged_by t w) (staged no_counts (zero_table t) (zero_scratch w)) (stage_after before which sheet t w (lengths_in lengths))
       unfolding continue
       concluded is told =
           rw is (by_end (left_by (ran_tables (zero_run lent)) (ran 0 (zero_run lent)) spent (rw (slots_front, row_is, started) at told))
-          ∙ ap (leaves_of (staged_by t w) (staged no_counts (zero_table t) (zero_scratch w))) (sym (stage_after_lem before which sheet t w (length_table length_kinds length_values) ∙ rw y.came)))
+          ∙ ap (leaves_of (staged_by t w) (staged no_counts (zero_table t) (zero_scratch w))) (sym (stage_after_lem before which sheet t w (lengths_in lengths) ∙ rw y.came)))
 
 -- what the run is lent, from what the calls before it ensure
-pub lent_there : (before : Outcome) (which : AnalysisKind) (sheet : List ℕ) {sizes : Sizes} {firsts classes length_kinds length_values : List ℕ}
-    → SheetIndex sheet sizes firsts classes length_kinds length_values → (t : Table) (w : Scratch) → ScratchZero sheet w → {n : ℕ} → n ≡ code_count sheet
+pub lent_there : (before : Outcome) (which : AnalysisKind) (sheet : List ℕ) {sizes : Sizes} {firsts classes : List ℕ} {lengths : List LengthFact}
+    → SheetIndex sheet sizes firsts classes lengths → (t : Table) (w : Scratch) → ScratchZero sheet w → {n : ℕ} → n ≡ code_count sheet
     → {lp lk lv : ℕ} → lp ≡ length t.present → lk ≡ length t.kinds → lv ≡ length t.values
     → {present kinds values : List ℕ} → (present ≡ zeros t.present) × (kinds ≡ zeros t.kinds) × (values ≡ zeros t.values)
     → (r : Answered) {slots row_kinds row_values : List ℕ}

@@ -7,8 +7,8 @@ ghost use Rattle.model.specs.Analyses.{stage};
 ghost use Rattle.model.specs.Call.{room_for, zero_table};
 ghost use Rattle.model.specs.Charges.{continue};
 ghost use Rattle.model.specs.Sheet.{code_count};
-ghost use Rattle.model.specs.Tables.{length_table};
 ghost use Rattle.budget.specs.Outcome.{as_spent, leaves, leaves_of};
+ghost use Rattle.fixpoint_step.specs.Lengths.{lengths_in};
 ghost use Rattle.stage_memory.specs.Lent.{table_in, scratch_in, SameTable, SameScratch};
 ghost use Rattle.stage_memory.specs.Stage.{zero_scratch};
 ghost use Rattle.stage_memory.specs.Staged.{ScratchZero, no_counts, staged, staged_by};
@@ -18,7 +18,7 @@ mod conclusion;
 use crate::conclusion::conclude_run;
 use budget::Outcome;
 use fixpoint::run_to_fixpoint;
-use fixpoint_step::{LengthFacts, TrackedAnalysis};
+use fixpoint_step::{LengthFact, TrackedAnalysis};
 use memory::clear_rows;
 use model::{AnalysisKind, Counts};
 use sheet_index::IndexedSheet;
@@ -37,20 +37,19 @@ pub struct Staged {
 pub fn analyze_stage(
     which: AnalysisKind,
     indexed: &IndexedSheet,
-    lengths: &LengthFacts,
+    lengths: &[LengthFact],
     before: Outcome,
     output: &mut LentTable,
     scratch: &mut LentScratch,
 ) -> Staged
-    requires lengths { (code_count indexed.now.sheet.now.bytes.now ≤ length lengths.now.kinds.now) × (code_count indexed.now.sheet.now.bytes.now ≤ length lengths.now.values.now) }
+    requires lengths { code_count indexed.now.sheet.now.bytes.now ≤ length lengths.now }
     requires scratch_zero { ScratchZero indexed.now.sheet.now.bytes.now (scratch_in scratch.old) }
     ensures left { let t = table_in output.old in
         let w = scratch_in scratch.old in
         let room = room_for (code_count indexed.now.sheet.now.bytes.now) t w.row_kinds w.row_values w.work_list in
-        let read = length_table lengths.now.kinds.now lengths.now.values.now in
         some (leaves result.outcome (staged result.counts (table_in output.new) (scratch_in scratch.new)))
         ≡ leaves_of (staged_by t w) (staged no_counts (zero_table t) (zero_scratch w))
-        (continue (λ _. stage which indexed.now.sheet.now.bytes.now room read) (as_spent before)) }
+        (continue (λ _. stage which indexed.now.sheet.now.bytes.now room (lengths_in lengths.now)) (as_spent before)) }
     ensures same { SameTable output.old output.new × SameScratch scratch.old scratch.new }
 {
     clear_rows(output.present, output.kinds, output.values);
@@ -74,10 +73,7 @@ pub fn analyze_stage(
         Ok(prepared) => prepared,
         Err(refused) => {
             return Staged {
-                counts: Counts {
-                    tracked: 0,
-                    pops: 0,
-                },
+                counts: Counts::NONE,
                 outcome: Err(refused),
             };
         }
@@ -106,7 +102,7 @@ pub fn analyze_stage(
     let analysis = TrackedAnalysis {
         which,
         indexed: &*indexed,
-        lengths: *lengths,
+        lengths,
         slots: &slots[..s],
     };
     let ran = run_to_fixpoint(

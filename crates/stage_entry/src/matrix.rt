@@ -21,6 +21,8 @@ fn fact_bytes(which: AnalysisKind) -> u64
 }
 
 // The matrix of n rows of s facts, charged to the analysis' stage.
+// Their limits are asked, so that the product does not wrap: the caller has n from a Sheet and s from its slots, and a type for each of the two numbers would
+// be no plainer.
 pub fn charge_matrix(
     which: AnalysisKind,
     n: usize,

@@ -11,6 +11,7 @@ use fact_row::FactRow;
 use model::{AnalysisKind, VerifierResources};
 use sheet_fields::Sheet;
 
+// That a row is zero is asked, here and of `param_row`, and no type says it: it holds only until the first fact is set.
 // "for containers with the Parameters facts in it": the parameters' charges, then those of the notes' facts.
 fn container_row(sheet: &Sheet, resources: VerifierResources, row: &mut FactRow) -> Outcome
     requires { RowZero row.old }

@@ -1,10 +1,8 @@
 // Question 8, and the lent memory: what is cleared of it, before an analysis and behind it.
 #![tactic(auto)]
 
-mod conclusion;
 mod lent;
 mod room;
 
-pub use conclusion::conclude;
 pub use lent::{LentScratch, LentTable};
 pub use room::room_for;

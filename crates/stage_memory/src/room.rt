@@ -4,6 +4,8 @@ ghost use Rattle.model.specs.Call.{work_list_room};
 ghost use Rattle.stage_memory.specs.Room.{room_by};
 
 // "with s and n above zero, the work list n × (1 + 2 × s)"
+// The limits of n and s are asked here and below, so that no product wraps: the caller has them from a Sheet and its closure, and a type for each of the two
+// numbers would be no plainer.
 fn work_list_room(n: usize, s: usize, list: usize) -> bool
     requires { (n ≤ 4096) × (s ≤ 65535) }
     ensures { result ≡ work_list_room n s list }

@@ -18,7 +18,8 @@ pub struct Room {
 }
 
 // What is to run: whether anything is, and how many slots are tracked; and what the charges so far left. `runs` is no Option of the count: with
-// no instruction nothing runs, and the tracked slots are counted all the same.
+// no instruction nothing runs, and the tracked slots are counted all the same. It follows from n and s, and stays: "With s or n zero it ends at once"
+// is tested in this crate, for the charges and for the run; without `runs` the caller would have the same test once more.
 #[derive(Clone, Copy)]
 pub struct Prepared {
     pub runs: bool,

@@ -16,6 +16,8 @@ use model::AnalysisKind;
 use sheet_fields::Sheet;
 
 // Closure, question 8, matrix charge and entry row of the next analysis, in a scratch that is zero; the slots are cleared, and stay so after a refusal.
+// The scratch comes slice by slice, here and in what this calls, and not as a LentScratch: each contract would say besides that the work list stays and that the
+// same slices are lent, and be no plainer.
 pub fn prepare(
     which: AnalysisKind,
     sheet: &Sheet,

@@ -19,6 +19,7 @@ use stage_memory::{LentScratch, LentTable};
 // "Questions, in order", the charges and the three analyses. What it answers and what every lent buffer holds afterwards is the call that the
 // definitions give (`analyzed`); and of an answer with facts, each analysis took at most n × (1 + 2 × s) entries from its work list, and with
 // n and s above zero exactly the instructions reachable from 0 are present, and no fact changes any more (`LentDemand`).
+// The tables that it finds are arrays of the most entries that a sheet can need, since there is no heap.
 pub fn analyze(
     sheet: &[u8],
     resources: VerifierResources,

@@ -47,7 +47,7 @@ pub slice_bounds-analysis-end-2 : goal.slice_bounds-analysis-end-2
 slice_bounds-analysis-end-2 c = sym (length-take-le _ _ (lent (goal.at.slice_bounds-analysis-end-2 c).In-Ok (not-false _ c.if-not-prepared.false)).slots_fit)
 
 pub invariant_of-analysis : goal.invariant_of-analysis
-invariant_of-analysis c = record { kinds_room = c.requires.lengths.0; values_room = c.requires.lengths.1; tracked = (lent (goal.at.invariant_of-analysis c).In-Ok (not-false _ c.if-not-prepared.false)).tracked }
+invariant_of-analysis c = record { lengths_room = c.requires.lengths; tracked = (lent (goal.at.invariant_of-analysis c).In-Ok (not-false _ c.if-not-prepared.false)).tracked }
 
 pub slice_bounds-run_to_fixpoint-end : goal.slice_bounds-run_to_fixpoint-end
 slice_bounds-run_to_fixpoint-end c = (lent (goal.at.slice_bounds-run_to_fixpoint-end c).In-Ok (not-false _ c.if-not-prepared.false)).present_fits

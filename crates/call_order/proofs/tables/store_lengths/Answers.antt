@@ -14,7 +14,7 @@ use Rattle.call_order.proofs.tables.store_lengths.Goals as goal
 pub returns-then-is_err : goal.returns-then-is_err
 returns-then-is_err c =
     let refused = sym c.is_err.ensures.value ∙ c.if-is_err.true in
-    record { stored = λ goes a st. absurd (false≢true (sym goes ∙ refused)); kept = λ same. (refl, refl) }
+    record { stored = λ goes a st. absurd (false≢true (sym goes ∙ refused)); kept = λ same. refl }
 
 there : (c : Else-is_err) → Fronts c.args.sheet.now.sizes.code_count c.args.constant.tracked (table_in c.args.output.now)
 there c =
@@ -39,7 +39,7 @@ invariant_of-constants c =
     record { ascending = t.ascending; kinds_long = t.kinds_long; values_long = t.values_long }
 
 pub length_facts-requires : goal.length_facts-requires
-length_facts-requires c = (length-take-le _ _ (there (goal.at.length_facts-requires c).Else-is_err).present_fits, c.requires.room.0, c.requires.room.1)
+length_facts-requires c = (length-take-le _ _ (there (goal.at.length_facts-requires c).Else-is_err).present_fits, c.requires.room)
 
 pub returns-clause-stored : goal.returns-clause-stored
 returns-clause-stored c goes a st = lengthened st (counted c.args.sheet.now.measured.are).code_count_is refl c.length_facts.ensures.stored c.length_facts.ensures.read

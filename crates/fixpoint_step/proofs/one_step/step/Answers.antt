@@ -10,10 +10,10 @@ pub transfer_row-requires-clause-readable_row : goal.transfer_row-requires-claus
 transfer_row-requires-clause-readable_row c = (transfer_asks c.args.analysis.now c.requires).1
 
 pub visit_successors-requires : goal.visit_successors-requires
-visit_successors-requires c = visiting c.args.analysis.now c.requires c.at.ensures _ c.transfer_row.ensures
+visit_successors-requires c = visiting c.args.analysis.now c.requires c.cell.ensures _ c.transfer_row.ensures
 
 pub returns : goal.returns
 returns c = (
-  step_visits c.args.analysis.now c.requires c.at.ensures _ c.transfer_row.ensures _ _ c.visit_successors.ensures,
-  step_copies c.args.analysis.now c.requires c.at.ensures _ c.transfer_row.ensures,
+  step_visits c.args.analysis.now c.requires c.cell.ensures _ c.transfer_row.ensures _ _ c.visit_successors.ensures,
+  step_copies c.args.analysis.now c.requires c.cell.ensures _ c.transfer_row.ensures,
 )

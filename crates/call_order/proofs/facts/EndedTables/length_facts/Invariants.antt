@@ -4,4 +4,4 @@ use Rattle.call_order.proofs.facts.EndedTables.length_facts.Given as goal
 
 abbrev pub invariant-loop-pc : goal.invariant-loop-pc
 invariant-loop-pc l =
-    StoredUpto l.sheet.bytes.now l.self.slots.now l.self.present.now l.self.kinds.now l.self.values.now l.n l.initial.out_kinds l.initial.out_values l.out_kinds l.out_values l.pc
+    StoredUpto l.sheet.bytes.now l.self.slots.now l.self.present.now l.self.kinds.now l.self.values.now l.n l.initial.lengths l.lengths l.pc
