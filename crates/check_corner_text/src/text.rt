@@ -7,7 +7,7 @@ use crate::lines::{index_writes_line, successors_line, writes_line};
 use crate::{Asked, Question};
 use cfg::instruction_successors;
 use text_lines::Page;
-use transfer_written::RangedSheet;
+use transfer_written::{InstructionAt, RangedSheet};
 
 // The line, and nothing where what is asked is unknown.
 pub fn answer_line(ranged: &RangedSheet, question: Question, page: &mut Page<'_>)
@@ -23,17 +23,18 @@ pub fn answer_line(ranged: &RangedSheet, question: Question, page: &mut Page<'_>
     let before = question.before;
     let sheet = ranged.sheet;
     let inst = sheet.instruction(pc);
+    let at = InstructionAt { ranged, pc, inst };
     match asked {
         Asked::Successors => {
             let successors = instruction_successors(sheet.sizes.code_count, pc, inst);
             successors_line(pc, successors, page);
         }
         Asked::Writes => {
-            let is_written = ranged.instruction_writes_slot(pc, inst, slot);
+            let is_written = at.instruction_writes_slot(slot);
             writes_line(pc, slot, is_written, page);
         }
         Asked::IndexWrites => {
-            let is_written = ranged.index_check_instruction_writes_slot(pc, inst, before, slot);
+            let is_written = at.index_check_instruction_writes_slot(before, slot);
             index_writes_line(pc, before, slot, is_written, page);
         }
     }

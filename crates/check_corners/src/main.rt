@@ -19,6 +19,8 @@ use transfer_written::RangedSheet;
 
 // A proved loop has to end, and nothing says that the input does. So its turns are bounded, by a number that no run uses up. The first error ends the
 // lines, and is not told: so does the input's end, and the status is 0 either way.
+// The loop stands in check_listings and check_replay too: a function for all would take what is repeated as a closure, and its contract would
+// need a definition of the calls up to the first error, with an invariant and its proof.
 fn main(rt: HostRuntime) {
     let mut input = rt.stdin();
     let mut output = rt.stdout();
@@ -30,6 +32,8 @@ fn main(rt: HostRuntime) {
 }
 
 // Reads a case and prints its lines.
+// Reader and writer go as two parameters: `read_front` takes one and `write_all` the other, so a struct of both would be taken apart wherever something is
+// read or written, and be no plainer. Buffers are arrays, here and below, since there is no heap.
 fn answer_case<R: Read, W: Write>(input: &mut R, output: &mut W) -> io::Result<()> {
     let mut bytes = [0u8; 8];
     read_front(input, &mut bytes, 8)?;
@@ -38,7 +42,8 @@ fn answer_case<R: Read, W: Write>(input: &mut R, output: &mut W) -> io::Result<(
     answer_sheet(input, output, head.sheet, head.questions)
 }
 
-// Copies the name out.
+// Copies the name out. It differs from `print_heading` of check_listings in the bytes behind the name: one function for both would be
+// public, and no contract can say what it reads or writes.
 fn print_name<R: Read, W: Write>(input: &mut R, output: &mut W, length: usize) -> io::Result<()> {
     let mut name = [0u8; 4096];
     read_front(input, &mut name, length)?;

@@ -10,6 +10,8 @@ use std::io::{Read, Write};
 
 // A proved loop has to end, and nothing says that the input does. So its turns are bounded, by a number that no run uses up. The first error ends the
 // listings, and is not told: so does the input's end, and the status is 0 either way.
+// The loop stands in check_corners and check_replay too: a function for all would take what is repeated as a closure, and its contract would
+// need a definition of the calls up to the first error, with an invariant and its proof.
 fn main(rt: HostRuntime) {
     let mut input = rt.stdin();
     let mut output = rt.stdout();
@@ -21,6 +23,8 @@ fn main(rt: HostRuntime) {
 }
 
 // A case begins with 8 bytes: the length of its name and that of its sheet (32-bit each).
+// Reader and writer go as two parameters: `read_front` takes one and `write_all` the other, so a struct of both would be taken apart wherever something is
+// read or written, and be no plainer. Buffers are arrays, here and below, since there is no heap.
 fn list_next<R: Read, W: Write>(input: &mut R, output: &mut W) -> io::Result<()> {
     let mut head = [0u8; 8];
     read_front(input, &mut head, 8)?;
@@ -28,7 +32,8 @@ fn list_next<R: Read, W: Write>(input: &mut R, output: &mut W) -> io::Result<()>
     list_sheet(input, output, u32::read(&head, 4) as usize)
 }
 
-// Copies the name out, as a line.
+// Copies the name out, as a line. It differs from `print_name` of check_corners in the bytes behind the name: one function for both would be
+// public, and no contract can say what it reads or writes.
 fn print_heading<R: Read, W: Write>(
     input: &mut R,
     output: &mut W,

@@ -10,6 +10,7 @@ use verifier::analyze;
 
 // Room for the recorded sheets, whose buffers are lent longer by up to 17: s up to 53, n up to 343, n × s up to 5,220, L up to 65,535, and up to 10,556
 // entries of the work list.
+// The rooms are arrays, since there is no heap.
 const SLOTS: usize = 128;
 
 const INSTRUCTIONS: usize = 512;

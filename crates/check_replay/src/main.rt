@@ -15,6 +15,8 @@ mod line;
 
 // A proved loop has to end, and nothing says that the input does. So its turns are bounded, by a number that no run uses up. The first error ends the
 // lines, and is not told: so does the input's end, and the status is 0 either way.
+// The loop stands in check_corners and check_listings too: a function for all would take what is repeated as a closure, and its contract would
+// need a definition of the calls up to the first error, with an invariant and its proof.
 fn main(rt: HostRuntime) {
     let mut input = rt.stdin();
     let mut output = rt.stdout();
@@ -26,6 +28,7 @@ fn main(rt: HostRuntime) {
 }
 
 // Reads the head of a recorded sheet and the sheet, and writes its line. Nothing follows a gap.
+// Buffers are arrays, since there is no heap.
 fn replay_next<R: Read, W: Write>(input: &mut R, output: &mut W) -> io::Result<()> {
     let mut head = [0u8; 88];
     read_front(input, &mut head, 88)?;

@@ -6,6 +6,7 @@ ghost use Rattle.check_replay_lent.specs.Lengths.{changed, lent_length};
 use sheet::element;
 
 // Call 0 lends what is needed. Call 1 lends longer buffers. Call 2 + which has that one short by one, or longer by one where nothing is needed.
+// Which buffer is a number below 17, and no enum: it is added to the length, compared with the call's number, and the place of the length in the head.
 #[tactic(auto, unfolding(crate::specs::Lengths::changed))]
 fn changed_length(call: usize, which: usize, count: usize) -> usize
     requires { (which < 17) × (count < 4294967296) }

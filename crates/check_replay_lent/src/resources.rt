@@ -5,6 +5,7 @@ ghost use Rattle.check_replay_lent.specs.Lent.{budget_given};
 use model::VerifierResources;
 use sheet::Number;
 
+// No From, since neither type is of this crate.
 pub fn budget_of(head: &[u8; 88]) -> VerifierResources
     ensures { result ≡ budget_given head.now }
 {

@@ -96,6 +96,30 @@ pub extern "C" fn vo_facts_analyze(
     put_answer(ended, answer)
 }
 
+// What the functions of the three analyses below answer, of one of them.
+fn put_analysis_fact(
+    which: AnalysisKind,
+    slots: &[u16],
+    present: &[u8],
+    kinds: &[u8],
+    values: &[u64],
+    pc: u64,
+    slot: u16,
+    out: &mut [u64],
+) -> u8
+    ensures { let fact = fact_for_slot which slots.now present.now kinds.now values.now pc slot in
+        looked result out.new ≡ looked_up (leb 2 (length out.old)) fact out.old }
+{
+    let tables = Tables {
+        slots,
+        present,
+        kinds,
+        values,
+    };
+    let fact = tables.fact_for_slot(which, pc, slot);
+    put_slot_fact(fact, out)
+}
+
 // The constant fact of a slot before instruction pc: 0 with its kind and value in out, 254, 9; 255 where out has fewer than 2 entries.
 #[unsafe(no_mangle)]
 pub extern "C" fn vo_facts_constant(
@@ -110,14 +134,16 @@ pub extern "C" fn vo_facts_constant(
     ensures { let fact = fact_for_slot Constant slots.now present.now kinds.now values.now pc slot in
         looked result out.new ≡ looked_up (leb 2 (length out.old)) fact out.old }
 {
-    let tables = Tables {
+    put_analysis_fact(
+        AnalysisKind::Constant,
         slots,
         present,
         kinds,
         values,
-    };
-    let fact = tables.fact_for_slot(AnalysisKind::Constant, pc, slot);
-    put_slot_fact(fact, out)
+        pc,
+        slot,
+        out,
+    )
 }
 
 // The same of the index analysis.
@@ -134,14 +160,16 @@ pub extern "C" fn vo_facts_index_check(
     ensures { let fact = fact_for_slot IndexCheck slots.now present.now kinds.now values.now pc slot in
         looked result out.new ≡ looked_up (leb 2 (length out.old)) fact out.old }
 {
-    let tables = Tables {
+    put_analysis_fact(
+        AnalysisKind::IndexCheck,
         slots,
         present,
         kinds,
         values,
-    };
-    let fact = tables.fact_for_slot(AnalysisKind::IndexCheck, pc, slot);
-    put_slot_fact(fact, out)
+        pc,
+        slot,
+        out,
+    )
 }
 
 // The same of the container analysis.
@@ -158,14 +186,16 @@ pub extern "C" fn vo_facts_container(
     ensures { let fact = fact_for_slot Container slots.now present.now kinds.now values.now pc slot in
         looked result out.new ≡ looked_up (leb 2 (length out.old)) fact out.old }
 {
-    let tables = Tables {
+    put_analysis_fact(
+        AnalysisKind::Container,
         slots,
         present,
         kinds,
         values,
-    };
-    let fact = tables.fact_for_slot(AnalysisKind::Container, pc, slot);
-    put_slot_fact(fact, out)
+        pc,
+        slot,
+        out,
+    )
 }
 
 // The one known constant of a slot, in the same numbers.

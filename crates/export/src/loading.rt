@@ -8,6 +8,8 @@ use export_loader::{lowest_layout, room_of};
 // The header and bindings/rust name it too.
 const VERSION: u64 = 1;
 
+// What refuses is answered by its number, since C has no Result.
+
 // 0 with n and the s of each analysis in the first 4 entries of out, by the closures alone and without a budget: marks and stack are zero then. 1 to
 // 6; 255 first, where out has fewer than 4 entries. But for 0, nothing lent changes.
 #[unsafe(no_mangle)]

@@ -7,7 +7,7 @@ ghost use Rattle.model.specs.Room.{lowest_if, lowest_of};
 
 use sheet_fields::Sheet;
 use sheet_index::layout_starts;
-use sheet_layouts::lowest;
+use sheet_layouts::Layouts;
 use sheet_questions::check_sheet;
 
 // What C is told, which has no Result: the number names no layout; the memory for the answer has no entry.
@@ -16,6 +16,7 @@ const NO_LAYOUT: u8 = 254;
 const TOO_SHORT: u8 = 255;
 
 // Of a sheet that questions 1 to 5 do not refuse: the lowest number of a layout with this one's content, or 254.
+// The starts are an array of the most that there can be, since there is no heap.
 fn put_lowest(sheet: &Sheet, layout: u64, out: &mut [u64]) -> u8
     requires { Accepted sheet.now.bytes.now sheet.now.sizes × (1 ≤ length out.old) }
     ensures { looked result out.new ≡ lowest_if (ltb layout (layout_count sheet.now.bytes.now)) sheet.now.bytes.now layout out.old }
@@ -25,7 +26,11 @@ fn put_lowest(sheet: &Sheet, layout: u64, out: &mut [u64]) -> u8
     }
     let mut starts = [0u16; 1024];
     layout_starts(sheet, &mut starts);
-    out[0] = lowest(sheet, &starts, layout);
+    let layouts = Layouts {
+        sheet: &*sheet,
+        starts: &starts,
+    };
+    out[0] = layouts.lowest(layout);
     0
 }
 

@@ -15,6 +15,7 @@ const TOO_SHORT: u8 = 255;
 
 // The s of one analysis. No charge of its closure is refused: marks and stack are charged with 3 for each of L, and each of at most L turns with at
 // most 2 for each instruction.
+// Marks and stack are the C interface's two slices, here and below. They are zero between the closures and not in them, so no struct carries it.
 fn count_tracked(which: AnalysisKind, sheet: &Sheet, marks: &mut [u8], stack: &mut [u16]) -> u64
     requires { (sheet.now.sizes.local_slots ≤ length marks.old) × (sheet.now.sizes.local_slots ≤ length stack.old)
         × (marks.old ≡ zeros marks.old) × (stack.old ≡ zeros stack.old) }
@@ -35,6 +36,7 @@ fn count_tracked(which: AnalysisKind, sheet: &Sheet, marks: &mut [u8], stack: &m
 }
 
 // Four numbers at the front of out, which keeps those behind them.
+// That they fit is asked, here and below: out is the C interface's slice, of any length, and `room_of` asks once.
 #[tactic(auto, unfolding(model::specs::Interface::in_front))]
 fn put_four(n: u64, constant: u64, index: u64, container: u64, out: &mut [u64])
     requires { 4 ≤ length out.old }

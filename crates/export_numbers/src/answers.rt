@@ -6,11 +6,6 @@ ghost use Rattle.export_numbers.specs.Numbers.{entries, nothing};
 
 use model::{Answer, Counts, VerifierResources};
 
-const NO_COUNTS: Counts = Counts {
-    tracked: 0,
-    pops: 0,
-};
-
 // All twelve, in the order that the C interface gives them.
 #[tactic(auto, unfolding(crate::specs::Numbers::numbers_compute))]
 fn entries(
@@ -55,7 +50,14 @@ fn refusal(
     (
         number,
         entries(
-            number, NO_COUNTS, NO_COUNTS, NO_COUNTS, left, stage, requested, remaining,
+            number,
+            Counts::NONE,
+            Counts::NONE,
+            Counts::NONE,
+            left,
+            stage,
+            requested,
+            remaining,
         ),
     )
 }

@@ -12,6 +12,7 @@ fn main(rt: HostRuntime) {
 }
 
 // Nothing is written where the sheet did not come whole. A write that a signal interrupts before it moves a byte is made again.
+// Buffers are arrays, since there is no heap.
 fn list_input<R: Read, W: Write>(input: &mut R, output: &mut W) -> io::Result<()> {
     // One byte more than the longest sheet that is not too large: of a longer input the rest may be left unread.
     let mut sheet = [0u8; 65537];

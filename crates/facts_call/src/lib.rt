@@ -16,7 +16,7 @@ use stage_memory::{LentScratch, LentTable};
 use text_lines::Page;
 use text_listing::call_lines;
 
-// The output of an analysis, to be read.
+// The output of an analysis, to be read. No From, since neither type is of this crate.
 fn tables<'a>(output: &'a LentTable) -> Tables<'a>
     ensures { result ≡ table_in output.now }
 {
@@ -30,6 +30,7 @@ fn tables<'a>(output: &'a LentTable) -> Tables<'a>
 
 // "for s over 32 in question 8's [place]": what is lent has room for 32 tracked slots. The sheet is accepted and its index found, and n and L are in
 // their limits: nothing is asked or found again. A length is answered, and not the text: no contract can say what stays behind a slice that is handed back.
+// The buffers are arrays, since there is no heap.
 pub fn list_facts(indexed: &IndexedSheet, out: &mut [u8]) -> usize
     requires { (indexed.now.sheet.now.sizes.code_count ≤ 256)
         × (indexed.now.sheet.now.sizes.local_slots ≤ 4096)

@@ -62,6 +62,7 @@ pub fn list(bytes: &[u8], out: &mut [u8; 2187530]) -> usize
 }
 
 // "for n over 256 or L over 4,096 in question 6's place": the call itself would first charge for them, and could answer 7
+// The tables are arrays of the most entries that there can be, since there is no heap.
 fn list_accepted(sheet: &Sheet, out: &mut [u8]) -> usize
     requires { Accepted sheet.now.bytes.now sheet.now.sizes × (2187530 ≤ length out.old) }
     ensures { ShowsText (asked none sheet.now.bytes.now) out.old result out.new }

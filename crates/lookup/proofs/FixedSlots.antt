@@ -1,10 +1,9 @@
 -- What the instructions but 0 show of a slot.
 -- Assumes nothing.
-use mathlib.Core.Path.{◌≡◌, ap}
+use mathlib.Core.Path.{◌≡◌}
 use mathlib.Core.Bool.{true, false, ◌&&◌}
 use mathlib.Core.List.{List}
 use Prim.Native.Nat.{ℕ, suc, ◌+◌, ◌*◌, ◌-◌, ◌≤◌, ◌<◌}
-use native.Mathlib.Nat.{suc-mul}
 use native.Mathlib.Omega.{arith}
 use lib.Dec.{leb, eqb}
 use lib.ListN.{get_or}
@@ -12,7 +11,6 @@ use borrow.Author.Tests.{le-leb, lt-leb}
 use Rattle.model.specs.Lookup.{Shown, one_shown, mixed_shown, show, show_if, shown, cell_at}
 use Rattle.model.specs.declared.FactCell.{FactCell}
 use Rattle.lookup.specs.Shown.{shown_by}
-use Rattle.lookup.proofs.Rows.{in_table}
 use Rattle.lookup.specs.declared.tables.shown.Seen.{Seen}
 use Rattle.lookup.specs.declared.tables.shown.Seen.TheVariants.{Nothing, One, Mixed}
 
@@ -40,20 +38,13 @@ module _ (cell : FactCell) (seen : Seen) where
     unfolding show
     still_mixed e = rw (le-leb 2 cell.kind h, e)
 
--- the next instruction's cell of the slot lies s cells on, and in the table
-pub next_cell : (s j i pc n cells : ℕ) → 1 ≤ pc → pc < n → j < s → cells ≡ n * s → i ≡ (pc - 1) * s + j → (i + s ≡ pc * s + j) × (i + s < cells)
-next_cell s j i pc n cells h l k c e =
-    let p : pc ≡ suc (pc - 1) = omega arith in
-    let q : i + s ≡ pc * s + j = omega (arith, ap (λ (m : ℕ). m * s) p, suc-mul (pc - 1) s) in
-    (q, omega (arith, in_table pc n s j cells l k c))
-
 -- one more instruction: the last is pc
-pub shown_more : (s : ℕ) (present kinds values : List ℕ) (j pc i : ℕ) (before after : Shown) → 1 ≤ pc → i ≡ pc * s + j
+pub shown_more : (s : ℕ) (present kinds values : List ℕ) (j pc : ℕ) (before after : Shown) → 1 ≤ pc
     → before ≡ shown s present kinds values j (pc - 1)
-    → after ≡ show_if (eqb (get_or present pc 0) 1) (get_or kinds i 0) (get_or values i 0) before
+    → after ≡ show_if (eqb (get_or present pc 0) 1) (get_or kinds (pc * s + j) 0) (get_or values (pc * s + j) 0) before
     → after ≡ shown s present kinds values j (pc + 1 - 1)
 unfolding shown cell_at
-shown_more s present kinds values j pc i before after h e b a =
+shown_more s present kinds values j pc before after h b a =
     let p : pc ≡ suc (pc - 1) = omega arith in
     let q : pc + 1 - 1 ≡ suc (pc - 1) = omega arith in
-    rw (q, ← p, ← b, ← e) a
+    rw (q, ← p, ← b) a

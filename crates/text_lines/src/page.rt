@@ -4,6 +4,7 @@ ghost use Rattle.std.specs.Prelude.{◌≡◌, ◌≤◌, length};
 mod lines;
 mod words;
 
+// Texts are put by methods and not by Display: the contract of each asks for its room, and `fmt` would answer a Result that is never an error.
 #[derive(Drop)]
 pub struct Page<'a> {
     out: &'a mut [u8],

@@ -12,6 +12,8 @@ use text_facts::FactPrinter;
 use text_lines::Page;
 
 // "Heads: analysis, n, s, pops.", and behind it the rows.
+// The bounds of n and of the slots are asked here and below: with them the lines fit on the page. They are those of the caller's arrays, and a type for
+// each bounded number would be no plainer.
 fn analysis_lines(
     printer: &FactPrinter<'_>,
     n: usize,

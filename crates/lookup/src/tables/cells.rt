@@ -12,10 +12,7 @@ use model::FactCell;
 pub fn present_byte(present: &[u8], pc: u64) -> u8
     ensures { result ≡ get_or present.now pc 0 }
 {
-    match present.get(pc as usize) {
-        Some(byte) => *byte,
-        None => 0,
-    }
+    present.get(pc as usize).copied().unwrap_or(0)
 }
 
 impl Tables<'_> {

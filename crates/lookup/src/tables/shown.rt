@@ -46,9 +46,8 @@ impl Tables<'_> {
     {
         let s = self.slots.len();
         let mut seen = Seen::Nothing;
-        let mut i = j;
         for pc in 1..self.present.len() {
-            i += s;
+            let i = pc * s + j;
             let cell = FactCell {
                 kind: self.kinds[i],
                 value: self.values[i],

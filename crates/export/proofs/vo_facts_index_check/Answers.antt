@@ -1,6 +1,0 @@
--- `vo_facts_index_check` meets its contract. Assumes nothing.
-use Rattle.export.proofs.Wrappers.{told}
-use Rattle.export.proofs.vo_facts_index_check.Goals as goal
-
-pub returns : goal.returns
-returns c = told c.args.out.now c.put_slot_fact.ensures c.fact_for_slot-fact.ensures
