@@ -4,18 +4,18 @@ use Rattle.std.proofs.Common.{le-ltb, lt-ltb}
 use Rattle.closure.specs.Sources.{only_if}
 use Rattle.closure.proofs.follow.sources_below.Goals as goal
 
-pub returns-in-true-true : goal.returns-in-true-true
+pub returns-then-first-l : goal.returns-then-first-l
 unfolding only_if
-returns-in-true-true c = rw (lt-ltb _ _ c.in-true-true.is-0, c.in-true-true.is-1)
+returns-then-first-l c = rw (lt-ltb _ _ c.if-first-l.true, c.if-fold-second.true)
 
-pub returns-in-true-false : goal.returns-in-true-false
+pub returns-then-fold-second : goal.returns-then-fold-second
 unfolding only_if
-returns-in-true-false c = rw (lt-ltb _ _ c.in-true-false.is-0, c.in-true-false.is-1)
+returns-then-fold-second c = rw (le-ltb _ _ c.if-first-l.false, c.if-fold-second.true)
 
-pub returns-in-false-true : goal.returns-in-false-true
+pub returns-then-first-l-2 : goal.returns-then-first-l-2
 unfolding only_if
-returns-in-false-true c = rw (le-ltb _ _ c.in-false-true.is-0, c.in-false-true.is-1)
+returns-then-first-l-2 c = rw (lt-ltb _ _ c.if-first-l-2.true, c.if-fold-second.false)
 
-pub returns-in-false-false : goal.returns-in-false-false
+pub returns-else-first-l-2 : goal.returns-else-first-l-2
 unfolding only_if
-returns-in-false-false c = rw (le-ltb _ _ c.in-false-false.is-0, c.in-false-false.is-1)
+returns-else-first-l-2 c = rw (le-ltb _ _ c.if-first-l-2.false, c.if-fold-second.false)
