@@ -75,7 +75,7 @@ pub fn transfer_row(
         pc,
         inst,
     };
-    let effect = effect_of(which, &at, &row);
+    let effect = effect_of(which, sheet.sheet, &row, pc, inst);
     let written = at.slots_written(which, &row);
     copy(kinds, out_kinds);
     copy(values, out_values);

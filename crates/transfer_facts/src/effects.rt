@@ -1,5 +1,6 @@
 // What the slots that an instruction writes become.
-ghost use Rattle.std.specs.Prelude.{◌≡◌, ◌-◌};
+ghost use Rattle.std.specs.Prelude.{◌≡◌, ◌-◌, ◌<◌};
+ghost use Rattle.model.specs.Sheet.{instruction};
 ghost use Rattle.model.specs.Written.{in_range};
 ghost use Rattle.model.specs.declared.AnalysisKind.TheVariants.{Container};
 ghost use Rattle.fact_row.specs.Tracked.{facts_read};
@@ -10,8 +11,8 @@ use crate::constants::constant_fact_written_to_slot;
 use crate::containers::{container_fact_written_to_slot, iter_next_cell};
 use crate::index::index_check_fact_written_to_slot;
 use fact_row::TrackedRow;
-use model::{AnalysisKind, FactCell};
-use transfer_written::InstructionAt;
+use model::{AnalysisKind, FactCell, Instruction};
+use sheet_fields::Sheet;
 
 // "Opcodes (decimal)": numbers, since an instruction may hold any byte.
 const COPY_N: u8 = 4;
@@ -19,11 +20,11 @@ const COPY_N: u8 = 4;
 const MAP_ITER_NEXT: u8 = 95;
 
 // What the container analysis knows of the slots that an instruction writes, if it is no CopyN. "MapIterNext covers 7 slots.", from b on.
-fn container_effect(at: &InstructionAt, row: &TrackedRow) -> Effect
-    requires { at.now.inst.op ≡ 4 → ⊥ }
-    ensures { result ≡ effect_of Container at.now.ranged.now.sheet.now.bytes.now at.now.pc row.now.slots.now (facts_read row.now) }
+fn container_effect(sheet: &Sheet, row: &TrackedRow, pc: usize, inst: Instruction) -> Effect
+    requires instruction_read { (pc < sheet.now.sizes.code_count) × (inst ≡ instruction sheet.now.bytes.now pc) }
+    requires other_opcode { inst.op ≡ 4 → ⊥ }
+    ensures { result ≡ effect_of Container sheet.now.bytes.now pc row.now.slots.now (facts_read row.now) }
 {
-    let inst = at.inst;
     match inst.op {
         MAP_ITER_NEXT => Effect::Filled {
             start: inst.b,
@@ -33,16 +34,23 @@ fn container_effect(at: &InstructionAt, row: &TrackedRow) -> Effect
         _ => Effect::Filled {
             start: inst.a,
             count: 1,
-            cell: container_fact_written_to_slot(at, row),
+            cell: container_fact_written_to_slot(sheet, row, pc, inst),
         },
     }
 }
 
-// What an instruction makes of the slots that it writes, in one of the analyses. CopyN is the same in all three.
-pub fn effect_of(which: AnalysisKind, at: &InstructionAt, row: &TrackedRow) -> Effect
-    ensures { result ≡ effect_of which at.now.ranged.now.sheet.now.bytes.now at.now.pc row.now.slots.now (facts_read row.now) }
+// What an instruction makes of the slots that it writes, in one of the analyses. CopyN is the same in all three. This and what it calls take no
+// InstructionAt: that has first ranges and an accepted sheet, which they do not need and do not ask for.
+pub fn effect_of(
+    which: AnalysisKind,
+    sheet: &Sheet,
+    row: &TrackedRow,
+    pc: usize,
+    inst: Instruction,
+) -> Effect
+    requires { (pc < sheet.now.sizes.code_count) × (inst ≡ instruction sheet.now.bytes.now pc) }
+    ensures { result ≡ effect_of which sheet.now.bytes.now pc row.now.slots.now (facts_read row.now) }
 {
-    let inst = at.inst;
     if inst.op == COPY_N {
         return Effect::Copied {
             start: inst.a,
@@ -54,14 +62,14 @@ pub fn effect_of(which: AnalysisKind, at: &InstructionAt, row: &TrackedRow) -> E
         AnalysisKind::Constant => Effect::Filled {
             start: inst.a,
             count: 1,
-            cell: constant_fact_written_to_slot(at.ranged.sheet, row, inst),
+            cell: constant_fact_written_to_slot(sheet, row, inst),
         },
         AnalysisKind::IndexCheck => Effect::Filled {
             start: inst.a,
             count: 1,
             cell: index_check_fact_written_to_slot(row, inst),
         },
-        AnalysisKind::Container => { container_effect(at, row) }
+        AnalysisKind::Container => { container_effect(sheet, row, pc, inst) }
     }
 }
 

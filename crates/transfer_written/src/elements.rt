@@ -1,9 +1,9 @@
 // The elements of SlotSetN, by its note.
 ghost use Rattle.std.specs.Prelude.{◌≡◌, ◌<◌};
-ghost use Rattle.model.specs.Sheet.{note_a, layout_length};
+ghost use Rattle.model.specs.Sheet.{instruction, note_a, layout_length};
 ghost use Rattle.model.specs.Written.{slot_layout_note, has_elements, note_elem_slots};
 
-use crate::InstructionAt;
+use model::Instruction;
 use sheet_fields::Sheet;
 
 // "a SlotLayout note". Kinds of notes are numbers: bytes of the sheet, which may hold any.
@@ -30,15 +30,15 @@ pub fn has_elements(sheet: &Sheet, pc: usize) -> bool
     }
 }
 
-// "for SlotSetN the SlotLayout's length, or without one the flags byte"
+// "for SlotSetN the SlotLayout's length, or without one the flags byte". It takes no InstructionAt: that has first ranges and an accepted sheet,
+// which this does not need and does not ask for.
 #[tactic(auto, unfolding(model::specs::Written::slot_layout_note, model::specs::Written::note_elem_slots))]
-pub fn elem_slots(at: &InstructionAt) -> u16
-    ensures { let bytes = at.now.ranged.now.sheet.now.bytes.now in
-        result ≡ note_elem_slots (slot_layout_note bytes at.now.pc) bytes at.now.pc }
+pub fn elem_slots(sheet: &Sheet, pc: usize, inst: Instruction) -> u16
+    requires { (pc < sheet.now.sizes.code_count) × (inst ≡ instruction sheet.now.bytes.now pc) }
+    ensures { result ≡ note_elem_slots (slot_layout_note sheet.now.bytes.now pc) sheet.now.bytes.now pc }
 {
-    let sheet = at.ranged.sheet;
-    match sheet.note_kind(at.pc) {
-        SLOT_LAYOUT => note_length(sheet, at.pc),
-        _ => u16::from(at.inst.flags),
+    match sheet.note_kind(pc) {
+        SLOT_LAYOUT => note_length(sheet, pc),
+        _ => u16::from(inst.flags),
     }
 }

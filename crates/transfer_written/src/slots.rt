@@ -58,7 +58,10 @@ impl InstructionAt<'_> {
             },
             SLOT_SET_N if is_checked => Written::Span {
                 start: inst.a,
-                count: span(before.value, elem_slots(self)),
+                count: span(
+                    before.value,
+                    elem_slots(self.ranged.sheet, self.pc, self.inst),
+                ),
             },
             SLOT_SET_N if has_elements(self.ranged.sheet, self.pc) => Written::Span {
                 start: inst.a,

@@ -15,10 +15,10 @@ use Rattle.transfer_facts.proofs.containers.container_fact_written_to_slot.Goals
 pub returns-in-94 : goal.returns-in-94
 unfolding container_rule select container_fact
 returns-in-94 c slot =
-    rw (c.in-94.is, ← c.args.at.now.read)
-    (targeted (eqb c.args.at.now.inst.a slot) _
+    rw (c.in-94.is, ← c.requires.instruction_read.1)
+    (targeted (eqb c.args.inst.a slot) _
     (c.iter_init_cell.ensures ∙ ap (λ (x : Fact). cell_of (iter_init x)) (read _ c.fact_for_tracked_source-in-94.ensures ∙ ap (fact_for c.args.row.now.slots.now (facts_read c.args.row.now)) c.from-in-94.ensures)))
 
 pub returns-in_default : goal.returns-in_default
 returns-in_default c slot =
-    by_note c.args.at.now.ranged.now.sheet.now.bytes.now c.args.at.now.pc c.args.at.now.inst c.args.at.now.read c.args.row.now.slots.now (facts_read c.args.row.now) slot (λ q. omega arith) (λ q. omega arith) c.requires.1 c.requires.0 c.instruction_fact.ensures
+    by_note c.args.sheet.now.bytes.now c.args.pc c.args.inst c.requires.instruction_read.1 c.args.row.now.slots.now (facts_read c.args.row.now) slot (λ q. omega arith) (λ q. omega arith) c.requires.other_opcode.1 c.requires.other_opcode.0 c.instruction_fact.ensures
