@@ -58,10 +58,18 @@ pub fn analyze_values(
         constants,
         scratch,
     );
+    // Four slices are lent to one call. That is proved of slices with names of their own, not of fields behind a reference (tried).
+    let slots = &mut *constants.slots;
+    let present = &mut *constants.present;
+    let kinds = &mut *constants.kinds;
+    let values = &mut *constants.values;
     store_lengths(
         indexed.sheet,
         first.counts,
-        constants,
+        slots,
+        present,
+        kinds,
+        values,
         first.outcome,
         &mut lengths,
     );

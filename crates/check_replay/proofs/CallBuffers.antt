@@ -31,15 +31,16 @@ module _ (head : List ℕ) (call : ℕ) where
   scratch_is p q r s t = cc
 
   -- a call on this memory, and the checksum behind it
-  pub called_is : (sheet : List ℕ) (begun : Checksum) (answer : Answer) (after : Lent) (budget : VerifierResources) (x y z : Table) (w : Scratch) {a b c d e : Checksum}
+  pub called_is : (sheet : List ℕ) (begun : Checksum) (answer : Answer) (after : Lent) (budget : VerifierResources) (x y z : Table) (w : Scratch) {x' y' z' : Table} {w' : Scratch} {a b c d e : Checksum}
       → x ≡ table_in head call 0 → y ≡ table_in head call 4 → z ≡ table_in head call 8 → w ≡ scratch_in head call → budget ≡ budget_given head
       → some (call_result answer after) ≡ analyzed sheet budget (lent x y z w)
       → a ≡ with_buffer begun (twelve (answer_numbered answer))
-      → b ≡ with_table a after.constants → c ≡ with_table b after.index → d ≡ with_table c after.containers
-      → e ≡ with_scratch d (scratch after.marks after.stack after.row_kinds after.row_values after.work_list)
+      → b ≡ with_table a x' → c ≡ with_table b y' → d ≡ with_table c z' → e ≡ with_scratch d w'
+      → x' ≡ after.constants → y' ≡ after.index → z' ≡ after.containers
+      → w' ≡ scratch after.marks after.stack after.row_kinds after.row_values after.work_list
       → some (called answer e) ≡ called_in head sheet call begun
   unfolding lent_in with_lent call_result after_call called_in
-  called_is sheet begun answer after budget x y z w {a} {b} {c} {d} {e} p q r s t u f g h i j =
+  called_is sheet begun answer after budget x y z w {e = e} p q r s t u f g h i j k l m n =
       ap (λ (sum : Checksum). some (called answer sum)) summed ∙ ap (after_call begun) (u ∙ ap₂ (analyzed sheet) t memory)
     where
       summed : e ≡ with_lent (with_buffer begun (twelve (answer_numbered answer))) after

@@ -101,9 +101,19 @@ pub fn call(head: &[u8; 88], sheet: &[u8], call: usize, checksum: Checksum) -> C
     );
     let checksum = checksum
         .with_answer(answer)
-        .with_table(&constants)
-        .with_table(&index)
-        .with_table(&containers)
-        .with_scratch(&scratch);
+        .with_table(
+            constant_slots,
+            constant_present,
+            constant_kinds,
+            constant_values,
+        )
+        .with_table(index_slots, index_present, index_kinds, index_values)
+        .with_table(
+            container_slots,
+            container_present,
+            container_kinds,
+            container_values,
+        )
+        .with_scratch(marks, stack, row_kinds, row_values, work_list);
     Called { answer, checksum }
 }

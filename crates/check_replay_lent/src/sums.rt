@@ -1,15 +1,13 @@
 // Numbers put into a checksum. No sum wraps: a remainder is below 2^32, and so is a factor.
 ghost use Rattle.std.specs.Prelude.{◌≡◌};
-ghost use Rattle.model.specs.Call.{answer_numbered};
+ghost use Rattle.model.specs.Call.{answer_numbered, table, scratch};
 ghost use Rattle.model.specs.Interface.{twelve};
-ghost use Rattle.stage_memory.specs.Lent.{table_in, scratch_in};
 ghost use Rattle.check_replay_lent.specs.Checksum.{checksum_number, checksum_start, with_number, with_buffer, with_table, with_scratch};
 
 use crate::Checksum;
 use crate::element::Element;
 use export_numbers::put_answer;
 use model::Answer;
-use stage_memory::{LentScratch, LentTable};
 
 impl Checksum {
     // Before the first number.
@@ -47,25 +45,30 @@ impl Checksum {
         self.with::<u64>(&numbers)
     }
 
-    // With the four buffers of an analysis more.
-    pub fn with_table(self, output: &LentTable) -> Checksum
-        ensures { result ≡ with_table self (table_in output.now) }
+    // With the four buffers of an analysis more. They are only read, so they are asked as shared slices: a LentTable lends for writing.
+    pub fn with_table(self, slots: &[u16], present: &[u8], kinds: &[u8], values: &[u64]) -> Checksum
+        ensures { result ≡ with_table self (table slots.now present.now kinds.now values.now) }
     {
-        self.with(output.slots)
-            .with(output.present)
-            .with(output.kinds)
-            .with(output.values)
+        self.with(slots).with(present).with(kinds).with(values)
     }
 
-    // With the five of the scratch more.
-    pub fn with_scratch(self, scratch: &LentScratch) -> Checksum
-        ensures { result ≡ with_scratch self (scratch_in scratch.now) }
+    // With the five of the scratch more, which are only read too.
+    pub fn with_scratch(
+        self,
+        marks: &[u8],
+        stack: &[u16],
+        row_kinds: &[u8],
+        row_values: &[u64],
+        work_list: &[u16],
+    ) -> Checksum
+        ensures { let lent = scratch marks.now stack.now row_kinds.now row_values.now work_list.now in
+            result ≡ with_scratch self lent }
     {
-        self.with(scratch.marks)
-            .with(scratch.stack)
-            .with(scratch.row_kinds)
-            .with(scratch.row_values)
-            .with(scratch.work_list)
+        self.with(marks)
+            .with(stack)
+            .with(row_kinds)
+            .with(row_values)
+            .with(work_list)
     }
 }
 

@@ -3,8 +3,8 @@
 
 ghost use Rattle.std.specs.Prelude.{◌≡◌};
 ghost use Rattle.std.proofs.Math.Option.{some};
-ghost use Rattle.model.specs.Call.{analyzed, call_result};
-ghost use Rattle.stage_memory.specs.Lent.{lent_in, SameTable, SameScratch};
+ghost use Rattle.model.specs.Call.{analyzed, call_result, lent, table, scratch as scratch_of};
+ghost use Rattle.stage_memory.specs.Lent.{SameTable, SameScratch};
 ghost use Rattle.model.specs.CallDemand.{LentDemand};
 ghost use Rattle.model.specs.declared.Answer.TheVariants.{Analyzed};
 ghost use Rattle.model.specs.declared.Counts.{Counts};
@@ -18,7 +18,8 @@ use stage_memory::{LentScratch, LentTable};
 
 // "Questions, in order", the charges and the three analyses. What it answers and what every lent buffer holds afterwards is the call that the
 // definitions give (`analyzed`); and of an answer with facts, each analysis took at most n × (1 + 2 × s) entries from its work list, and with
-// n and s above zero exactly the instructions reachable from 0 are present, and no fact changes any more (`LentDemand`).
+// n and s above zero exactly the instructions reachable from 0 are present, and no fact changes any more (`LentDemand`). Both are told of the slices
+// themselves in words of model/specs alone (`scratch_of` is its `scratch`, a name that a parameter has here).
 // The tables that it finds are arrays of the most entries that a sheet can need, since there is no heap.
 pub fn analyze(
     sheet: &[u8],
@@ -28,11 +29,27 @@ pub fn analyze(
     containers: &mut LentTable,
     scratch: &mut LentScratch,
 ) -> Answer
-    ensures call { let before = lent_in constants.old index.old containers.old scratch.old in
-        let after = lent_in constants.new index.new containers.new scratch.new in
+    ensures call { let before = lent
+        (table constants.old.slots.now constants.old.present.now constants.old.kinds.now constants.old.values.now)
+        (table index.old.slots.now index.old.present.now index.old.kinds.now index.old.values.now)
+        (table containers.old.slots.now containers.old.present.now containers.old.kinds.now containers.old.values.now)
+        (scratch_of scratch.old.marks.now scratch.old.stack.now scratch.old.row_kinds.now scratch.old.row_values.now scratch.old.work_list.now) in
+        let after = lent
+        (table constants.new.slots.now constants.new.present.now constants.new.kinds.now constants.new.values.now)
+        (table index.new.slots.now index.new.present.now index.new.kinds.now index.new.values.now)
+        (table containers.new.slots.now containers.new.present.now containers.new.kinds.now containers.new.values.now)
+        (scratch_of scratch.new.marks.now scratch.new.stack.now scratch.new.row_kinds.now scratch.new.row_values.now scratch.new.work_list.now) in
         some (call_result result after) ≡ analyzed sheet.now resources before }
-    ensures demand { let before = lent_in constants.old index.old containers.old scratch.old in
-        let after = lent_in constants.new index.new containers.new scratch.new in
+    ensures demand { let before = lent
+        (table constants.old.slots.now constants.old.present.now constants.old.kinds.now constants.old.values.now)
+        (table index.old.slots.now index.old.present.now index.old.kinds.now index.old.values.now)
+        (table containers.old.slots.now containers.old.present.now containers.old.kinds.now containers.old.values.now)
+        (scratch_of scratch.old.marks.now scratch.old.stack.now scratch.old.row_kinds.now scratch.old.row_values.now scratch.old.work_list.now) in
+        let after = lent
+        (table constants.new.slots.now constants.new.present.now constants.new.kinds.now constants.new.values.now)
+        (table index.new.slots.now index.new.present.now index.new.kinds.now index.new.values.now)
+        (table containers.new.slots.now containers.new.present.now containers.new.kinds.now containers.new.values.now)
+        (scratch_of scratch.new.marks.now scratch.new.stack.now scratch.new.row_kinds.now scratch.new.row_values.now scratch.new.work_list.now) in
         (constant index container : Counts) (left : VerifierResources) → result ≡ Analyzed constant index container left
         → LentDemand sheet.now resources before constant index container left after }
     ensures same { SameTable constants.old constants.new × SameTable index.old index.new × SameTable containers.old containers.new × SameScratch scratch.old scratch.new }

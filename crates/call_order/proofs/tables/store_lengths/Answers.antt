@@ -5,7 +5,7 @@ use mathlib.Core.Bool.{false≢true}
 use lib.Seq.{length-take-le}
 use Rattle.sheet.proofs.SizeNames.{counted}
 use Rattle.sheet.proofs.SizeLimits.{limited}
-use Rattle.stage_memory.specs.Lent.{table_in}
+use Rattle.model.specs.Call.{table}
 use Rattle.call_order.proofs.ConstantTables.{Fronts, fronts, stored_there, lengthened}
 use Rattle.call_order.proofs.tables.store_lengths.Goals.{Else-is_err}
 use Rattle.call_order.proofs.tables.store_lengths.Goals as goal
@@ -16,7 +16,7 @@ returns-then-is_err c =
     let refused = sym c.is_err.ensures.value ∙ c.if-is_err.true in
     record { stored = λ goes a st. absurd (false≢true (sym goes ∙ refused)); kept = λ same. refl }
 
-there : (c : Else-is_err) → Fronts c.args.sheet.now.sizes.code_count c.args.constant.tracked (table_in c.args.output.now)
+there : (c : Else-is_err) → Fronts c.args.sheet.now.sizes.code_count c.args.constant.tracked (table c.args.slots.now c.args.present.now c.args.kinds.now c.args.values.now)
 there c =
     fronts (stored_there c.args.before c.requires.constants_stored c.is_err.ensures.value c.if-is_err.false).1 (counted c.args.sheet.now.measured.are).code_count_is refl
     (limited c.args.sheet.now.measured).code_count_is

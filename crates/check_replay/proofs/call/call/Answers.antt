@@ -1,5 +1,6 @@
 -- `check_replay::call::call` meets its contract: what it is lent is what the definition gives, and all that it leaves is put into the checksum.
 -- Assumes nothing.
+use Rattle.std.proofs.Common.{rules}
 use Rattle.stage_memory.specs.Lent.{lent_in}
 use Rattle.check_replay.proofs.CallBuffers.{table_is, scratch_is, called_is}
 use Rattle.check_replay.proofs.call.call.Goals as goal
@@ -17,3 +18,4 @@ returns c =
     (scratch_is head call c.front-marks.ensures c.front-stack.ensures c.front-row_kinds.ensures c.front-row_values.ensures c.front-work_list.ensures)
     c.budget_of.ensures c.analyze-answer.ensures.call c.with_answer.ensures
     c.with_table.ensures c.with_table-2.ensures c.with_table-3.ensures c.with_scratch-checksum.ensures
+    (search rules) (search rules) (search rules) (search rules)
