@@ -15,7 +15,7 @@ use Rattle.model.specs.CallDemand.{marking}
 use Rattle.finality.proofs.Marks.{same_below, stack_room}
 use Rattle.finality.proofs.Cells.{stacked_push}
 use Rattle.closure_marks.specs.Room.{unmarked_count, Room}
-use Rattle.closure_marks.specs.Marks.{MarkedLies, Goes, Steps, mark_all}
+use Rattle.closure_marks.specs.Marks.{MarkedLies, Goes, Steps, mark_all, Held, stored_if, store, store_all}
 use Rattle.closure_marks.specs.declared.mark.SlotMarks.{SlotMarks}
 
 -- ---- one slot
@@ -76,6 +76,23 @@ module _ (slot : ℕ) (marks stack : List ℕ) (top : ℕ) where
 
   pub mark_past : length marks ≤ slot → Goes (mark slot) marks stack top marks stack top
   mark_past h = old (rw (get_or-eq_default marks 1 h))
+
+  -- ---- whatever lies there
+
+  abbrev there : Held
+  there = record { marks = marks; stack = stack; top = top }
+
+  pub store_new : slot < length marks → get_or marks slot 0 ≡ 0 → record { marks = set marks slot 1; stack = set stack top slot; top = top + 1 } ≡ store slot there
+  unfolding store stored_if
+  store_new h k = rw (eq-eqb (get_or marks slot 1) 0 (sym (same_below marks slot h) ∙ k))
+
+  pub store_old : slot < length marks → (get_or marks slot 0 ≡ 0 → ⊥) → there ≡ store slot there
+  unfolding store stored_if
+  store_old h k = rw (ne_eqb (get_or marks slot 1) 0 (λ e. k (same_below marks slot h ∙ e)))
+
+  pub store_past : length marks ≤ slot → there ≡ store slot there
+  unfolding store stored_if
+  store_past h = rw (get_or-eq_default marks 1 h)
 
 -- ---- several
 
