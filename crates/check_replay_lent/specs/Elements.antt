@@ -1,4 +1,4 @@
--- What a buffer's elements owe, whatever their width.
+-- What a buffer's elements owe, whatever their width. (Laws, and in specs/ all the same: a `ghost use` takes nothing from its own crate's proofs/.)
 -- Assumes nothing.
 use mathlib.Core.Path.{◌≡◌, sym, ◌∙◌}
 use mathlib.Core.List.{List, ◌∷◌}

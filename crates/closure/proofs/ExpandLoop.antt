@@ -1,11 +1,12 @@
 -- The loop of the closure: a slot is taken, its edges are charged and followed, until the stack is empty.
 -- Assumes nothing.
-use Rattle.std.proofs.Common.{◌≡◌, ℕ, zero, suc, ◌+◌, ◌-◌, ◌<◌, ◌≤◌, ◌⊎◌, List, [], ◌∷◌, ◌++◌, reverse, length, get_or, set, replicate, sym, refl, ap, ◌∙◌, inl, inr, arith, length-set}
+use Rattle.std.proofs.Common.{◌≡◌, ℕ, zero, suc, ◌+◌, ◌-◌, ◌<◌, ◌≤◌, ◌⊎◌, List, [], ◌∷◌, ◌++◌, reverse, length, get_or, set, replicate, sym, refl, ap, ◌∙◌, inl, inr, arith, eqb, length-set}
 use mathlib.Core.List.Memᴰ.{head}
 use mathlib.Core.List.Memᴰ.{not-nil}
 use mathlib.Core.List.Memᴰ.{tail}
 use mathlib.Core.List.{reverse-cons, Memᴰ as Member}
 use lib.ListN.{length-replicate}
+use Rattle.std.proofs.lemmas.List.Sums.{count_by-le-length}
 use Rattle.model.specs.Sheet.{local_slots}
 use Rattle.model.specs.Charges.{Spent, ok, give, continue, ◌>>◌, charge_work, in_stage, spend_work}
 use Rattle.model.specs.Dependencies.{dependency_bit, edges_to}
@@ -24,7 +25,7 @@ use Rattle.sheet.specs.Measured.{Measured}
 use Rattle.sheet.specs.declared.Sizes.{Sizes}
 use Rattle.sheet.proofs.SizeNames.{counted}
 use Rattle.sheet.proofs.SizeLimits.{limited}
-use Rattle.finality.proofs.Marks.{IsSet, set_below, mark_grows, free, weight, stack_fits, unmarked_weight}
+use Rattle.finality.proofs.Marks.{IsSet, set_below, mark_grows, free, weight, stack_fits}
 use Rattle.finality.proofs.Closure.{follow_weight, seeded_weight}
 use Rattle.finality.proofs.Cells.{stacked_top, stacked_pop}
 use Rattle.closure_marks.specs.Marks.{MarkedLies, Taken}
@@ -297,10 +298,9 @@ zero_lies {sheet} {marks} {stack} w b = record {
 
 -- the room that it begins with
 pub zero_room : {sheet marks stack : List ℕ} {sizes : Sizes} → Measured sheet sizes → MarksZero sheet marks stack → Room marks stack 0
-unfolding weight unmarked
 zero_room {sheet} {marks} w b =
     let l = zero_lies w b in
-    record { fits = omega (arith, unmarked_weight sheet, ap free l.marks_are, l.deep, l.long); small = omega (arith, l.wide, l.small) }
+    record { fits = omega (arith, count_by-le-length (λ (mark : ℕ). eqb mark 0) marks, l.wide, l.deep, l.long); small = omega (arith, l.wide, l.small) }
 
 pub lies_room : {sheet : List ℕ} {room : ℕ} {m : Marked} {marks stack : List ℕ} {top : ℕ} → MarkedLies sheet room m marks stack top → MarkedLies sheet (length stack) m marks stack top
 lies_room l = rw l.long l

@@ -17,7 +17,7 @@ use Rattle.closure.specs.declared.follow.SlotEdges.{SlotEdges}
 use Rattle.closure_edges.proofs.EdgeRows.{below_or_not, by_rule}
 use Rattle.closure_edges.proofs.EdgesToSlot.{into_append, edge_other, row_misses, misses, span_misses}
 use Rattle.closure_edges.specs.Links.{bucket, link_at}
-use Rattle.closure_edges.specs.Chain.{edges_at, Silent, Chain, ended, linked, Chained}
+use Rattle.closure_edges.specs.Chain.{edges_at, Silent, Chain, ended, linked, ChainsTold}
 use Rattle.closure_edges.specs.declared.Link.{Link}
 use Rattle.closure_marks.proofs.Marks.{steps_self, steps_on, steps_as}
 
@@ -263,6 +263,6 @@ module _ (sheet : List ℕ) (d : ℕ) where
         rw (e, ← all) at w.follows
 
 -- the chain of a slot's bucket
-pub chain_of : {sheet heads : List ℕ} {entries : List Link} {from : ℕ} → Chained sheet heads entries from → (d : ℕ) {l : ℕ} → l ≡ local_slots sheet → d < l
+pub chain_of : {sheet heads : List ℕ} {entries : List Link} {from : ℕ} → ChainsTold sheet heads entries from → (d : ℕ) {l : ℕ} → l ≡ local_slots sheet → d < l
     → Chain sheet entries d (get_or heads (bucket d) 0) from
 chain_of told d e h = told.chain d (rw e at h)

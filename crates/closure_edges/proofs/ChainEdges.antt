@@ -21,9 +21,10 @@ use Rattle.closure_edges.proofs.EdgeRows.{below_or_not}
 use Rattle.closure_edges.proofs.EdgesToSlot.{span_misses}
 use Rattle.finality.proofs.Memory.{zeros_read}
 use Rattle.closure_edges.specs.Links.{bucket, buckets_if, end_of, buckets_of, link_at, Links, links, link, link_each, Graph, graph, buckets_at, link_down, graph_of}
-use Rattle.closure_edges.specs.Chain.{edges_at, Silent, Chain, ended, linked, Chained}
+use Rattle.closure_edges.specs.Chain.{edges_at, Silent, Chain, ended, linked, ChainsTold, Chained, Tells}
 use Rattle.closure_edges.specs.declared.Buckets.{Buckets}
 use Rattle.closure_edges.specs.declared.Link.{Link}
+use Rattle.closure_edges.specs.declared.Chains.{Chains}
 use Rattle.closure_edges.proofs.BucketOrder.{bucket_below, bucket_order, buckets_few}
 use Rattle.closure_edges.proofs.ChainLoops.{each_used, each_room}
 
@@ -178,15 +179,40 @@ module _ (sheet : List ℕ) where
   -- ---- all instructions
 
   -- no instruction is linked
-  unlinked : (heads : List ℕ) (entries : List Link) → ((k : ℕ) → get_or heads k 0 ≡ 0) → Chained sheet heads entries (code_count sheet)
+  unlinked : (heads : List ℕ) (entries : List Link) → ((k : ℕ) → get_or heads k 0 ≡ 0) → ChainsTold sheet heads entries (code_count sheet)
   unlinked heads entries none = record {
     inside = omega arith;
     chain = λ d l. ended {pc = code_count sheet} (none (bucket d)) (record { none = λ q m k. absurd (omega arith) });
   }
 
+  -- the tables keep their lengths
+  each_wide : (pc first : ℕ) (t : Links) (i : ℕ) → length (link_each pc first i t).heads ≡ length t.heads
+  unfolding link_each link
+  each_wide pc first t zero = refl
+  each_wide pc first t (suc i) = simp length-set (each_wide pc first t i)
+
+  record AsLong (t : Links) (g : Graph) : Type 0 where
+    wide : length g.heads ≡ length t.heads
+    entries_long : length g.entries ≡ length t.entries
+
+  down_long : (pc : ℕ) (t : Links) → AsLong t (link_down sheet pc t)
+  unfolding link_down
+  down_long zero t = record { wide = refl; entries_long = refl }
+  down_long (suc pc) t = go (leb (t.used + (buckets_at sheet pc).count) (length t.entries)) (down_long pc after)
+    where
+      after : Links
+      after = link_each pc (buckets_at sheet pc).first (buckets_at sheet pc).count t
+
+      go : (b : Bool) → AsLong after (link_down sheet pc after) → AsLong t (cond b (link_down sheet pc after) (graph t.heads t.entries (suc pc)))
+      go true rest = record {
+        wide = rest.wide ∙ each_wide pc (buckets_at sheet pc).first t (buckets_at sheet pc).count;
+        entries_long = rest.entries_long ∙ each_room pc (buckets_at sheet pc).first t (buckets_at sheet pc).count;
+      }
+      go false rest = record { wide = refl; entries_long = refl }
+
   -- what a graph tells
   abbrev Tells_graph : Graph → Type 0
-  Tells_graph g = Chained sheet g.heads g.entries g.from
+  Tells_graph g = ChainsTold sheet g.heads g.entries g.from
 
   module _ (small : local_slots sheet ≤ 65535) where
     -- what holds from one instruction on holds from the one before it, with its links
@@ -224,9 +250,25 @@ module _ (sheet : List ℕ) where
         go false e rest = record { inside = h; chain = c }
 
     -- the whole graph
-    pub graph_chained : (heads : List ℕ) (entries : List Link) → length heads ≡ 2048 → {g : Graph} → g ≡ graph_of sheet heads entries → Tells_graph g
+    pub graph_told : (heads : List ℕ) (entries : List Link) → length heads ≡ 2048 → {g : Graph} → g ≡ graph_of sheet heads entries → Tells_graph g
     unfolding graph_of zeros
-    graph_chained heads entries w e =
+    graph_told heads entries w e =
         let none = unlinked (zeros heads) entries (zeros_read (length heads)) in
         rw e (down_chained (code_count sheet) (links (zeros heads) entries 0)
         (record { wide = length-replicate (length heads) 0 ∙ w; room = omega arith; below = λ k. rw (zeros_read (length heads) k) (omega arith) }) (omega arith) none.chain)
+
+    -- and its tables are as long as those it was made of
+    pub graph_chained : (heads : List ℕ) (entries : List Link) → length heads ≡ 2048 → length entries ≤ 65535 → {g : Graph} → g ≡ graph_of sheet heads entries
+        → Chained sheet g.heads g.entries g.from
+    unfolding graph_of zeros
+    graph_chained heads entries w few {g} e =
+        let long = down_long (code_count sheet) (links (zeros heads) entries 0) in
+        record {
+          wide = λ l. rw e (long.wide ∙ length-replicate (length heads) 0 ∙ w);
+          few = rw e (omega (arith, long.entries_long));
+          told = graph_told heads entries w e;
+        }
+
+  -- of chains the type says the rest
+  pub tells_chained : (c : Chains) → Tells sheet c → Chained sheet c.heads.now c.links.now c.first
+  tells_chained c told = record { wide = λ l. c.wide; few = c.few; told = told }

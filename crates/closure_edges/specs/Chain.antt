@@ -22,10 +22,16 @@ pub data Chain (sheet : List ℕ) (entries : List Link) (d : ℕ) : ℕ → ℕ 
       → Silent sheet d pc (link_at entries i).pc → Chain sheet entries d (link_at entries i).next ((link_at entries i).pc + 1) → Chain sheet entries d e pc
 
 -- The tables tell the edges of the instructions from `from` on, to each slot.
-pub record Chained (sheet heads : List ℕ) (entries : List Link) (from : ℕ) : Type 0 where
+pub record ChainsTold (sheet heads : List ℕ) (entries : List Link) (from : ℕ) : Type 0 where
   pub inside : from ≤ code_count sheet
   pub chain : (d : ℕ) → d < local_slots sheet → Chain sheet entries d (get_or heads (bucket d) 0) from
 
--- the same of chains
+-- The same of tables that are wide enough for each bucket, and whose links have numbers of 16 bits.
+pub record Chained (sheet heads : List ℕ) (entries : List Link) (from : ℕ) : Type 0 where
+  pub wide : from < code_count sheet → length heads ≡ 2048
+  pub few : length entries ≤ 65535
+  pub told : ChainsTold sheet heads entries from
+
+-- What chains tell: that they are wide and few stands in their type.
 abbrev pub Tells : List ℕ → Chains → Type 0
-Tells sheet c = Chained sheet c.heads.now c.links.now c.first
+Tells sheet c = ChainsTold sheet c.heads.now c.links.now c.first

@@ -1,20 +1,21 @@
 -- Marks and stack, as they lie in lent memory: one slot is marked, or several.
 -- Assumes nothing.
-use mathlib.Core.Path.{◌≡◌, refl, sym, ◌∙◌}
-use mathlib.Core.Bool.{true, false}
+use mathlib.Core.Path.{◌≡◌, refl, sym, ap, ◌∙◌}
+use mathlib.Core.Bool.{true, false, cond}
 use mathlib.Core.List.{List, [], ◌∷◌}
 use Prim.Native.Nat.{ℕ, suc, ◌+◌, ◌≤◌, ◌<◌}
 use native.Mathlib.Omega.{arith}
 use lib.Dec.{eqb}
 use lib.ListN.{length, get_or, set, length-set, get_or-eq_default}
 use borrow.Author.Tests.{eq-eqb, ne_eqb}
+use Rattle.std.proofs.lemmas.List.Sums.{sum_by-set}
 use Rattle.model.specs.Sheet.{local_slots}
 use Rattle.model.specs.Closure.{Marked, marked, mark}
 use Rattle.model.specs.CallDemand.{marking}
-use Rattle.finality.proofs.Marks.{free, weight, mark_weight, same_below, stack_room}
+use Rattle.finality.proofs.Marks.{same_below, stack_room}
 use Rattle.finality.proofs.Cells.{stacked_push}
-use Rattle.closure_marks.specs.Room.{Room}
-use Rattle.closure_marks.specs.Marks.{MarkedLies, Goes, Steps, mark_all}
+use Rattle.closure_marks.specs.Room.{unmarked_count, Room}
+use Rattle.closure_marks.specs.Marks.{MarkedLies, Goes, Steps, mark_all, Held, stored_if, store, store_all}
 use Rattle.closure_marks.specs.declared.mark.SlotMarks.{SlotMarks}
 
 -- ---- one slot
@@ -42,14 +43,12 @@ module _ (slot : ℕ) (marks stack : List ℕ) (top : ℕ) where
       }
 
     -- one slot less is without a mark
-    less_free : free marks ≡ suc (free (set marks slot 1))
-    unfolding weight mark marked
+    less_free : unmarked_count marks ≡ suc (unmarked_count (set marks slot 1))
     less_free =
-        let m : Marked = record { marks = marks; stack = [] } in
-        let e : eqb (get_or marks slot 1) 0 ≡ true = eq-eqb (get_or marks slot 1) 0 (sym (same_below marks slot inside) ∙ free_there) in
-        let kept : weight (marked (eqb (get_or marks slot 1) 0) slot m) ≡ weight m = mark_weight slot m in
-        let fewer : free (set marks slot 1) + 1 ≡ free marks + 0 = rw e at kept in
-        omega (arith, fewer)
+        let test = λ (mark : ℕ). cond (eqb mark 0) 1 0 in
+        let fewer : unmarked_count (set marks slot 1) + test (get_or marks slot 0) ≡ unmarked_count marks + 0 = sum_by-set test marks slot 1 0 inside in
+        let one : test (get_or marks slot 0) ≡ 1 = ap test free_there in
+        omega (arith, fewer, one)
 
     -- there is room on the stack
     pub push_room : Room marks stack top → top < length stack
@@ -77,6 +76,23 @@ module _ (slot : ℕ) (marks stack : List ℕ) (top : ℕ) where
 
   pub mark_past : length marks ≤ slot → Goes (mark slot) marks stack top marks stack top
   mark_past h = old (rw (get_or-eq_default marks 1 h))
+
+  -- ---- whatever lies there
+
+  abbrev there : Held
+  there = record { marks = marks; stack = stack; top = top }
+
+  pub store_new : slot < length marks → get_or marks slot 0 ≡ 0 → record { marks = set marks slot 1; stack = set stack top slot; top = top + 1 } ≡ store slot there
+  unfolding store stored_if
+  store_new h k = rw (eq-eqb (get_or marks slot 1) 0 (sym (same_below marks slot h) ∙ k))
+
+  pub store_old : slot < length marks → (get_or marks slot 0 ≡ 0 → ⊥) → there ≡ store slot there
+  unfolding store stored_if
+  store_old h k = rw (ne_eqb (get_or marks slot 1) 0 (λ e. k (same_below marks slot h ∙ e)))
+
+  pub store_past : length marks ≤ slot → there ≡ store slot there
+  unfolding store stored_if
+  store_past h = rw (get_or-eq_default marks 1 h)
 
 -- ---- several
 

@@ -16,7 +16,7 @@ use Rattle.model.specs.Dependencies.{Field, field, seed_fields}
 use Rattle.model.specs.Closure.{Marked, mark, mark_fields, mark_seeds}
 use Rattle.model.specs.declared.Instruction.{Instruction}
 use Rattle.model.specs.declared.AnalysisKind.{AnalysisKind}
-use Rattle.closure_marks.specs.Marks.{Steps, slots_in, mark_all}
+use Rattle.closure_marks.specs.Marks.{Steps, slots_in, mark_all, Held, store_all, store_seeds}
 use Rattle.closure_marks.specs.Fields.{fields_in}
 use Rattle.closure_marks.specs.declared.Candidates.{Candidates}
 use Rattle.closure_marks.specs.declared.Fields.{Fields}
@@ -61,6 +61,22 @@ seeds_none which sheet old = steps_self (λ m. refl)
 pub seeds_all : (which : AnalysisKind) (sheet : List ℕ) (pc n : ℕ) {old new : SlotMarks} → pc ≤ n → n ≤ pc → n ≡ code_count sheet
     → Steps (mark_seeds which sheet pc) old new → Steps (mark_seeds which sheet (code_count sheet)) old new
 seeds_all which sheet pc n h k e p = let q : pc ≡ code_count sheet = omega arith in rw q at p
+
+-- the same whatever lies there
+pub stored_none : (which : AnalysisKind) (sheet : List ℕ) (old : Held) → old ≡ store_seeds which sheet 0 old
+unfolding store_seeds
+stored_none which sheet old = refl
+
+pub stored_more : (which : AnalysisKind) (sheet : List ℕ) (pc : ℕ) {inst : Instruction} (c : Candidates) (old : Held) {mid new : Held}
+    → mid ≡ store_seeds which sheet pc old → inst ≡ instruction sheet pc
+    → slots_in c ≡ map (field inst) (seed_fields which inst.op) → new ≡ store_all (slots_in c) mid
+    → new ≡ store_seeds which sheet (pc + 1) old
+unfolding store_seeds
+stored_more which sheet pc c old p e h q = rw (add-one, ← e, ← h, ← p) q
+
+pub stored_all : (which : AnalysisKind) (sheet : List ℕ) (pc n : ℕ) (old : Held) {new : Held} → pc ≤ n → n ≤ pc → n ≡ code_count sheet
+    → new ≡ store_seeds which sheet pc old → new ≡ store_seeds which sheet (code_count sheet) old
+stored_all which sheet pc n old h k e p = let q : pc ≡ code_count sheet = omega arith in rw q at p
 
 -- ---- as the code finds them
 

@@ -1,10 +1,12 @@
 -- How the marks and the stack of a closure lie in lent memory, and what a function makes of them.
 -- Assumes nothing.
-use Rattle.std.specs.Prelude.{◌≡◌, List, [], ◌∷◌, ℕ, ◌-◌, ◌≤◌, length, get_or, set}
-use Rattle.model.specs.Sheet.{local_slots}
+use Rattle.std.specs.Prelude.{◌≡◌, Bool, true, false, List, [], ◌∷◌, map, ℕ, zero, suc, ◌+◌, ◌-◌, ◌≤◌, eqb, length, get_or, set}
+use Rattle.model.specs.Sheet.{local_slots, instruction}
+use Rattle.model.specs.Dependencies.{field, seed_fields}
 use Rattle.model.specs.Closure.{Marked, mark}
 use Rattle.model.specs.CallDemand.{Passed}
 use Rattle.model.specs.Tables.{stacked}
+use Rattle.model.specs.declared.AnalysisKind.{AnalysisKind}
 use Rattle.closure_marks.specs.declared.mark.SlotMarks.{SlotMarks}
 use Rattle.closure_marks.specs.declared.Candidates.{Candidates}
 use Rattle.closure_marks.specs.declared.Candidates.TheVariants.{None, One, Two}
@@ -50,3 +52,33 @@ slots_in (Two first second) = first ∷ second ∷ []
 unfoldable pub mark_all : List ℕ → Marked → Marked
 mark_all [] m = m
 mark_all (slot ∷ slots) m = mark_all slots (mark slot m)
+
+-- ---- the same of any marks and any stack, whether a state of a closure lies there or not
+
+-- What a value holds: the marks, the stack, and how many of its entries are used.
+pub record Held : Type 0 where
+  pub marks : List ℕ
+  pub stack : List ℕ
+  pub top : ℕ
+
+abbrev pub held : SlotMarks → Held
+held m = record { marks = m.marks.now; stack = m.stack.now; top = m.top }
+
+-- a mark and an entry more, where the test holds
+unfoldable pub stored_if : Bool → ℕ → Held → Held
+stored_if true slot h = record { marks = set h.marks slot 1; stack = set h.stack h.top slot; top = h.top + 1 }
+stored_if false slot h = h
+
+-- a slot without a mark gets one and goes on the stack; behind the last mark each slot reads as set
+unfoldable pub store : ℕ → Held → Held
+store slot h = stored_if (eqb (get_or h.marks slot 1) 0) slot h
+
+-- slots in order
+unfoldable pub store_all : List ℕ → Held → Held
+store_all [] h = h
+store_all (slot ∷ slots) h = store_all slots (store slot h)
+
+-- the seeds of the instructions 0 to count − 1, in code order
+unfoldable pub store_seeds : AnalysisKind → List ℕ → ℕ → Held → Held
+store_seeds which sheet zero h = h
+store_seeds which sheet (suc pc) h = store_all (map (field (instruction sheet pc)) (seed_fields which (instruction sheet pc).op)) (store_seeds which sheet pc h)

@@ -30,13 +30,14 @@ pub struct SlotMarks<'a> {
 }
 
 impl SlotMarks<'_> {
-    ghost use Rattle.std.specs.Prelude.{◌<◌};
+    ghost use Rattle.std.specs.Prelude.{◌≡◌, ◌<◌};
     ghost use Rattle.model.specs.Closure.{mark};
-    ghost use Rattle.closure_marks.specs.Marks.{Steps, Taken, slots_in, mark_all};
+    ghost use Rattle.closure_marks.specs.Marks.{Steps, Taken, slots_in, mark_all, held, store, store_all};
 
     // A slot without a mark gets one and goes on the stack. From L up there is none.
     fn mark(&mut self, slot: usize)
-        ensures { Steps (mark slot) self.old self.new }
+        ensures steps { Steps (mark slot) self.old self.new }
+        ensures stored { held self.new ≡ store slot (held self.old) }
     {
         if slot < self.marks.len() && self.marks[slot] == 0 {
             self.marks[slot] = 1;
@@ -47,7 +48,8 @@ impl SlotMarks<'_> {
 
     // The candidates, in order.
     pub fn mark_all(&mut self, candidates: Candidates)
-        ensures { Steps (mark_all (slots_in candidates)) self.old self.new }
+        ensures steps { Steps (mark_all (slots_in candidates)) self.old self.new }
+        ensures stored { held self.new ≡ store_all (slots_in candidates) (held self.old) }
     {
         match candidates {
             Candidates::None => {}

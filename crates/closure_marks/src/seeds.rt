@@ -3,7 +3,7 @@ ghost use Rattle.std.specs.Prelude.{◌≡◌, map};
 ghost use Rattle.model.specs.Sheet.{code_count};
 ghost use Rattle.model.specs.Dependencies.{field, seed_fields};
 ghost use Rattle.model.specs.Closure.{mark_seeds};
-ghost use Rattle.closure_marks.specs.Marks.{Steps, slots_in};
+ghost use Rattle.closure_marks.specs.Marks.{Steps, slots_in, held, store_seeds};
 ghost use Rattle.closure_marks.specs.Fields.{fields_in};
 
 use crate::mark::SlotMarks;
@@ -79,7 +79,8 @@ fn seed_fields(which: AnalysisKind, inst: Instruction) -> Candidates
 
 // The seeds of all instructions, in code order.
 pub fn seed_slots(which: AnalysisKind, sheet: &Sheet, marked: &mut SlotMarks)
-    ensures { Steps (mark_seeds which sheet.now.bytes.now (code_count sheet.now.bytes.now)) marked.old marked.new }
+    ensures steps { Steps (mark_seeds which sheet.now.bytes.now (code_count sheet.now.bytes.now)) marked.old marked.new }
+    ensures stored { held marked.new ≡ store_seeds which sheet.now.bytes.now (code_count sheet.now.bytes.now) (held marked.old) }
 {
     for pc in 0..sheet.sizes.code_count {
         let seeds = seed_fields(which, sheet.instruction(pc));

@@ -5,8 +5,10 @@ use mathlib.Core.Bool.{Bool, true, false, cond}
 use mathlib.Core.List.{List, [], ◌∷◌, ◌++◌}
 use Prim.Native.Nat.{ℕ, ◌+◌, ◌-◌, ◌≤◌, ◌<◌}
 use native.Mathlib.Omega.{arith}
-use lib.ListN.{length, get_or, set, take, length-set}
+use lib.ListN.{length, get_or, set, take, drop, length-set}
+use lib.Seq.{paste}
 use Rattle.std.proofs.lemmas.List.{take_more}
+use Rattle.std.proofs.lemmas.List.Edits.{paste_more, paste_all}
 use Rattle.model.specs.Call.{zeros}
 use Rattle.model.specs.Tables.{stacked}
 use Rattle.finality.proofs.Cells.{stacked_push, stacked_top, stacked_pop}
@@ -57,6 +59,16 @@ unfolding EachEntered
 one_more_entered added i old top list list' now top' e h room l t entries lies =
     rw (take_more added i 0 h, entered_more (take i added) (get_or added i 0) entries, l, t)
     (listed_added (get_or added i 0) (entered (take i added) entries) list now (e entries lies) room)
+
+-- the same in the buffer itself: one more stands in its place
+pub one_more_stored : (added old : List ℕ) (top i : ℕ) {list list' : List ℕ} {now : ℕ} → list ≡ paste old top added i → now ≡ top + i → i < length added → length added + top ≤ length old
+    → list' ≡ set list now (get_or added i 0) → list' ≡ paste old top added (i + 1)
+one_more_stored added old top i e t h room l = l ∙ rw (e, t) (paste_more old top added i 0 (omega arith) h)
+
+-- and at the end all of them
+pub all_stored : (added old : List ℕ) (top : ℕ) {i : ℕ} {list : List ℕ} {now : ℕ} → list ≡ paste old top added i → now ≡ top + i → i ≡ length added
+    → (now ≡ top + length added) × (list ≡ take top old ++ (added ++ drop now old))
+all_stored added old top {i} e t k = (omega arith, e ∙ paste_all old top added i k ∙ ap (λ (at : ℕ). take top old ++ (added ++ drop at old)) (sym t))
 
 -- the entry added last is taken
 pub listed_take : (entries work_list : List ℕ) (top : ℕ) → Listed entries work_list top → length entries ≤ length work_list → 0 < top

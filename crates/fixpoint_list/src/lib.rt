@@ -4,7 +4,7 @@
 // machine code. So it is no plainer.
 #![tactic(auto)]
 
-ghost use Rattle.std.specs.Prelude.{◌≡◌, ℕ, ◌+◌, ◌-◌, ◌≤◌, ◌<◌, length, get_or, set};
+ghost use Rattle.std.specs.Prelude.{◌≡◌, ℕ, ◌+◌, ◌-◌, ◌≤◌, ◌<◌, ◌++◌, length, get_or, set, take, drop};
 ghost use Rattle.model.specs.Call.{zeros};
 ghost use Rattle.fixpoint_list.specs.Listed.{EachEntered};
 
@@ -17,10 +17,11 @@ pub fn enter(entry: usize, top: usize, work_list: &mut [u16]) -> usize
     top + 1
 }
 
-// Each of the entries is added, in order. How many there are then.
+// Each of the entries is added, in order: they stand one behind the other from top on. How many there are then.
 pub fn enter_each(entries: &[usize], top: usize, work_list: &mut [u16]) -> usize
     requires { (length entries.now + top ≤ length work_list.old) × ((i : ℕ) → i < length entries.now → get_or entries.now i 0 ≤ 65535) }
-    ensures { EachEntered entries.now work_list.old top work_list.new result }
+    ensures entered { EachEntered entries.now work_list.old top work_list.new result }
+    ensures stored { (result ≡ top + length entries.now) × (work_list.new ≡ take top work_list.old ++ (entries.now ++ drop result work_list.old)) }
 {
     let mut top = top;
     for &entry in entries {

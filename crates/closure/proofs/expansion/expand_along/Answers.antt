@@ -14,7 +14,7 @@ invariant_of-marked c = record { room = zero_room c.args.sheet.now.measured c.re
 pub loop-marked-init : goal.loop-marked-init
 unfolding seeded
 loop-marked-init c =
-    (expanding_begun _ _ (lies_room (c.seed_slots.ensures.goes.on (zero_lies c.args.sheet.now.measured c.requires.0))), refl, refl)
+    (expanding_begun _ _ (lies_room (c.seed_slots.ensures.steps.goes.on (zero_lies c.args.sheet.now.measured c.requires.0))), refl, refl)
 
 pub take_slot-count-requires : goal.take_slot-count-requires
 take_slot-count-requires c =
@@ -30,7 +30,7 @@ returns-in_default c =
     c.stage_number-stage.ensures c.metered-charged.result c.metered-charged.ensures c.in_default.not-Ok in
     at_last c.clear.new.out c.clear-in_default.new.out (search rules) (search rules) (record {
       closes = stopped_leaves stops _ (c.clear.ensures ∙ zeros_same _ _ (omega (arith, after.wide, asked.0.wide)));
-      no_entries = c.clear-in_default.ensures ∙ zeros_same _ _ (after.long ∙ (c.seed_slots.ensures.goes.on (zero_lies c.args.sheet.now.measured asked.0)).long);
+      no_entries = c.clear-in_default.ensures ∙ zeros_same _ _ (after.long ∙ (c.seed_slots.ensures.steps.goes.on (zero_lies c.args.sheet.now.measured asked.0)).long);
     })
 
 pub loop-marked-smaller : goal.loop-marked-smaller
@@ -55,5 +55,5 @@ returns c =
     at_last c.loop-marked.marked.marks.now c.loop-marked.marked.stack.now (search rules) (search rules) (record {
       closes = covered_leaves _ _ (expanding_done _ _ ended c.loop-marked-test.false) refl ended.lies.marks_are;
       no_entries = expanding_empty _ _ ended c.loop-marked-test.false
-          ∙ ap (λ (k : ℕ). replicate k 0) (c.seed_slots.ensures.goes.on (zero_lies c.args.sheet.now.measured asked.0)).long;
+          ∙ ap (λ (k : ℕ). replicate k 0) (c.seed_slots.ensures.steps.goes.on (zero_lies c.args.sheet.now.measured asked.0)).long;
     })

@@ -18,5 +18,5 @@ returns-then-edges-bit-eq0 c =
 pub returns : goal.returns
 returns c = (
   omega (arith, c.count-count.ensures.1),
-  followed_some _ _ c.edges_to-edges.result c.edges_to-edges.ensures c.count-count.ensures.0 c.if-edges-bit-eq0.false c.mark_all.ensures,
+  followed_some _ _ c.edges_to-edges.result c.edges_to-edges.ensures c.count-count.ensures.0 c.if-edges-bit-eq0.false c.mark_all.ensures.steps,
 )

@@ -38,7 +38,7 @@ pub loop-top-preserved : goal.loop-top-preserved
 loop-top-preserved c =
     stepped c.args.resources c.loop-top.invariant c.loop-top-test.true
     c.if-cost-rest.true c.take-p.ensures.0 _ _ c.step-news.ensures.0 c.take-p.ensures.1
-    c.step-news.auto.row_kinds c.step-news.auto.row_values (c.enter_each-top.auto.work_list ∙ c.take-p.auto.work_list) c.enter_each-top.ensures
+    c.step-news.auto.row_kinds c.step-news.auto.row_values (c.enter_each-top.auto.work_list ∙ c.take-p.auto.work_list) c.enter_each-top.ensures.entered
 
 -- behind the loop: entries are left where a charge is refused
 
