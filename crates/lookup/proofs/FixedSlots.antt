@@ -24,12 +24,12 @@ module _ (cell : FactCell) (seen : Seen) where
     unfolding show
     first_shown e = rw (le-leb 2 cell.kind h, e)
 
-    pub shown_again : (first : FactCell) → seen ≡ One first → (eqb cell.kind first.kind && eqb cell.value first.value) ≡ true
+    pub shown_again : (first : FactCell) → seen ≡ One first.kind first.value → (eqb cell.kind first.kind && eqb cell.value first.value) ≡ true
         → one_shown first.kind first.value ≡ show (leb 2 cell.kind) cell.kind cell.value (shown_by seen)
     unfolding show
     shown_again first e s = rw (le-leb 2 cell.kind h, e, s)
 
-    pub shows_other : (first : FactCell) → seen ≡ One first → (eqb cell.kind first.kind && eqb cell.value first.value) ≡ false
+    pub shows_other : (first : FactCell) → seen ≡ One first.kind first.value → (eqb cell.kind first.kind && eqb cell.value first.value) ≡ false
         → mixed_shown ≡ show (leb 2 cell.kind) cell.kind cell.value (shown_by seen)
     unfolding show
     shows_other first e s = rw (le-leb 2 cell.kind h, e, s)

@@ -7,5 +7,5 @@ use Rattle.lookup.specs.declared.tables.shown.Seen.TheVariants.{Nothing, One, Mi
 -- what was shown
 abbrev pub shown_by : Seen → Shown
 shown_by Nothing = none_shown
-shown_by (One cell) = one_shown cell.kind cell.value
+shown_by (One kind value) = one_shown kind value
 shown_by Mixed = mixed_shown

