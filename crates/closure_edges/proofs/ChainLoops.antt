@@ -33,23 +33,20 @@ pub record Linking (pc first count : ℕ) (was is : Links) (i : ℕ) : Type 0 wh
   pub entries_long : length is.entries ≡ length was.entries
   pub are : is ≡ link_each pc first i was
 
-pub linking_none : (pc first count : ℕ) (t : Links) → Linking pc first count t t (first - first)
+pub linking_none : (pc first count : ℕ) (t : Links) → Linking pc first count t t 0
 unfolding link_each
-linking_none pc first count t =
-    let e : first - first ≡ 0 = omega arith in
-    rw e (record { within = omega arith; top_is = omega arith; entries_long = refl; are = refl })
+linking_none pc first count t = record { within = omega arith; top_is = omega arith; entries_long = refl; are = refl }
 
-pub linking_more : {pc first count k : ℕ} {was is : Links} → Linking pc first count was is (k - first) → first ≤ k → k < first + count
-    → Linking pc first count was (links (set is.heads k (is.used + 1)) (set is.entries is.used (record { pc = pc; next = get_or is.heads k 0 })) (is.used + 1)) (k + 1 - first)
+pub linking_more : {pc first count i : ℕ} {was is : Links} → Linking pc first count was is i → i < count
+    → let k = first + i in Linking pc first count was (links (set is.heads k (is.used + 1)) (set is.entries is.used (record { pc = pc; next = get_or is.heads k 0 })) (is.used + 1)) (i + 1)
 unfolding link_each link
-linking_more {pc} {first} {k = k} l h m =
-    let e : k + 1 - first ≡ suc (k - first) = omega arith in
-    let at : first + (k - first) ≡ k = omega arith in
+linking_more {pc} {first} {i = i} l m =
+    let e : i + 1 ≡ suc i = omega arith in
     rw e (record {
       within = omega arith;
       top_is = omega (arith, l.top_is);
       entries_long = simp length-set l.entries_long;
-      are = rw at (ap (link pc k) l.are);
+      are = ap (link pc (first + i)) l.are;
     })
 
 -- the same of chains, in the same memory

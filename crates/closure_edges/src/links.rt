@@ -16,6 +16,7 @@ impl<'a> Chains<'a> {
         ensures same_links { result.links.ghost_name ≡ links.entry.ghost_name }
     {
         clear(heads);
+        let sheet = *sheet;
         let mut chains = Chains {
             heads,
             links,
@@ -40,7 +41,8 @@ impl<'a> Chains<'a> {
         ensures same_heads { self.new.heads.ghost_name ≡ self.old.heads.ghost_name }
         ensures same_links { self.new.links.ghost_name ≡ self.old.links.ghost_name }
     {
-        for k in buckets.first..buckets.first + buckets.count {
+        for i in 0..buckets.count {
+            let k = buckets.first + i;
             self.links[self.used] = Link {
                 pc: pc as u16,
                 next: self.heads[k],

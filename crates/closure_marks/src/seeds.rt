@@ -82,6 +82,7 @@ pub fn seed_slots(which: AnalysisKind, sheet: &Sheet, marked: &mut SlotMarks)
     ensures steps { Steps (mark_seeds which sheet.now.bytes.now (code_count sheet.now.bytes.now)) marked.old marked.new }
     ensures stored { held marked.new ≡ store_seeds which sheet.now.bytes.now (code_count sheet.now.bytes.now) (held marked.old) }
 {
+    let sheet = *sheet;
     for pc in 0..sheet.sizes.code_count {
         let seeds = seed_fields(which, sheet.instruction(pc));
         marked.mark_all(seeds);
