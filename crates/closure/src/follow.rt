@@ -33,7 +33,7 @@ fn dependency_bit(which: AnalysisKind) -> u8
 
 // The sources below l, in order: the first, and with fold the second. The flag stands beside its source, as in `Dependence`: an Option would be made
 // for this one call, and taken apart in it. (One match on both tests is no jump for each test but a choice of values, in the loop of a closure: with
-// thousands of CopyN that have no edges it took 1.7 times as long.)
+// thousands of CopyN that have no edges it took up to 1.7 times as long.)
 fn sources_below(l: usize, first: usize, fold: bool, second: usize) -> Candidates
     ensures { slots_in result ≡ only_if (nat_lt first l) first ++ only_if (fold && nat_lt second l) second }
 {
