@@ -29,10 +29,12 @@ pub fn first_ranges(sheet: &Sheet, out: &mut [u16])
     sums_before(sheet.sizes.code_count, |pc| sheet.ranges_of(pc), out);
 }
 
-// Where the slot kinds of each layout begin among the q.
+// Where the slot kinds of each layout begin among the q. The loop goes over a copy of the struct: it would read a lent one anew for each layout,
+// since what it writes might lie there.
 pub fn layout_starts(sheet: &Sheet, out: &mut [u16])
     requires { Accepted sheet.now.bytes.now sheet.now.sizes × (sheet.now.sizes.layout_count ≤ length out.old) }
     ensures { out.new ≡ layout_starts sheet.now.bytes.now out.old }
 {
+    let sheet = *sheet;
     sums_before(sheet.sizes.layout_count, |i| sheet.layout_length(i), out);
 }
