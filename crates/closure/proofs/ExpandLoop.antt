@@ -34,6 +34,7 @@ use Rattle.closure_marks.specs.declared.mark.SlotMarks.{SlotMarks}
 use Rattle.closure.specs.Sources.{Follows}
 use Rattle.closure.specs.Taking.{Standing, top_edges, top_taken, Takes}
 use Rattle.closure.specs.Expanded.{MarksZero, ExpandEnsures}
+use Rattle.closure.proofs.FollowEdges.{empty_of}
 
 -- ---- what is on the stack is below L
 
@@ -253,13 +254,9 @@ module _ (which : AnalysisKind) (sheet : List ℕ) where
       pub expanding_refused : NotCovered outcome → Stopped (whole budget) outcome
       expanding_refused h = rw charged (stopped_then (spent_stopped outcome refl h) _)
 
-  nothing : (stack : List ℕ) → length stack ≡ 0 → stack ≡ []
-  nothing [] e = refl
-  nothing (d ∷ ds) e = let never : ⊥ = omega arith in absurd never
-
   module _ {budget left : VerifierResources} {room : ℕ} {marks stack : List ℕ} {top : ℕ} (x : Expanding budget room marks stack top left) (none : top ≤ 0) where
     empty : x.m.stack ≡ []
-    empty = nothing x.m.stack (omega (arith, x.lies.top_is))
+    empty = empty_of x.m.stack (omega (arith, x.lies.top_is))
 
     pub expanding_done : whole budget ≡ ok x.m left
     unfolding expand take_slot give

@@ -106,6 +106,10 @@ outside_reach inst {count} {past} r l d e fits small h = span_misses l d inst (g
 
 -- ---- following
 
+pub empty_of : {X : Type 0} (xs : List X) → length xs ≡ 0 → xs ≡ []
+empty_of [] e = refl
+empty_of (x ∷ xs) e = let never : ⊥ = omega arith in absurd never
+
 module _ (bit : ℕ) where
   follow_append : (xs ys : List FactDependency) (m : Marked) → follow bit (xs ++ ys) m ≡ follow bit ys (follow bit xs m)
   unfolding follow
@@ -134,6 +138,9 @@ module _ (bit : ℕ) where
     counted_all : count ≡ length es
     unfolding edges_in
     counted_all = omega (arith, many, length_from d e.kinds (slots_in e.sources), ap length is)
+
+    pub followed_zero : {old : SlotMarks} → count ≡ 0 → Follows bit es old old 0
+    followed_zero h = followed_nothing (empty_of es (omega (arith, counted_all, h)))
 
     pub followed_none : {old : SlotMarks} → bit_and e.kinds bit ≡ 0 → Follows bit es old old count
     unfolding edges_in

@@ -94,6 +94,11 @@ fn follow_instruction(inst: Instruction, bit: u8, l: usize, d: usize, marked: &m
     let edges = edges_to(inst, l, d);
     let sources = edges.sources;
     let count = sources.count();
+    // Where no edge leads to d, nothing below changes anything. It ends here all the same: sources and mask would be carried on, and thousands of CopyN
+    // that have no edges took 1.3 times as long.
+    if count == 0 {
+        return 0;
+    }
     if edges.kinds & bit == 0 {
         return count;
     }
