@@ -1,7 +1,7 @@
 -- Marks and stack, as they lie in lent memory: one slot is marked, or several.
 -- Assumes nothing.
 use mathlib.Core.Path.{◌≡◌, refl, sym, ap, ◌∙◌}
-use mathlib.Core.Bool.{Bool, true, false, cond}
+use mathlib.Core.Bool.{true, false, cond}
 use mathlib.Core.List.{List, [], ◌∷◌}
 use Prim.Native.Nat.{ℕ, suc, ◌+◌, ◌≤◌, ◌<◌}
 use native.Mathlib.Omega.{arith}
@@ -16,23 +16,13 @@ use Rattle.model.specs.CallDemand.{marking}
 use Rattle.finality.proofs.Marks.{free, same_below, stack_room}
 use Rattle.finality.proofs.Cells.{stacked_push}
 use Rattle.closure_marks.specs.Room.{unmarked_count, Room}
-use Rattle.closure_marks.specs.Marks.{MarkedLies, Goes, Steps, mark_all, Held, stored_if, store, store_all}
+use Rattle.closure_marks.specs.Marks.{MarkedLies, Goes, Steps, mark_all, Held, stored_if, store}
 use Rattle.closure_marks.specs.declared.mark.SlotMarks.{SlotMarks}
 
--- ---- the slots without a mark
-
-free_more : (mark : ℕ) (marks : List ℕ) → free (mark ∷ marks) ≡ cond (eqb mark 0) (1 + free marks) (free marks)
-unfolding free
-free_more mark marks = go (eqb mark 0) refl
-  where
-    go : (b : Bool) → eqb mark 0 ≡ b → free (mark ∷ marks) ≡ cond b (1 + free marks) (free marks)
-    go true e = rw e refl
-    go false e = rw e (omega arith)
-
--- they are as many as finality's laws have, so what those say of `free` says whether there is room
+-- The slots without a mark are as many as finality's laws have, so what those say of `free` says whether there is room.
 pub free_counted : (marks : List ℕ) → free marks ≡ unmarked_count marks
 unfolding free
-free_counted = is_count_by free (λ (mark : ℕ). eqb mark 0) refl free_more
+free_counted = is_count_by free (λ (mark : ℕ). eqb mark 0) refl (λ mark marks. grind arith)
 
 -- ---- one slot
 
